@@ -1,7 +1,5 @@
 //! Rows of Aborts, in the form that `tables` and `payment_lines` say: which are rejected, what is stopped, and the late Ack or Nack of a stop.
-use crate::tables::check_rows;
-use std::alloc::Global;
-use std::process::Abort;
+use crate::tables::check_after;
 use std::test::Fail;
 
 /// The terminal is ready, at 2025-03-07T10:11:04Z.
@@ -48,20 +46,6 @@ pt 0 040f102700040000000010990b000123870017060f00
 > pt 0 out 800000
 > approved 1 0 123 17 1099
 > result 1 1 Success 000123-0017-0 10.99";
-
-/// Plays the rows of a table after these beginnings.
-fn check_after(
-    rt: &impl Abort,
-    alloc: Global,
-    beginnings: &[&str],
-    table: &str,
-) -> Result<(), Fail> {
-    let mut beginning = String::new(alloc);
-    for part in beginnings {
-        beginning.push_str(part)?;
-    }
-    check_rows(rt, alloc, &beginning, table)
-}
 
 /// Aborts while the terminal is ready, of keys that there are not.
 const REJECTS: &str = r#"# A body outside the table.

@@ -4,7 +4,15 @@
 #[cfg(test)]
 mod abort_tests;
 #[cfg(test)]
+mod device_request_tests;
+#[cfg(test)]
 mod dialogue_tests;
+#[cfg(test)]
+mod display_lines;
+#[cfg(test)]
+mod display_tests;
+#[cfg(test)]
+mod end_of_day_tests;
 #[cfg(test)]
 mod message_tests;
 #[cfg(test)]
@@ -14,6 +22,8 @@ mod payment_lines;
 #[cfg(test)]
 mod payment_tests;
 #[cfg(test)]
+mod reconciliation_tests;
+#[cfg(test)]
 mod recovery_tests;
 #[cfg(test)]
 mod replay;
@@ -21,6 +31,8 @@ mod replay;
 mod reversal_tests;
 #[cfg(test)]
 mod script_tests;
+#[cfg(test)]
+mod session_tests;
 #[cfg(test)]
 mod tables;
 #[cfg(test)]

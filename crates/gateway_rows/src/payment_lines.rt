@@ -1,18 +1,26 @@
-//! Lines of payments, reversals and aborts, in the tables of rows: what a till asks, which records are kept, and what the till gets.
+//! Lines of payments, reversals, reconciliations and aborts, in the tables of rows: what a till asks, which records are kept, and what the
+//! till gets.
 //!
 //! They are those of till S1 at terminal T1, in euros, at 2025-03-07T10:11:04Z. A ServiceID and a slot are one digit.
 //! - `pay TILL SERVICE AMOUNT` is a payment, `reverse TILL SERVICE TRANSACTION` the reversal of what has this TransactionID, and
-//!   `reverse_amount TILL SERVICE TRANSACTION AMOUNT` the same of this amount; `status TILL SERVICE REFERENCE` asks what became of one;
+//!   `reverse_amount TILL SERVICE TRANSACTION AMOUNT` the same of this amount; `reconcile TILL SERVICE TYPE` is a reconciliation of this
+//!   type; `status TILL SERVICE REFERENCE` asks what became of one;
 //! - `abort TILL SERVICE REFERENCE` is an Abort, and `> rejected TILL DETAILS` the event that rejects it;
 //! - `> intent SLOT SERVICE AMOUNT BEFORE` keeps its Intent: the amount is in minor units, and BEFORE is the trace number before;
 //! - `> reversal SLOT SERVICE AMOUNT BEFORE ORIGINAL` keeps the Intent of a reversal, where ORIGINAL is the slot of the payment's Intent;
 //! - `> approved SLOT OF TRACE RECEIPT AMOUNT` and `> declined SLOT OF REASON` keep its Outcome, where OF is the slot of the Intent;
+//! - `> settled SLOT HOW SERVICE` keeps the Settled of a reconciliation, where HOW is 1 for one of the till's own and 2 for an end of day;
 //! - `> first ..` before the words of such a line is the first write for it alone;
 //! - `> result TILL SERVICE RESULT TRANSACTION AMOUNT` is the reply to a payment once it has ended, and `> reversed ..` with the same
 //!   words that to a reversal: RESULT is `Success`, `Partial` or the condition of a failure, which has no amount;
-//! - `> repeats TILL SERVICE REFERENCE RESULT TRANSACTION AMOUNT` and `> repeats_reversed ..` are the reply to `status` that repeats it;
+//! - `> totals TILL SERVICE TYPE COUNT AMOUNT COUNT AMOUNT` is the reply to a reconciliation: the payments, and then the reversals;
+//! - `> repeats TILL SERVICE REFERENCE RESULT TRANSACTION AMOUNT`, `> repeats_reversed ..` and `> repeats_totals ..` are the reply to `status`
+//!   that repeats it;
 //! - `> fails CATEGORY TILL SERVICE CONDITION` is any other failure.
-use crate::tables::{halves, push_form};
+//!
+//! `display_lines` has those of displays and device requests.
+use crate::display_lines::push_displayed;
+use crate::tables::{halves, push_form, push_times};
 use std::alloc::{AllocError, Global};
 use std::test::Fail;
 
@@ -35,6 +43,12 @@ const REVERSAL_OF_AMOUNT: &str =
     \"MessageType\":\"Request\",\"ServiceID\":\"%\",\"SaleID\":\"S1\",\"POIID\":\"T1\"},\"ReversalRequest\":\
     {\"OriginalPOITransaction\":{\"POITransactionID\":{\"TransactionID\":\"%\"}},\"ReversalReason\":\"MerchantCancel\",\
     \"ReversedAmount\":%}}}\n";
+
+/// A reconciliation: its ServiceID and its type.
+const RECONCILIATION: &str =
+    "{\"SaleToPOIRequest\":{\"MessageHeader\":{\"ProtocolVersion\":\"3.0\",\"MessageClass\":\"Service\",\"MessageCategory\":\"Reconciliation\",\
+    \"MessageType\":\"Request\",\"ServiceID\":\"%\",\"SaleID\":\"S1\",\"POIID\":\"T1\"},\"ReconciliationRequest\":\
+    {\"ReconciliationType\":\"%\"}}}\n";
 
 /// An Abort: its ServiceID, and that of the request that it is to stop.
 const ABORT: &str =
@@ -81,6 +95,12 @@ const NOT_REVERSED: &str =
     "{\"Response\":{\"Result\":\"Failure\",\"ErrorCondition\":\"%\"},\"POIData\":{\"POITransactionID\":\
     {\"TransactionID\":\"%\",\"TimeStamp\":\"2025-03-07T10:11:04Z\"}}}";
 
+/// A reconciliation: its type, and the counts and amounts of payments and of reversals.
+const RECONCILED: &str =
+    "{\"Response\":{\"Result\":\"Success\"},\"ReconciliationType\":\"%\",\"TransactionTotals\":[{\"PaymentInstrumentType\":\"Card\",\
+    \"PaymentCurrency\":\"EUR\",\"PaymentTotals\":[{\"TransactionType\":\"Debit\",\"TransactionCount\":%,\"TransactionAmount\":%},\
+    {\"TransactionType\":\"ReverseDebit\",\"TransactionCount\":%,\"TransactionAmount\":%}]}]}";
+
 /// The fields of the Intent of a payment and the gate after it, in hexadecimal and with their sizes: the digit of its ServiceID, its amount, and
 /// the trace number before. Zeros come after a field, and before one that begins with `<`.
 const INTENT: &str =
@@ -97,6 +117,9 @@ const APPROVAL: &str = "0201 2;<% 4;<% 3;<% 2;<% 6; 1;0000000067cac638 8; 230";
 /// The same of one that declines: the slot of its Intent, and the reason.
 const DECLINE: &str = "0202 2;<% 4; 11;<% 1;0000000067cac638 8; 230";
 
+/// The same of a Settled: the digit of its kind, and that of its ServiceID.
+const SETTLED: &str = "030% 2;025331 41;025431 41;013% 11;0978 2;0000000067cac638 8; 151";
+
 /// Appends a form, in which these words take the places of its `%`.
 fn push_words(text: &mut String, form: &str, words: &str) -> Result<(), AllocError> {
     let mut words = words.split(' ');
@@ -111,26 +134,18 @@ fn push_words(text: &mut String, form: &str, words: &str) -> Result<(), AllocErr
     Ok(())
 }
 
-/// Appends so many zeros.
-fn push_zeros(text: &mut String, count: usize) -> Result<(), AllocError> {
-    for _ in 0..count {
-        text.push('0')?;
-    }
-    Ok(())
-}
-
 /// Appends a field: its digits, and zeros up to its size in bytes.
 fn push_field(text: &mut String, field: &str) -> Result<(), Fail> {
     let (digits, size) = halves(field);
     let count = size.parse::<usize>()?.saturating_mul(2);
     match digits.strip_prefix("<") {
         Some(last) => {
-            push_zeros(text, count.saturating_sub(last.len()))?;
+            push_times(text, count.saturating_sub(last.len()), "0")?;
             text.push_str(last)?;
         }
         None => {
             text.push_str(digits)?;
-            push_zeros(text, count.saturating_sub(digits.len()))?;
+            push_times(text, count.saturating_sub(digits.len()), "0")?;
         }
     }
     Ok(())
@@ -175,6 +190,7 @@ fn push_first(alloc: Global, log: &mut String, word: &str, record: &str) -> Resu
         "intent" => push_body(alloc, log, body, INTENT, words),
         "reversal" => push_body(alloc, log, body, REVERSAL_INTENT, words),
         "approved" => push_body(alloc, log, body, APPROVAL, words),
+        "settled" => push_body(alloc, log, body, SETTLED, words),
         _ => push_body(alloc, log, body, DECLINE, words),
     }
 }
@@ -206,6 +222,7 @@ fn form_of_end(category: &str, word: &str) -> &'static str {
     match category {
         "Reversal" if is_done => REVERSED,
         "Reversal" => NOT_REVERSED,
+        "Reconciliation" => RECONCILED,
         _ if is_done => APPROVED,
         _ => DECLINED,
     }
@@ -262,18 +279,20 @@ fn push_rejected(log: &mut String, event: &str) -> Result<(), AllocError> {
     push_form(log, REJECTED, &[till, details])
 }
 
-/// Appends the message of a line that asks for a payment, a reversal, an Abort or what became of one, without the line's till.
+/// Appends the message of a line that asks for a payment, a reversal, a reconciliation, an Abort or what became of one, without the line's
+/// till.
 pub(crate) fn push_asked(text: &mut String, word: &str, words: &str) -> Result<(), AllocError> {
     match word {
         "pay" => push_words(text, PAYMENT, words),
         "reverse" => push_words(text, REVERSAL, words),
         "reverse_amount" => push_words(text, REVERSAL_OF_AMOUNT, words),
+        "reconcile" => push_words(text, RECONCILIATION, words),
         "abort" => push_words(text, ABORT, words),
         _ => push_words(text, STATUS, words),
     }
 }
 
-/// Appends a line of the log as its word says, and as it is where it has none of these words.
+/// Appends a line of the log as its word says.
 pub(crate) fn push_paid(alloc: Global, log: &mut String, line: &str) -> Result<(), Fail> {
     let (word, rest) = halves(line);
     match word {
@@ -281,14 +300,18 @@ pub(crate) fn push_paid(alloc: Global, log: &mut String, line: &str) -> Result<(
             let (record_word, record) = halves(rest);
             push_first(alloc, log, record_word, record)?;
         }
-        "intent" | "reversal" | "approved" | "declined" => push_kept(alloc, log, word, rest)?,
+        "intent" | "reversal" | "approved" | "declined" | "settled" => {
+            push_kept(alloc, log, word, rest)?;
+        }
         "result" => push_ended(log, "Payment", rest)?,
         "reversed" => push_ended(log, "Reversal", rest)?,
+        "totals" => push_ended(log, "Reconciliation", rest)?,
         "repeats" => push_repeated(log, "Payment", rest)?,
         "repeats_reversed" => push_repeated(log, "Reversal", rest)?,
+        "repeats_totals" => push_repeated(log, "Reconciliation", rest)?,
         "rejected" => push_rejected(log, rest)?,
         "fails" => push_failure(log, rest)?,
-        _ => push_form(log, "%\n", &[line])?,
+        _ => push_displayed(log, line)?,
     }
     Ok(())
 }

@@ -355,6 +355,7 @@ pt 0 800000061e0105
 pt 0 800000040f02278304ff010a060f00
 > pt 0 out 800000
 > pt 0 out 800000
+> shows 1 2 0 0A
 > pt 0 out 800000
 > declined 3 2 6
 > reversed 1 2 UnavailableService 000000-0000-2
@@ -436,14 +437,17 @@ at 1741342448
 tick
 > pt 0 cut
 
-# What is to be shown or printed is acknowledged, and the till gets nothing of it.
+# What is to be shown or printed is acknowledged, and is shown or printed at its till; it changes nothing of the reversal.
 pt 0 800000
 pt 0 04ff010a
 > pt 0 out 800000
-pt 0 06d1030084ff
+> shows 1 2 0 0A
+pt 0 06d1020041
 > pt 0 out 800000
+> prints 1 2 1 [{\"Text\":\"A\"}]
 pt 0 06d30706052503070141
 > pt 0 out 800000
+> prints 1 2 2 [{\"Text\":\"A\"}]
 pt 0 061e01b4
 > pt 0 out 800000
 > declined 3 2 7

@@ -4,11 +4,13 @@
 //! and its event besides. The others are the script's; one after `~ ` brings no event. Messages between till S1 and
 //! terminal T1 have lines of their own:
 //! - `ask CATEGORY BODY` is a request of the till, and `> reply CLASS CATEGORY BODY` what it gets;
+//! - `chunk TILL LINE & LINE` is more than one request of a till that come at once, and have the lines of requests;
 //! - `diagnosis` asks for the state of the terminal, and gets `> state STATE`;
 //! - `> reject SALE POI DETAILS` is the event that rejects a message;
 //! - `> start` is a start, and the opening of the journal on no file, and `> restart` the same on one with records.
 //!
-//! `payment_lines` has those of payments, reversals and aborts.
+//! `payment_lines` has those of payments, reversals, reconciliations and aborts, and `display_lines` those of displays and device requests.
+use crate::display_lines::push_display;
 use crate::payment_lines::{push_asked, push_paid};
 use crate::replay::check;
 use std::alloc::{AllocError, Global};
@@ -53,6 +55,14 @@ pub(crate) fn push_form(text: &mut String, form: &str, values: &[&str]) -> Resul
     Ok(())
 }
 
+/// Appends a text so many times.
+pub(crate) fn push_times(text: &mut String, count: usize, part: &str) -> Result<(), AllocError> {
+    for _ in 0..count {
+        text.push_str(part)?;
+    }
+    Ok(())
+}
+
 /// Appends a request, of which the category and the body are given.
 fn push_request(text: &mut String, request: &str) -> Result<(), AllocError> {
     let (category, body) = halves(request);
@@ -65,7 +75,9 @@ fn asking_till(line: &str) -> Option<&str> {
     let (first, _) = halves(rest);
     match word {
         "ask" => Some("1"),
-        "pay" | "reverse" | "reverse_amount" | "abort" | "status" => Some(first),
+        "pay" | "reverse" | "reverse_amount" | "reconcile" | "abort" | "status" | "display" => {
+            Some(first)
+        }
         _ => None,
     }
 }
@@ -76,6 +88,7 @@ fn push_message(text: &mut String, line: &str) -> Result<(), AllocError> {
     let (_, words) = halves(rest);
     match word {
         "ask" => push_request(text, rest),
+        "display" => push_display(text, words),
         _ => push_asked(text, word, words),
     }
 }
@@ -124,6 +137,27 @@ fn push_logged(alloc: Global, log: &mut String, line: &str) -> Result<(), Fail> 
     Ok(())
 }
 
+/// Appends the frame of the request that this line is, in hexadecimal.
+fn push_frame(alloc: Global, text: &mut String, line: &str) -> Result<(), Fail> {
+    let mut message = String::new(alloc);
+    push_message(&mut message, line)?;
+    let payload = message.trim_end();
+    write!(text, "{:08x}", payload.len())?;
+    text.push_str(&hex::encode(alloc, payload.as_bytes())?)?;
+    Ok(())
+}
+
+/// The line of the script that brings requests in one chunk: the till, and the lines that they are.
+fn chunk_line(alloc: Global, chunk: &str) -> Result<String, Fail> {
+    let (till, lines) = halves(chunk);
+    let mut played = String::new(alloc);
+    push_form(&mut played, "till % ", &[till])?;
+    for line in lines.split(" & ") {
+        push_frame(alloc, &mut played, line)?;
+    }
+    Ok(played)
+}
+
 /// Appends a line of a row to the script or to the log; one that sets the moment changes it.
 fn push_line(
     alloc: Global,
@@ -138,6 +172,12 @@ fn push_line(
     if let Some(moment) = line.strip_prefix("at ") {
         now.clear();
         now.push_str(moment)?;
+    }
+    if let Some(chunk) = line.strip_prefix("chunk ") {
+        let played = chunk_line(alloc, chunk)?;
+        push_played(script, &played)?;
+        push_event(log, now, &played)?;
+        return Ok(());
     }
     let played = if line == "diagnosis" {
         "ask Diagnosis {}"
@@ -204,4 +244,18 @@ pub(crate) fn check_rows(
         check_row(rt, alloc, beginning, row)?;
     }
     Ok(())
+}
+
+/// Plays the rows of a table after these beginnings.
+pub(crate) fn check_after(
+    rt: &impl Abort,
+    alloc: Global,
+    beginnings: &[&str],
+    table: &str,
+) -> Result<(), Fail> {
+    let mut beginning = String::new(alloc);
+    for part in beginnings {
+        beginning.push_str(part)?;
+    }
+    check_rows(rt, alloc, &beginning, table)
 }

@@ -3,7 +3,7 @@ use Rattle.std.proofs.Common.{◌≡◌, ◌∙◌, ℕ, Bool, true, false, List
 use Rattle.std.proofs.lemmas.Bool.{and_from, and_parts, false_from_ne_true, not_from_false}
 use Rattle.std.proofs.lemmas.List.Elements.{All-from_recursion}
 use Rattle.std.proofs.lemmas.Option.{same_Some}
-use Rattle.std.specs.Prelude.{◌==◌, nat_lt, nat_le, ◌&&◌, ◌||◌, not, if◌then◌else◌, is_some, bytes_eq, codes, All, Option, Some, None, option_to_list, option_and_then}
+use Rattle.std.specs.Prelude.{◌==◌, nat_lt, nat_le, ◌&&◌, ◌||◌, not, if◌then◌else◌, is_some, bytes_eq, codes, All, Some, option_to_list, option_and_then}
 use Rattle.std.specs.List.{AllByRecursion, list_any, list_all}
 use Rattle.gw_base.specs.Transaction.{transaction_text}
 use Rattle.gw_base.specs.declared.key.Key.{Key}
@@ -14,15 +14,15 @@ use Rattle.jrn_record.specs.declared.records.Deal.TheVariants.{Payment, Reversal
 use Rattle.jrn_record.specs.declared.records.Intent.{Intent as TheIntent}
 use Rattle.jrn_record.specs.declared.records.Record.{Record}
 use Rattle.gw_ledger.specs.Fold.{AreFolded}
-use Rattle.gw_ledger.specs.Keys.{intent_key, is_key, same_key, slot_of}
-use Rattle.gw_ledger.specs.Slots.{asks_payment, intent_at, is_open}
+use Rattle.gw_ledger.specs.Keys.{intent_key, is_key, slot_of}
+use Rattle.gw_ledger.specs.Slots.{asks_payment, intent_at}
 use Rattle.xlate.specs.Reply.{deal_category}
 use Rattle.gw_owes.proofs.RecordLemmas.{LedgerLaws, intent-stays}
 use Rattle.gw_books.specs.Past.{SentCommand, SentReply, Past}
 use Rattle.gw_books.specs.Books.{BookedEntry, is_cause, is_caused, is_caused_by, have_one_cause, comes_before, is_ordered}
 use Rattle.gw_books.specs.Said.{Said, all_said, IsFramed}
-use Rattle.gw_books.specs.Agrees.{EachSaid, entry_key, key_at_place, key_meant, is_transaction, is_success, fails_with, is_approved_entry, is_entry_said, is_of_category, is_unresolved, names_entry, success_agrees, refusal_agrees, unaccepted_agrees, not_found_agrees, in_progress_agrees}
-use Rattle.gw_books.proofs.Holding.{AreFalling, AreKeyed, BearsOut, HasApprovedEntry, HoldsAgrees, IsApprovalTrue, IsDeclineTrue, IsFirstOf, IsSaidTrue, IsSentTrue, SaysSuccess, sent_with}
+use Rattle.gw_books.specs.Agrees.{EachSaid, entry_key, key_at_place, is_transaction, is_success, is_approved_entry, is_entry_said, is_of_category, names_entry, success_agrees, refusal_agrees, unaccepted_agrees, not_found_agrees, in_progress_agrees}
+use Rattle.gw_books.proofs.Holding.{AreFalling, AreKeyed, BearsOut, HasApprovedEntry, HoldsAgrees, IsApprovalTrue, IsDeclineTrue, IsFirstOf, IsSaidTrue, IsSentTrue, SaysSuccess}
 use Rattle.gw_books.proofs.KeyedLemmas.{AreApart, apart-distinct, caused-for, is-key-is, is-key-itself, key-sent, sent-below, sent-same}
 use Rattle.gw_books.proofs.RecordMoreLemmas.{own-slot}
 use Rattle.gw_books.proofs.ListLemmas.{In, all-in, all-from, any-in, any-from, none-from, bytes-are, bytes-itself}
@@ -141,7 +141,7 @@ all-of {A} P list each = All-from_recursion P list (by-recursion list each)
     by-recursion (x ∷ list) each = (each x (inl refl), by-recursion list (λ y within. each y (inr within)))
 
 each-said : (agrees : Past → List BookedEntry → SentReply → Said → Bool) (past : Past) (book : List BookedEntry)
-    → ((reply : SentReply) → In reply past.replies → IsSentTrue past.commands book reply → (said : Said) → IsSaidTrue reply.kept reply.occasion said → agrees past book reply said ≡ true)
+    → ((reply : SentReply) → In reply past.replies → IsSentTrue past.commands book reply → (said : Said) → IsSaidTrue reply.kept reply.waiting reply.occasion said → agrees past book reply said ≡ true)
     → ((reply : SentReply) → In reply past.replies → IsSentTrue past.commands book reply) → EachSaid agrees past book
 each-said agrees past book each true-replies =
     all-of (λ (reply : SentReply). (message : Tree) → IsFramed reply.bytes message → list_all (agrees past book reply) (all_said message) ≡ true) past.replies (λ reply within message framed.
@@ -188,7 +188,7 @@ entry-said past book reply said falling command sent says key has kind =
     (and_from (names_entry reply.kept said.key said.transaction entry) (bytes_eq said.amount (money_text entry.amount)) names amount)))
 
 success-said : LedgerLaws → (kept : List Record) → AreFolded kept → (past : Past) (book : List BookedEntry) → AreKeyed kept past.place past.commands
-    → list_all (λ (entry : BookedEntry). is_caused past entry entry.cause) book ≡ true → ((reply : SentReply) → In reply past.replies → IsFirstOf reply.kept kept) → (reply : SentReply) → In reply past.replies → IsSentTrue past.commands book reply → (said : Said) → IsSaidTrue reply.kept reply.occasion said → success_agrees past book reply said ≡ true
+    → list_all (λ (entry : BookedEntry). is_caused past entry entry.cause) book ≡ true → ((reply : SentReply) → In reply past.replies → IsFirstOf reply.kept kept) → (reply : SentReply) → In reply past.replies → IsSentTrue past.commands book reply → (said : Said) → IsSaidTrue reply.kept reply.waiting reply.occasion said → success_agrees past book reply said ≡ true
 success-said laws kept folded past book keyed caused replied reply within sent said truth =
     unless (is_transaction said && is_success said) (list_any (is_entry_said past reply said) book) (λ t.
     let says = truth.success t in
@@ -218,33 +218,13 @@ none-approved past book key none =
     not_from_false (list_any (is_approved_entry past key) book)
     (none-from (is_approved_entry past key) book (λ entry within. false_from_ne_true (is_approved_entry past key entry) (not-approved past book key none entry within)))
 
-refusal-said : (past : Past) (book : List BookedEntry) → (reply : SentReply) → In reply past.replies → IsSentTrue past.commands book reply → (said : Said) → IsSaidTrue reply.kept reply.occasion said → refusal_agrees past book reply said ≡ true
+refusal-said : (past : Past) (book : List BookedEntry) → (reply : SentReply) → In reply past.replies → IsSentTrue past.commands book reply → (said : Said) → IsSaidTrue reply.kept reply.waiting reply.occasion said → refusal_agrees past book reply said ≡ true
 refusal-said past book reply within sent said truth =
     unless (is_transaction said && (not (is_success said) && said.has_poi_data)) (not (list_any (is_approved_entry past said.key) book)) (λ t.
     let says = truth.refusal t in
     let none : IsDeclineTrue past.commands book (intent_key says.intent) =
     subst (λ b. BearsOut b past.commands book reply.place (intent_key says.intent) says.outcome) says.approved_is (sent.outcomes says.at says.outcome says.intent says.found says.intent_is) in
     none-approved past book said.key (subst (IsDeclineTrue past.commands book) (sym says.key_is) none))
-
--- ---- what is in progress
-
--- what is unresolved where none waits is so whatever waits
-unresolved-more : (reply : SentReply) (key : Option Key)
-    → list_any (is_unresolved (sent_with reply.kept reply.occasion)) (option_to_list key) ≡ true → list_any (is_unresolved reply) (option_to_list key) ≡ true
-unresolved-more reply None e = e
-unresolved-more reply (Some key) e = by (list_any (is_open reply.kept) (option_to_list (slot_of reply.kept key))) e
-  where
-    by : (b : Bool) → ((b || false) || false) ≡ true → ((b || list_any (same_key key) reply.waiting) || false) ≡ true
-    by true f = refl
-    by false f = cc
-
-progress-said : (past : Past) (book : List BookedEntry) (reply : SentReply) (said : Said) → IsSaidTrue reply.kept reply.occasion said → in_progress_agrees past book reply said ≡ true
-progress-said past book reply said truth = by (fails_with (codes "InProgress") said) truth.in_progress
-  where
-    by : (b : Bool) → (not b || list_any (is_unresolved (sent_with reply.kept reply.occasion)) (option_to_list (key_meant reply.kept said.key reply.occasion))) ≡ true
-        → (not b || list_any (is_unresolved reply) (option_to_list (key_meant reply.kept said.key reply.occasion))) ≡ true
-    by true e = unresolved-more reply (key_meant reply.kept said.key reply.occasion) e
-    by false e = refl
 
 -- ---- agreement
 
@@ -257,7 +237,7 @@ holds-agrees laws v past book folded holds honest = record {
   refusal = each-said refusal_agrees past book (refusal-said past book) holds.replies;
   unaccepted = each-said unaccepted_agrees past book (λ reply within sent said truth. truth.unaccepted) holds.replies;
   not_found = each-said not_found_agrees past book (λ reply within sent said truth. truth.not_found) holds.replies;
-  in_progress = each-said in_progress_agrees past book (λ reply within sent said truth. progress-said past book reply said truth) holds.replies;
+  in_progress = each-said in_progress_agrees past book (λ reply within sent said truth. truth.in_progress) holds.replies;
   resolved = holds.polls;
   inside = holds.deeds;
 }

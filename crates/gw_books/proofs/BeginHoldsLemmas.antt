@@ -46,6 +46,7 @@ use Rattle.gw_books.specs.Past.{Occasion, OfRequest, OfMessage, OfNothing, MadeL
 use Rattle.gw_books.specs.Books.{BookedEntry, Honest}
 use Rattle.gw_books.specs.Agrees.{is_report, is_report_on, report_resolves, is_resolved_on}
 use Rattle.gw_books.proofs.ListLemmas.{In, in-either}
+use Rattle.gw_books.proofs.HandledLemmas.{IsItemHandled}
 use Rattle.gw_books.proofs.Holding.{AreOutcomesTrue, AreCallsSound, is_handle, charge_owed, IsServingSound, IsResolvedOn, IsLinkSound, IsLinkAtRest, Holds, HoldsBetween, HoldsAfterRow, begun_past, ReadHolds}
 use Rattle.gw_books.proofs.Numbering.{AreLinkedBeforeHearing, BeginHolds, Numbered, NumberedBetween, RowHolds}
 use Rattle.gw_books.proofs.QuietRowLemmas.{asked-ends-none}
@@ -188,7 +189,7 @@ between-holds log v past book o b h k =
       outcomes = subst (AreOutcomesTrue past.commands book past.place) coming h.outcomes;
       serving = λ number terminal found.
           subst (λ l. IsServingSound l past.commands terminal.pt.poi terminal.standing) coming (h.serving clear number terminal found (ap (charge_owed number) b.idle.calls) (ap (cut_owed number) b.idle.calls));
-      transactions = h.transactions;
+      repliable = h.repliable;
       dialogues = λ number terminal found. h.dialogues clear number terminal found (ap (cut_owed number) b.idle.calls);
       links = λ link lasts. at_rest coming link (h.links clear link lasts);
     }
@@ -231,7 +232,7 @@ row-holds log v past book item rest row o b h k e is r =
       calls = subst (λ l. AreCallsSound l row.core past.commands (occasion_of item) row.calls) (sym coming) r.calls;
       serving = λ runs number terminal found no_charge no_cut.
           subst (λ l. IsServingSound l past.commands terminal.pt.poi terminal.standing) (sym coming) (r.serving number terminal found no_charge no_cut);
-      transactions = r.transactions;
+      repliable = r.repliable;
       dialogues = λ runs number terminal found no_cut.
           row-dialogues v.scene.outside.tills (known_in v.scene k.setup) item (λ one before there. h.dialogues clear one before there (ap (cut_owed one) b.idle.calls)) number terminal
           (ap (λ (row : Row). slice_get row.core.terminals number) is ∙ found) (ap (λ (row : Row). cut_owed number row.calls) is ∙ no_cut);
@@ -256,8 +257,8 @@ row-holds log v past book item rest row o b h k e is r =
     handles_later false later = later
 
 -- where each row holds, so does the beginning of an item
-pub begin-holds : ((item : RoundItem) → RowHolds item) → BeginHolds
-begin-holds rows log v past book o b h n honest = by_items v.items refl
+pub begin-holds : ((item : RoundItem) → IsItemHandled item → RowHolds item) → BeginHolds
+begin-holds rows log v past book o b handled h n honest = by_items v.items refl
   where
     by_items : (items : List RoundItem) → v.items ≡ items → Holds (after v Begin) (past_after v past Begin) book
     by_items [] e = no-true (sym (ap (may_begin v.scene) e) ∙ b.first)
@@ -266,7 +267,7 @@ begin-holds rows log v past book o b h n honest = by_items v.items refl
         let known : Known = known_in v.scene k.setup in
         let book_honest : Honest (begun_past v.scene past item) book = subst (λ (items : List RoundItem). Honest (past_after (record v { items = items }) past Begin) book) e honest in
         let r =
-        rows item v.scene v.scene.outside.tills known past book refl (between-holds log v past book o b h k) (between-numbered v past book n k.setup) (first-linked v past book item rest n e) (first-was-read log v item rest o k e)
+        rows item (handled item rest e) v.scene v.scene.outside.tills known past book refl (between-holds log v past book o b h k) (between-numbered v past book n k.setup) (first-linked v past book item rest n e) (first-was-read log v item rest o k e)
         book_honest in
         subst (λ (items : List RoundItem). Holds (after (record v { items = items }) Begin) (past_after (record v { items = items }) past Begin) book) (sym e)
         (row-holds log v past book item rest (row_at v.scene item) o b h k e (sym (row-is v.scene k item)) (subst (HoldsAfterRow known (begun_past v.scene past item) book) (sym (row-is v.scene k item)) r))
@@ -303,7 +304,7 @@ read-holds log v past book as_read o r h =
       calls = tt;
       serving = λ runs number terminal found no_charge no_cut.
           subst (λ l. IsServingSound l past.commands terminal.pt.poi terminal.standing) (sym coming) (h.serving clear number terminal found (ap (charge_owed number) r.idle.calls) (ap (cut_owed number) r.idle.calls));
-      transactions = h.transactions;
+      repliable = h.repliable;
       dialogues = λ runs number terminal found no_cut. h.dialogues clear number terminal found (ap (cut_owed number) r.idle.calls);
       inside = λ round deed. no-true deed;
       deeds = h.deeds;
@@ -329,7 +330,7 @@ first-holds book = record {
   outcomes = λ at outcome intent found. none-there at (Outcome outcome) found;
   calls = tt;
   serving = λ clear number terminal found. none-there number terminal found;
-  transactions = λ number terminal found. none-there number terminal found;
+  repliable = λ number terminal found. none-there number terminal found;
   dialogues = λ clear number terminal found. none-there number terminal found;
   inside = λ round. no-true round;
   deeds = refl;

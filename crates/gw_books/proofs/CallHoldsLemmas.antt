@@ -57,12 +57,13 @@ use Rattle.gw_books.specs.Agrees.{is_accepted, is_inside, is_report}
 use Rattle.gw_books.specs.Books.{BookedEntry}
 use Rattle.gw_books.specs.Past.{Occasion, SentCommand, MadeLink, HeardEnd, SentReply, Past, poi_of_number, open_key, is_of_instruction, may_charge, waiting_keys, with_reply, with_sent_command}
 use Rattle.gw_books.specs.Said.{Said, all_said, IsFramed}
-use Rattle.gw_books.proofs.Holding.{AreOutcomesTrue, AreKeyed, HasAcceptedKey, IsAskedAs, IsFirstOf, IsUnsent, IsSaidTrue, IsSentTrue, IsToBeAsked, IsReplySound, IsSendingSound, AreCallsSound, sending_charges, charge_owed, charges_terminal, deed_owed, IsServingSound, ServesTransaction, ServeTransactions, is_report_after, IsOfTerminal, IsLinkSound, TurnHolds, Holds}
+use Rattle.gw_books.proofs.Holding.{AreOutcomesTrue, AreKeyed, HasAcceptedKey, IsAskedAs, IsFirstOf, IsUnsent, IsSaidTrue, IsSentTrue, IsToBeAsked, IsReplySound, IsSendingSound, AreCallsSound, sending_charges, charge_owed, charges_terminal, deed_owed, IsServingSound, IsRepliable, AreRepliable, is_report_after, IsOfTerminal, IsLinkSound, TurnHolds, Holds}
 use Rattle.gw_books.proofs.LastCallLemmas.{IsLast, is-last, last-cuts, last-charges, same-coming, link-rests, terminal-stays, rest-sound, past_then, holds-on, keyed-later}
 use Rattle.gw_books.proofs.ListLemmas.{In, any-in, bytes-are, bytes-itself, filter-in}
 use Rattle.gw_books.proofs.RecordMoreLemmas.{IsUnended, accepted-intent, first-itself, outcomes-later, outcomes-sent, unended-first}
 use Rattle.gw_books.proofs.RecordNumberLemmas.{open-key-unended}
 use Rattle.gw_books.proofs.SentBytesLemmas.{sent-says}
+use Rattle.gw_books.proofs.ServedReplyLemmas.{lost-sound, replies-no-deed, replies-sound}
 use Rattle.gw_books.proofs.SentCommandLemmas.{charging, charged, reversing, sending_reverses}
 
 -- ---- what is owed after a call
@@ -103,7 +104,7 @@ till-sent log v past book turn calls till reply bytes o h next first quiet =
       outcomes = outcomes-then v past book h;
       calls = quiet.sound (records_coming v) v.scene.core past.commands past.occasion;
       serving = λ number terminal found no_charge no_cut. h.serving last.clear number terminal found (last-charges v call number last refl) (last-cuts v call number last refl);
-      transactions = h.transactions;
+      repliable = h.repliable;
       dialogues = λ number terminal found no_cut. h.dialogues last.clear number terminal found (last-cuts v call number last refl);
       no_deed = quiet.no_deed;
       deeds = h.deeds;
@@ -129,12 +130,12 @@ till-sent log v past book turn calls till reply bytes o h next first quiet =
     next_past : Past
     next_past = past_then past past.commands past.links past.lasting (new ∷ past.replies) past.deeds
 
-    sound : IsReplySound (records_coming v) past.occasion reply
+    sound : IsReplySound (records_coming v) (waiting_keys v.scene.core) past.occasion reply
     sound = (subst (λ l. AreCallsSound (records_coming v) v.scene.core past.commands past.occasion l) last.calls_are h.calls).0
 
-    true_now : (message : Tree) → IsFramed bytes message → (said : Said) → In said (all_said message) → IsSaidTrue v.scene.kept past.occasion said
+    true_now : (message : Tree) → IsFramed bytes message → (said : Said) → In said (all_said message) → IsSaidTrue v.scene.kept (waiting_keys v.scene.core) past.occasion said
     true_now message framed said within =
-        subst (λ records. IsSaidTrue records past.occasion said) last.now (sound.says said (subst (λ l. In said l) (sent-says reply bytes message sound.within first framed) within))
+        subst (λ records. IsSaidTrue records (waiting_keys v.scene.core) past.occasion said) last.now (sound.says said (subst (λ l. In said l) (sent-says reply bytes message sound.within first framed) within))
 
     new_true : IsSentTrue past.commands book new
     new_true = record { outcomes = subst (λ records. AreOutcomesTrue past.commands book past.place records) last.now h.outcomes; says = true_now }
@@ -173,7 +174,7 @@ cut-till-holds till log v past book o ok h =
       serving = λ number terminal found no_charge no_cut.
           let old = forgotten v.scene.core till number terminal found in
           subst (λ (t : Terminal). IsServingSound (records_coming v) past.commands t.pt.poi t.standing) old.2 (h.serving last.clear number old.0 old.1 (last-charges v call number last refl) (last-cuts v call number last refl));
-      transactions = λ number terminal found. let old = forgotten v.scene.core till number terminal found in subst (λ (t : Terminal). ServesTransaction t.standing) old.2 (h.transactions number old.0 old.1);
+      repliable = λ number terminal found. let old = forgotten v.scene.core till number terminal found in subst (λ (t : Terminal). IsRepliable t.standing) old.2 (h.repliable number old.0 old.1);
       dialogues = λ number terminal found no_cut.
           let old = forgotten v.scene.core till number terminal found in
           subst HasItsDialogue old.2 (h.dialogues last.clear number old.0 old.1 (last-cuts v call number last refl));
@@ -331,7 +332,7 @@ module _ (laws : LedgerLaws) (log : List Turn) (v : View) (past : Past) (book : 
         outcomes = outcomes-then v past book h;
         calls = quiet.sound (records_coming v) v.scene.core past.commands past.occasion;
         serving = λ number terminal found no_charge no_cut. h.serving last.clear number terminal found (uncharged number no_cut) (last-cuts v call number last refl);
-        transactions = h.transactions;
+        repliable = h.repliable;
         dialogues = λ number terminal found no_cut. h.dialogues last.clear number terminal found (last-cuts v call number last refl);
         no_deed = quiet.no_deed;
         deeds = h.deeds;
@@ -355,7 +356,7 @@ module _ (laws : LedgerLaws) (log : List Turn) (v : View) (past : Past) (book : 
             (outcomes-then v past book h);
         calls = quiet.sound (records_coming v) v.scene.core (sent ∷ past.commands) past.occasion;
         serving = λ number terminal found no_charge no_cut. by-number number pt (λ same. own number terminal found (sym same)) (λ differs. other number terminal found differs);
-        transactions = h.transactions;
+        repliable = h.repliable;
         dialogues = λ number terminal found no_cut. h.dialogues last.clear number terminal found (last-cuts v call number last refl);
         no_deed = quiet.no_deed;
         deeds = and_from (is_inside past.occasion) (list_all is_inside past.deeds) (h.inside last.round owed) h.deeds;
@@ -504,13 +505,13 @@ none-serving records commands poi (Ready last) none = absurd none
 none-serving records commands poi (Serving service last) none = absurd none
 none-serving records commands poi (Aside before reported) none = absurd none
 
-none-transaction : (standing : Standing) → ServesNone standing → ServesTransaction standing
-none-transaction (Unlinked due) none = tt
-none-transaction Registering none = tt
-none-transaction Enquiring none = absurd none
-none-transaction (Ready last) none = absurd none
-none-transaction (Serving service last) none = absurd none
-none-transaction (Aside before reported) none = absurd none
+none-repliable : (standing : Standing) → ServesNone standing → IsRepliable standing
+none-repliable (Unlinked due) none = tt
+none-repliable Registering none = tt
+none-repliable Enquiring none = absurd none
+none-repliable (Ready last) none = absurd none
+none-repliable (Serving service last) none = absurd none
+none-repliable (Aside before reported) none = absurd none
 
 -- the row changes the terminal of this number alone, which serves nothing then, and owes no deed
 record Relinks (core : Core) (number : ℕ) (row : Row) : Type 0 where
@@ -549,31 +550,17 @@ made-relinks known number = by_found (terminal_at known number) refl
     by_found None is = absent-relinks known number (registers known number) is
     by_found (Some terminal) is = becomes-relinks known number terminal _ _ is refl tt (λ records commands occasion. (tt, tt)) refl
 
--- to what was served there is no reply
-none-replied : (standing : Standing) → ServesTransaction standing → reply_to_lost standing ≡ None
-none-replied (Unlinked due) serves = refl
-none-replied Registering serves = refl
-none-replied Enquiring serves = refl
-none-replied (Ready last) serves = refl
-none-replied (Serving (Transaction slot) last) serves = refl
-none-replied (Serving (EndOfDay header period) last) serves = absurd serves
-none-replied (Serving (Display header outputs) last) serves = absurd serves
-none-replied (Aside before reported) serves = refl
-
-none-owed : (asker : Option ℕ) → reply_calls_to asker None ≡ []
-none-owed None = refl
-none-owed (Some till) = refl
-
-lost-relinks : (known : Known) (number : ℕ) → ServeTransactions known.core → Relinks known.core number (link_lost known number)
-lost-relinks known number serve = by_found (terminal_at known number) refl
+lost-relinks : (known : Known) (number : ℕ) → AreRepliable known.core → Relinks known.core number (link_lost known number)
+lost-relinks known number repliable = by_found (terminal_at known number) refl
   where
     by_found : (found : Option Terminal) → terminal_at known number ≡ found → Relinks known.core number (of_terminal known (unlinks known number) found)
     by_found None is = absent-relinks known number (unlinks known number) is
     by_found (Some terminal) is =
-        let calls : List OwedCall = reply_calls_to terminal.asker (reply_to_lost terminal.standing) in
-        let none : calls ≡ [] = ap (reply_calls_to terminal.asker) (none-replied terminal.standing (serve number terminal is)) ∙ none-owed terminal.asker in
         let core : Core = with_terminal known.core number (unlinked_terminal terminal known.moment) in
-        becomes-relinks known number terminal (unlinked_terminal terminal known.moment) calls is refl tt (λ records commands occasion. subst (λ l. AreCallsSound records core commands occasion l) (sym none) tt) (ap deed_owed none)
+        becomes-relinks known number terminal (unlinked_terminal terminal known.moment) (reply_calls_to terminal.asker (reply_to_lost terminal.standing)) is refl tt
+        (λ records commands occasion.
+        replies-sound records core commands occasion terminal.asker (reply_to_lost terminal.standing) (λ own replies. lost-sound records (waiting_keys core) occasion terminal.standing own (repliable number terminal is) replies))
+        (replies-no-deed terminal.asker (reply_to_lost terminal.standing))
 
 -- ---- a terminal's link
 
@@ -594,7 +581,7 @@ lost-row : (v : View) (past : Past) (book : List BookedEntry) (call : OwedCall) 
 lost-row v past book call pt k last h cuts =
     let row_is : link_lost_at v.scene pt ≡ link_lost (known_in v.scene k.setup) pt = lost-at v.scene pt k.setup k.setup_is in
     record {
-      relinks = subst (Relinks v.scene.core pt) (sym row_is) (lost-relinks (known_in v.scene k.setup) pt h.transactions);
+      relinks = subst (Relinks v.scene.core pt) (sym row_is) (lost-relinks (known_in v.scene k.setup) pt h.repliable);
       dialogues = subst (λ (r : Row). AllHaveDialogues r.core) (sym row_is) (event-dialogues v past book call k.setup pt LinkIsLost last h cuts);
       spares = lost-at-spares v.scene pt;
       brings_none = lost-brings-none v.scene pt;
@@ -624,9 +611,9 @@ link-holds v past book turn pt call row calls links lasting last h r none cuts c
       outcomes = outcomes-then v past book h;
       calls = subst (λ l. AreCallsSound (records_coming v) row.core past.commands past.occasion l) (sym same) (r.relinks.sound (records_coming v) past.commands past.occasion);
       serving = λ number terminal found no_charge no_cut. by-number number pt (λ is. own number terminal found (sym is)) (λ differs. other number terminal found differs);
-      transactions = λ number terminal found. by-number number pt
-          (λ is. none-transaction terminal.standing (r.relinks.own terminal (ap (slice_get row.core.terminals) is ∙ found)))
-          (λ differs. h.transactions number terminal (sym (r.relinks.others number differs) ∙ found));
+      repliable = λ number terminal found. by-number number pt
+          (λ is. none-repliable terminal.standing (r.relinks.own terminal (ap (slice_get row.core.terminals) is ∙ found)))
+          (λ differs. h.repliable number terminal (sym (r.relinks.others number differs) ∙ found));
       dialogues = λ number terminal found no_cut. r.dialogues number terminal found;
       no_deed = ap deed_owed same ∙ r.relinks.no_deed;
       deeds = h.deeds;

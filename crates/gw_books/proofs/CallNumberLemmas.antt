@@ -16,6 +16,7 @@ use Rattle.gw_ledger.specs.Accounts.{open_slot, last_number_of}
 use Rattle.gw_ledger.specs.Fold.{AreFolded}
 use Rattle.gw_ledger.specs.Keys.{intent_key}
 use Rattle.gw_ledger.specs.Slots.{intent_at, ended_at, entry_at, entry_with}
+use Rattle.gw_owes.specs.declared.terminal.Service.TheVariants.{Transaction, EndOfDay, Display}
 use Rattle.gw_owes.specs.declared.terminal.Standing.{Standing}
 use Rattle.gw_owes.specs.declared.terminal.Standing.TheVariants.{Unlinked, Registering, Enquiring, Ready, Serving, Aside}
 use Rattle.gw_owes.specs.declared.terminal.Terminal.{Terminal}
@@ -180,7 +181,7 @@ standing-linked past book link poi (Unlinked due) is = tt
 standing-linked past book link poi Registering is = record { link = is.link; made = inr is.made; poi_is = is.poi_is; later = is.later }
 standing-linked past book link poi Enquiring is = record { link = is.link; made = inr is.made; poi_is = is.poi_is; later = is.later }
 standing-linked past book link poi (Ready last) is = is
-standing-linked past book link poi (Serving service last) is = tt
+standing-linked past book link poi (Serving service last) is = is
 standing-linked past book link poi (Aside before reported) is = is
 
 -- a terminal is linked: it registers, after each command to it
@@ -289,6 +290,15 @@ linked-apart past sent poi apart is = record { link = is.link; made = is.made; p
     later_than command (inl same) here = absurd (apart (ap (λ (one : SentCommand). one.poi) (sym same) ∙ here))
     later_than command (inr within) here = is.later command within here
 
+-- the number of a terminal with another POIID that is ready
+ready-sent : (past now : Past) (book : List BookedEntry) (sent : SentCommand) (poi : List ℕ) (last : ℕ) → now.commands ≡ sent ∷ past.commands → past.place ≤ now.place → (sent.poi ≡ poi → ⊥)
+    → IsReadyNumber book past.commands poi past.place last → IsReadyNumber book now.commands poi now.place last
+ready-sent past now book sent poi last commands places apart is = subst (λ (all : List SentCommand). IsReadyNumber book all poi now.place last) (sym commands) (ready-later past.place now.place places book (sent ∷ past.commands) poi last (record {
+  booked = is.booked;
+  greatest = λ entry within same of. is.greatest entry within same (of-sent-less sent past.commands entry (λ here. apart (here ∙ same)) of);
+  quiet = λ entry within same of. is.quiet entry within same (of-sent-less sent past.commands entry (λ here. apart (here ∙ same)) of);
+}))
+
 -- the standing of a terminal with another POIID
 standing-sent : (past now : Past) (book : List BookedEntry) (sent : SentCommand) (poi : List ℕ) (standing : Standing) → now.commands ≡ sent ∷ past.commands → now.links ≡ past.links → past.place ≤ now.place → (sent.poi ≡ poi → ⊥)
     → IsStandingNumbered past.links past.commands past.place book poi standing → IsStandingNumbered now.links now.commands now.place book poi standing
@@ -297,12 +307,10 @@ standing-sent past now book sent poi Registering commands links places apart is 
     subst (λ (all : List MadeLink). IsLinkedSince all now.commands poi) (sym links) (subst (λ (all : List SentCommand). IsLinkedSince past.links all poi) (sym commands) (linked-apart past sent poi apart is))
 standing-sent past now book sent poi Enquiring commands links places apart is =
     subst (λ (all : List MadeLink). IsLinkedSince all now.commands poi) (sym links) (subst (λ (all : List SentCommand). IsLinkedSince past.links all poi) (sym commands) (linked-apart past sent poi apart is))
-standing-sent past now book sent poi (Ready last) commands links places apart is = subst (λ (all : List SentCommand). IsReadyNumber book all poi now.place last) (sym commands) (ready-later past.place now.place places book (sent ∷ past.commands) poi last (record {
-  booked = is.booked;
-  greatest = λ entry within same of. is.greatest entry within same (of-sent-less sent past.commands entry (λ here. apart (here ∙ same)) of);
-  quiet = λ entry within same of. is.quiet entry within same (of-sent-less sent past.commands entry (λ here. apart (here ∙ same)) of);
-}))
-standing-sent past now book sent poi (Serving service last) commands links places apart is = tt
+standing-sent past now book sent poi (Ready last) commands links places apart is = ready-sent past now book sent poi last commands places apart is
+standing-sent past now book sent poi (Serving (Transaction slot) last) commands links places apart is = tt
+standing-sent past now book sent poi (Serving (EndOfDay header period) last) commands links places apart is = ready-sent past now book sent poi last commands places apart is
+standing-sent past now book sent poi (Serving (Display header results) last) commands links places apart is = ready-sent past now book sent poi last commands places apart is
 standing-sent past now book sent poi (Aside before reported) commands links places apart is = is
 
 -- what is open at any POIID, once a command was sent for the key that is open at its own, which was quiet

@@ -22,7 +22,7 @@ use Rattle.gw_rules.proofs.CourseLemmas.{course-append}
 use Rattle.gw_rules.proofs.RowExampleLemmas.{formed}
 use Rattle.gw_rules.proofs.TestedLemmas.{passes_course, course-tested}
 use Rattle.gw_rules.proofs.TextLemmas.{bytes-tested}
-use Rattle.gw_books.specs.Example.{payment_text, paying_intent, ready_moves, opened_moves, asked_moves, asked_course, kept_approval, success_reply, paid_moves, paid_course, kept_decline, refusal_reply, refused_moves, refused_course, progress_reply, lost_moves, lost_course, PaidHasPast, RefusedHasPast, LostHasPast}
+use Rattle.gw_books.specs.Example.{payment_text, paying_intent, ready_moves, opened_moves, asked_moves, asked_course, kept_approval, paid_reply, paid_moves, paid_course, kept_decline, refusal_reply, refused_moves, refused_course, progress_reply, lost_moves, lost_course, PaidHasPast, RefusedHasPast, LostHasPast}
 use Rattle.gw_books.proofs.ExampleLemmas.{paid-past, refused-past, lost-past}
 use Rattle.gw_books.proofs.PaymentTextLemmas.{payment-reads}
 
@@ -78,7 +78,7 @@ asking-lawful = (record { running = refl; calls = refl; items = refl }, ((record
 
 pub paying-lawful : IsCourse (view_from at_first asked_course) (paid_moves ++ Make (Polled (pos 6)) ∷ [])
 unfolding decode_apdus decode_apdus_within decode_pt_message decode_status decode_status_within decode_status_field decode_field_value history payment_text
-paying-lawful = (record { running = refl; calls = refl; items = refl }, ((record { polled = refl; connected_is = refl }, approving-chunk), (record { idle = record { round = refl; calls = refl }; first = refl }, (record { idle = record { round = refl; calls = refl }; first = refl }, (record { idle = record { round = refl; calls = refl }; first = refl }, (record { idle = record { round = refl; calls = refl }; first = refl }, ((Acknowledge, refl, refl), (record { idle = record { round = refl; calls = refl }; first = refl }, (record { idle = record { round = refl; calls = refl }; first = refl }, (record { idle = record { round = refl; calls = refl }; first = refl }, ((Acknowledge, refl, refl), (record { idle = record { round = refl; calls = refl }; first = refl }, ((WriteBody 1 (Outcome kept_approval), refl, refl), (refl, ((WriteGate 1 (Outcome kept_approval), refl, refl), (refl, ((success_reply, refl, refl), (record { idle = record { round = refl; calls = refl }; first = refl }, (record { idle = record { round = refl; calls = refl }; first = refl }, (record { idle = record { round = refl; calls = refl }; first = refl }, (record { running = refl; calls = refl; items = refl }, tt)))))))))))))))))))))
+paying-lawful = (record { running = refl; calls = refl; items = refl }, ((record { polled = refl; connected_is = refl }, approving-chunk), (record { idle = record { round = refl; calls = refl }; first = refl }, (record { idle = record { round = refl; calls = refl }; first = refl }, (record { idle = record { round = refl; calls = refl }; first = refl }, (record { idle = record { round = refl; calls = refl }; first = refl }, ((Acknowledge, refl, refl), (record { idle = record { round = refl; calls = refl }; first = refl }, (record { idle = record { round = refl; calls = refl }; first = refl }, (record { idle = record { round = refl; calls = refl }; first = refl }, ((Acknowledge, refl, refl), (record { idle = record { round = refl; calls = refl }; first = refl }, ((WriteBody 1 (Outcome kept_approval), refl, refl), (refl, ((WriteGate 1 (Outcome kept_approval), refl, refl), (refl, ((paid_reply, refl, refl), (record { idle = record { round = refl; calls = refl }; first = refl }, (record { idle = record { round = refl; calls = refl }; first = refl }, (record { idle = record { round = refl; calls = refl }; first = refl }, (record { running = refl; calls = refl; items = refl }, tt)))))))))))))))))))))
 
 pub declining-lawful : IsCourse (view_from at_first asked_course) (refused_moves ++ Make (Polled (pos 6)) ∷ [])
 unfolding decode_apdus decode_apdus_within decode_pt_message history payment_text
@@ -88,8 +88,11 @@ losing-lawful : IsCourse (view_from at_first asked_course) (lost_moves ++ Make (
 unfolding decode_apdus decode_apdus_within decode_pt_message history payment_text
 losing-lawful = (record { running = refl; calls = refl; items = refl }, (record { polled = refl; connected_is = refl }, (record { idle = record { round = refl; calls = refl }; first = refl }, (record { idle = record { round = refl; calls = refl }; first = refl }, (record { idle = record { round = refl; calls = refl }; first = refl }, (record { running = refl; calls = refl; items = refl }, ((record { polled = refl; connected_is = refl }, payment-chunk), (record { idle = record { round = refl; calls = refl }; waits = refl; bytes = payment_text; message = refl; reads = payment-reads }, (record { idle = record { round = refl; calls = refl }; first = refl }, ((progress_reply, refl, refl), (record { idle = record { round = refl; calls = refl }; first = refl }, (record { idle = record { round = refl; calls = refl }; first = refl }, (record { running = refl; calls = refl; items = refl }, tt)))))))))))))
 
+pub opened-lawful : IsCourse at_first opened_moves
+opened-lawful = course-append at_first ready_moves (Make (Polled (pos 3)) ∷ Make (Opened 1) ∷ items_begin 2) ready-lawful opening-lawful
+
 pub asked-lawful : IsCourse at_first asked_course
-asked-lawful = course-append at_first opened_moves asked_moves (course-append at_first ready_moves (Make (Polled (pos 3)) ∷ Make (Opened 1) ∷ items_begin 2) ready-lawful opening-lawful) asking-lawful
+asked-lawful = course-append at_first opened_moves asked_moves opened-lawful asking-lawful
 
 -- a course that goes on from there
 lean-course : (moves : List Move) → IsCourse (view_from at_first asked_course) moves → is_lean (asked_course ++ moves) ≡ true → IsLeanCourse (turns_of (asked_course ++ moves)) (asked_course ++ moves)

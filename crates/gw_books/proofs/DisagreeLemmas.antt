@@ -36,7 +36,7 @@ use Rattle.gw_books.specs.Books.{BookedEntry, Honest, is_caused, is_of_its_link}
 use Rattle.gw_books.specs.Said.{all_said, IsFramed}
 use Rattle.gw_books.specs.Agrees.{are_distinct_keys, entry_key, success_agrees, refusal_agrees, unaccepted_agrees, not_found_agrees, in_progress_agrees, report_resolves, is_inside, EachSaid, Agrees}
 use Rattle.gw_books.specs.Headline.{HonestAgrees}
-use Rattle.gw_books.specs.Example.{polled_linked, asked_past, opened_moves, payment_text, paying_header, payment_ask, paying_intent, kept_approval, approved_mark, paid_result_body, success_reply, sent_success, authorise, asked_course, paid_course, payment_command, paid_entry, refusal_reply, later_entry}
+use Rattle.gw_books.specs.Example.{polled_linked, asked_past, opened_moves, payment_text, paying_header, payment_ask, paying_intent, kept_approval, approved_mark, paid_result_body, paid_reply, sent_success, authorise, asked_course, paid_course, payment_command, paid_entry, refusal_reply, later_entry}
 use Rattle.gw_books.specs.DisagreeExample.{BreaksAgreement, NotLawful, twice_course, twice_booked, course_sent, entry_in_time, status_asking_header, course_replied, unresolved_course, TwiceDisagrees, EntriesOfOneKey, KeylessDisagrees, UnbookedDisagrees, LaterEntryDisagrees, ProgressDisagrees, UnacceptedDisagrees, SameContentDisagrees, OtherContentAgrees, NotFoundDisagrees, RepeatAgrees, OtherRepeatDisagrees, OutsideDisagrees, UnresolvedDisagrees, WaitingIsInProgress, UnreportedMayBeOpen, LinksEnd, UncausedBooks, DisorderedBooks, UntrueBooks, ReportedBooks}
 use Rattle.gw_books.proofs.MessageLemmas.{reply-framed}
 use Rattle.gw_books.proofs.ExampleLemmas.{Agreement, each-agrees, header-within, approved-within, success-framed, refusal-framed}
@@ -115,33 +115,33 @@ early-past : (reply : ReplyValue) → past_of (course_sent reply) ≡ early_past
 unfolding decode_apdus decode_apdus_within decode_pt_message history payment_text
 early-past reply = refl
 
-unbooked : (book : List BookedEntry) → Honest (early_past success_reply) book → list_all (success_agrees (early_past success_reply) book (early_sent success_reply)) (all_said (reply_value_tree success_reply)) ≡ false
-    → BreaksAgreement (course_sent success_reply) book
+unbooked : (book : List BookedEntry) → Honest (early_past paid_reply) book → list_all (success_agrees (early_past paid_reply) book (early_sent paid_reply)) (all_said (reply_value_tree paid_reply)) ≡ false
+    → BreaksAgreement (course_sent paid_reply) book
 unbooked book honest f =
-    breaks-by (course_sent success_reply) (early_past success_reply) book (early-past success_reply) honest
-    (λ agrees. last-refused success_agrees (early_past success_reply) book (early_sent success_reply) [] (reply_value_tree success_reply) refl success-framed f agrees.success)
+    breaks-by (course_sent paid_reply) (early_past paid_reply) book (early-past paid_reply) honest
+    (λ agrees. last-refused success_agrees (early_past paid_reply) book (early_sent paid_reply) [] (reply_value_tree paid_reply) refl success-framed f agrees.success)
 
-none-booked : list_all (success_agrees (early_past success_reply) [] (early_sent success_reply)) (all_said (reply_value_tree success_reply)) ≡ false
+none-booked : list_all (success_agrees (early_past paid_reply) [] (early_sent paid_reply)) (all_said (reply_value_tree paid_reply)) ≡ false
 unfolding history message_tree header_tree result_tree sale_data poi_data payment_result approved_body result_body transaction_text money_text digits tree_at
 none-booked = refl
 
-older-booked : list_all (success_agrees (early_past success_reply) (record paid_entry { poi = codes "T2"; place = 0; cause = None } ∷ []) (early_sent success_reply)) (all_said (reply_value_tree success_reply)) ≡ false
+older-booked : list_all (success_agrees (early_past paid_reply) (record paid_entry { poi = codes "T2"; place = 0; cause = None } ∷ []) (early_sent paid_reply)) (all_said (reply_value_tree paid_reply)) ≡ false
 unfolding history message_tree header_tree result_tree sale_data poi_data payment_result approved_body result_body transaction_text money_text digits tree_at
 older-booked = refl
 
-later-booked : list_all (success_agrees (early_past success_reply) (paid_entry ∷ []) (early_sent success_reply)) (all_said (reply_value_tree success_reply)) ≡ false
+later-booked : list_all (success_agrees (early_past paid_reply) (paid_entry ∷ []) (early_sent paid_reply)) (all_said (reply_value_tree paid_reply)) ≡ false
 unfolding history message_tree header_tree result_tree sale_data poi_data payment_result approved_body result_body transaction_text money_text digits tree_at
 later-booked = refl
 
-declined-booked : list_all (success_agrees (early_past success_reply) (record entry_in_time { approved = false } ∷ []) (early_sent success_reply)) (all_said (reply_value_tree success_reply)) ≡ false
+declined-booked : list_all (success_agrees (early_past paid_reply) (record entry_in_time { approved = false } ∷ []) (early_sent paid_reply)) (all_said (reply_value_tree paid_reply)) ≡ false
 unfolding history message_tree header_tree result_tree sale_data poi_data payment_result approved_body result_body transaction_text money_text digits tree_at
 declined-booked = refl
 
-other-amount : list_all (success_agrees (early_past success_reply) (record entry_in_time { amount = 1000 } ∷ []) (early_sent success_reply)) (all_said (reply_value_tree success_reply)) ≡ false
+other-amount : list_all (success_agrees (early_past paid_reply) (record entry_in_time { amount = 1000 } ∷ []) (early_sent paid_reply)) (all_said (reply_value_tree paid_reply)) ≡ false
 unfolding history message_tree header_tree result_tree sale_data poi_data payment_result approved_body result_body transaction_text money_text digits tree_at
 other-amount = refl
 
-other-receipt : list_all (success_agrees (early_past success_reply) (record entry_in_time { receipt = 18 } ∷ []) (early_sent success_reply)) (all_said (reply_value_tree success_reply)) ≡ false
+other-receipt : list_all (success_agrees (early_past paid_reply) (record entry_in_time { receipt = 18 } ∷ []) (early_sent paid_reply)) (all_said (reply_value_tree paid_reply)) ≡ false
 unfolding history message_tree header_tree result_tree sale_data poi_data payment_result approved_body result_body transaction_text money_text digits tree_at
 other-receipt = refl
 
@@ -202,11 +202,11 @@ refused-after agrees header request condition book within f each =
 -- both replies agree
 agree-after : (agrees : Agreement) (header : Header) (request : SaleRequest) (reply : ReplyValue) (book : List BookedEntry) → IsFramed (reply_value_bytes reply) (reply_value_tree reply)
     → list_all (agrees (replied_past header request reply) book (replied_sent header request reply)) (all_said (reply_value_tree reply)) ≡ true
-    → list_all (agrees (replied_past header request reply) book sent_success) (all_said (reply_value_tree success_reply)) ≡ true → EachSaid agrees (replied_past header request reply) book
+    → list_all (agrees (replied_past header request reply) book sent_success) (all_said (reply_value_tree paid_reply)) ≡ true → EachSaid agrees (replied_past header request reply) book
 unfolding replied_sent
 agree-after agrees header request reply book framed one other =
     each-agrees agrees (replied_past header request reply) book (replied_sent header request reply ∷ sent_success ∷ []) (replied-are header request reply)
-    (record { message = reply_value_tree reply; framed = framed; passes = one }, (record { message = reply_value_tree success_reply; framed = success-framed; passes = other }, tt))
+    (record { message = reply_value_tree reply; framed = framed; passes = one }, (record { message = reply_value_tree paid_reply; framed = success-framed; passes = other }, tt))
 
 abbrev same_ask : SaleRequest
 same_ask = requests.Payment payment_ask
@@ -248,7 +248,7 @@ other-true : SaysAfter unaccepted_agrees paying_header other_ask (failure_reply 
 unfolding history message_tree header_tree result_tree tree_at replied_sent
 other-true past book = refl
 
-success-true : (past : Past) (book : List BookedEntry) → list_all (unaccepted_agrees past book sent_success) (all_said (reply_value_tree success_reply)) ≡ true
+success-true : (past : Past) (book : List BookedEntry) → list_all (unaccepted_agrees past book sent_success) (all_said (reply_value_tree paid_reply)) ≡ true
 unfolding history message_tree header_tree result_tree sale_data poi_data payment_result approved_body result_body transaction_text money_text digits tree_at
 success-true past book = refl
 
@@ -303,9 +303,9 @@ repeat-says : (past : Past) → past.commands ≡ payment_command ∷ [] → lis
 unfolding history message_tree header_tree result_tree sale_data poi_data payment_result approved_body result_body status_body repeated_message transaction_text money_text digits tree_at replied_sent
 repeat-says past e = subst (λ commands. list_all (success_agrees (record past { commands = commands }) (paid_entry ∷ []) (replied_sent status_asking_header (requests.Status None) (repeats paid_result_body))) (all_said (reply_value_tree (repeats paid_result_body))) ≡ true) (sym e) refl
 
-success-says : (past : Past) → past.commands ≡ payment_command ∷ [] → list_all (success_agrees past (paid_entry ∷ []) sent_success) (all_said (reply_value_tree success_reply)) ≡ true
+success-says : (past : Past) → past.commands ≡ payment_command ∷ [] → list_all (success_agrees past (paid_entry ∷ []) sent_success) (all_said (reply_value_tree paid_reply)) ≡ true
 unfolding history message_tree header_tree result_tree sale_data poi_data payment_result approved_body result_body transaction_text money_text digits tree_at
-success-says past e = subst (λ commands. list_all (success_agrees (record past { commands = commands }) (paid_entry ∷ []) sent_success) (all_said (reply_value_tree success_reply)) ≡ true) (sym e) refl
+success-says past e = subst (λ commands. list_all (success_agrees (record past { commands = commands }) (paid_entry ∷ []) sent_success) (all_said (reply_value_tree paid_reply)) ≡ true) (sym e) refl
 
 pub repeat-agrees : RepeatAgrees
 repeat-agrees =

@@ -23,7 +23,7 @@ use Rattle.gw_books.specs.Past.{SentReply, Past, past_of}
 use Rattle.gw_books.specs.Books.{BookedEntry, Honest}
 use Rattle.gw_books.specs.Said.{Said, all_said, IsFramed}
 use Rattle.gw_books.specs.Agrees.{success_agrees, refusal_agrees, unaccepted_agrees, not_found_agrees, in_progress_agrees, EachSaid, Agrees}
-use Rattle.gw_books.specs.Example.{payment_text, paying_header, paid_result_body, success_reply, sent_success, paid_course, paid_past, paid_entry, refused_result, refusal_reply, sent_refusal, refused_course, refused_past, progress_reply, sent_progress, lost_course, lost_past, later_entry, AskedHasPast, PaidAgrees, RefusedAgrees, LostAgrees}
+use Rattle.gw_books.specs.Example.{payment_text, paying_header, paid_result_body, paid_reply, sent_success, paid_course, paid_past, paid_entry, refused_result, refusal_reply, sent_refusal, refused_course, refused_past, progress_reply, sent_progress, lost_course, lost_past, later_entry, AskedHasPast, PaidAgrees, RefusedAgrees, LostAgrees}
 use Rattle.gw_books.proofs.MessageLemmas.{reply-framed, one-message}
 
 -- ---- what is sent
@@ -76,8 +76,8 @@ header-within = record { category = ident-tested 40 (codes "Payment") refl; serv
 pub approved-within : IsToldWithinLimits paid_result_body
 approved-within = (ident-tested 80 (codes "X1") refl, ident-tested 35 (codes "2026-11-27T12:00:00Z") refl, record { six_digits = omega arith; four_digits = omega arith; slot_fits = omega arith }, omega arith)
 
-pub success-framed : IsFramed sent_success.bytes (reply_value_tree success_reply)
-success-framed = reply-framed success_reply (reply.Told (header_of_reply paying_header) paid_result_body) refl (header-within, approved-within)
+pub success-framed : IsFramed sent_success.bytes (reply_value_tree paid_reply)
+success-framed = reply-framed paid_reply (reply.Told (header_of_reply paying_header) paid_result_body) refl (header-within, approved-within)
 
 pub refusal-framed : IsFramed sent_refusal.bytes (reply_value_tree refusal_reply)
 refusal-framed = reply-framed refusal_reply (reply.Told (header_of_reply paying_header) refused_result) refl (header-within, (ident-tested 80 (codes "X1") refl, ident-tested 35 (codes "2026-11-27T12:00:00Z") refl, record { six_digits = omega arith; four_digits = omega arith; slot_fits = omega arith }))
@@ -100,11 +100,11 @@ paid-book-agrees = record {
   keyed = refl;
   sent_once = refl;
   booked_once = refl;
-  success = only-says success_agrees paid_past (paid_entry ∷ []) sent_success (reply_value_tree success_reply) refl success-framed refl;
-  refusal = only-says refusal_agrees paid_past (paid_entry ∷ []) sent_success (reply_value_tree success_reply) refl success-framed refl;
-  unaccepted = only-says unaccepted_agrees paid_past (paid_entry ∷ []) sent_success (reply_value_tree success_reply) refl success-framed refl;
-  not_found = only-says not_found_agrees paid_past (paid_entry ∷ []) sent_success (reply_value_tree success_reply) refl success-framed refl;
-  in_progress = only-says in_progress_agrees paid_past (paid_entry ∷ []) sent_success (reply_value_tree success_reply) refl success-framed refl;
+  success = only-says success_agrees paid_past (paid_entry ∷ []) sent_success (reply_value_tree paid_reply) refl success-framed refl;
+  refusal = only-says refusal_agrees paid_past (paid_entry ∷ []) sent_success (reply_value_tree paid_reply) refl success-framed refl;
+  unaccepted = only-says unaccepted_agrees paid_past (paid_entry ∷ []) sent_success (reply_value_tree paid_reply) refl success-framed refl;
+  not_found = only-says not_found_agrees paid_past (paid_entry ∷ []) sent_success (reply_value_tree paid_reply) refl success-framed refl;
+  in_progress = only-says in_progress_agrees paid_past (paid_entry ∷ []) sent_success (reply_value_tree paid_reply) refl success-framed refl;
   resolved = refl;
   inside = refl;
 }

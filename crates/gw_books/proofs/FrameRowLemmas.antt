@@ -13,7 +13,7 @@ use Rattle.gw_owes.specs.Terminals.{with_terminal}
 use Rattle.gw_owes.proofs.SetLemmas.{new-is-there, others-stay}
 use Rattle.gw_rules.specs.TranscriptLaws.{cut_owed}
 use Rattle.gw_books.specs.Past.{SentCommand, MadeLink}
-use Rattle.gw_books.proofs.Holding.{IsOfTerminal, IsServingSound, ServesTransaction, ServeTransactions, charge_owed}
+use Rattle.gw_books.proofs.Holding.{IsOfTerminal, IsServingSound, IsRepliable, AreRepliable, charge_owed}
 use Rattle.gw_books.proofs.RecordMoreLemmas.{served-intent, serving-more}
 
 -- what holds of every other element at its place, and of the new one at its own, holds of each
@@ -32,8 +32,8 @@ pub each-in-place : (P : ℕ → Terminal → Type 0) (core : Core) (number : �
 each-in-place P core number new others holds other terminal found = each-set P core.terminals number new others holds other terminal found
 
 -- each terminal still serves a payment or a reversal
-pub transactions-stay : (core : Core) (number : ℕ) (new : Terminal) → ServeTransactions core → ServesTransaction new.standing → ServeTransactions (with_terminal core number new)
-transactions-stay core number new serve serves = each-in-place (λ other terminal. ServesTransaction terminal.standing) core number new (λ other terminal apart found. serve other terminal found) serves
+pub repliable-stay : (core : Core) (number : ℕ) (new : Terminal) → AreRepliable core → IsRepliable new.standing → AreRepliable (with_terminal core number new)
+repliable-stay core number new serve serves = each-in-place (λ other terminal. IsRepliable terminal.standing) core number new (λ other terminal apart found. serve other terminal found) serves
 
 module _ (core : Core) (number : ℕ) (old new : Terminal) (here : slice_get core.terminals number ≡ Some old) (same : new.pt ≡ old.pt) (link : MadeLink) (owner : IsOfTerminal core link) where
   abbrev in-its-place : Bool → Terminal

@@ -1,10 +1,12 @@
 -- What a message of a terminal's dialogue leaves of trace numbers: what was booked by then is what the terminal's last trace number says.
-use Rattle.std.proofs.Common.{◌≡◌, ◌≤◌, ◌<◌, ◌∙◌, ℕ, ◌+◌, ◌^◌, Bool, true, false, ◌&&◌, ◌||◌, not, leb, ltb, List, [], ◌∷◌, ◌++◌, length, inl, inr, refl, sym, ap, subst, arith, append-nil}
+use Rattle.std.proofs.Common.{◌≡◌, ◌≤◌, ◌<◌, ◌∙◌, ℕ, ◌^◌, Bool, true, false, ◌&&◌, ◌||◌, not, leb, ltb, List, [], ◌∷◌, ◌++◌, length, inl, inr, refl, sym, ap, subst, arith, append-nil}
 use Rattle.std.specs.Prelude.{bytes_eq, if◌then◌else◌, slice_get, Option, Some, None, Result, Ok, Err}
 use Rattle.std.specs.List.{flat_map, list_all}
 use Rattle.std.specs.Option.{option_and_then, option_map, option_to_list}
 use Rattle.std.proofs.lemmas.Bool.{and_parts, leb-false, ltb-false, ltb-true}
 use Rattle.gw_base.specs.declared.figures.Figures.{Figures}
+use Rattle.sale_values.specs.declared.header.Header.{Header}
+use Rattle.sale_reply.specs.declared.reply.Shown.{Shown}
 use Rattle.zvt_apdu.specs.Grammar.{ApduValue}
 use Rattle.zvt_msg.specs.declared.fault.PtFault.{PtFault}
 use Rattle.zvt_msg.specs.Message.{MessageValue}
@@ -16,28 +18,37 @@ use Rattle.jrn_record.specs.Limits.{IsOutcome}
 use Rattle.jrn_record.specs.declared.records.Intent.{Intent as TheIntent}
 use Rattle.jrn_record.specs.declared.records.Outcome.{Outcome as TheOutcome}
 use Rattle.jrn_record.specs.declared.records.Record.{Record}
-use Rattle.jrn_record.specs.declared.records.Record.TheVariants.{Outcome}
+use Rattle.jrn_record.specs.declared.records.How.TheVariants as hows
+use Rattle.jrn_record.specs.declared.records.Record.TheVariants.{Outcome, Settled}
+use Rattle.jrn_record.specs.declared.records.Settled.{Settled as TheSettled}
 use Rattle.gw_ledger.specs.declared.entry.Entry.{Entry as TheEntry}
 use Rattle.gw_ledger.specs.Accounts.{last_number_of}
 use Rattle.gw_ledger.specs.Fold.{AreFolded, fits, open_entry}
 use Rattle.gw_ledger.specs.Keys.{intent_key}
+use Rattle.xlate.specs.Codes.{condition_of_code}
 use Rattle.gw_owes.specs.declared.terminal.Service.{Service}
 use Rattle.gw_owes.specs.declared.terminal.Service.TheVariants.{Transaction, EndOfDay, Display}
 use Rattle.gw_owes.specs.declared.terminal.Standing.{Standing}
 use Rattle.gw_owes.specs.declared.terminal.Standing.TheVariants.{Unlinked, Registering, Enquiring, Ready, Serving, Aside}
 use Rattle.gw_owes.specs.declared.terminal.Terminal.{Terminal}
+use Rattle.gw_owes.specs.Awaited.{one_more_awaited}
 use Rattle.gw_owes.specs.Calls.{OwedCall, Ask, SendPt, CutPt, keep_calls, records_kept}
 use Rattle.gw_owes.specs.Core.{Core}
-use Rattle.gw_owes.specs.Handling.{consequence, enquiring, enquiry_command, handle_decoded, handle_message, meaning_at, registering, serving, taken_as, taking}
+use Rattle.gw_owes.specs.DeviceRequests.{requests_device}
+use Rattle.gw_owes.specs.Displays.{serving_display, with_customer_verdict}
+use Rattle.gw_owes.specs.Handling.{consequence, enquiring, enquiry_command, handle_decoded, handle_message, meaning_at, registering, serving, taken_as, taken_row, taking}
 use Rattle.gw_owes.specs.HeardLaws.{FitsRecord, IsReportFit}
 use Rattle.gw_owes.specs.Items.{Handle}
 use Rattle.gw_owes.specs.Links.{is_linked}
+use Rattle.gw_owes.specs.Reconciliations.{day_done, reply_to_settled, serving_day, settled_of}
 use Rattle.gw_owes.specs.RecordLaws.{AreRecordsOf, IsServedOpen, IsServiceOnRecord, IsTerminalInOrder}
+use Rattle.gw_owes.specs.Replies.{display_reply, failure, failure_reply, success}
 use Rattle.gw_owes.specs.Reply.{ReplyValue}
 use Rattle.gw_owes.specs.Reports.{Report, least_against, on_record, outcome_reported, report_against, report_row, standing_reported}
 use Rattle.gw_owes.specs.Row.{Known, Row, owing_nothing, owing_where}
 use Rattle.gw_owes.specs.Serving.{approved_outcome, approved_row, at_rest, breaking, declined_outcome, declined_row, done_with, last_after_decline, reply_to_outcome, resolves, serving_transaction, staying, stops, was_stopped}
 use Rattle.gw_owes.specs.Terminals.{after_command, of_terminal, reply_calls_to, terminal_at, terminal_becomes, with_terminal}
+use Rattle.gw_owes.proofs.HandlingLemmas.{taken-cases}
 use Rattle.gw_owes.proofs.HeardLemmas.{meant-fits}
 use Rattle.gw_owes.proofs.KeepingLemmas.{replies-keep-nothing}
 use Rattle.gw_owes.proofs.LimitLemmas.{approval-within, decline-within}
@@ -51,9 +62,10 @@ use Rattle.gw_books.proofs.KeyedLemmas.{sent-below, sent-same}
 use Rattle.gw_books.proofs.ListLemmas.{In, all-in, bytes-are, found-in}
 use Rattle.gw_books.proofs.NumberStepLemmas.{standings-set}
 use Rattle.gw_books.proofs.Numbering.{AreLinkedBeforeHearing, AreRecordsNumbered, AreStandingsNumbered, IsBookedNumber, IsForKey, IsOpenNumbered, IsQuiet, IsReadyNumber, IsStandingNumbered, NumberedAfterRow, NumberedBetween, RowNumbers}
-use Rattle.gw_books.proofs.RecordNumberLemmas.{numbered-with-outcome, open-poi}
+use Rattle.gw_books.proofs.RecordNumberLemmas.{numbered-with-outcome, numbered-with-settled, open-poi}
 use Rattle.gw_books.proofs.ReportLemmas.{ReportFacts, approval-borne, decline-borne, end-true, end_heard, or-other, past_with, report-borne}
 use Rattle.gw_books.proofs.RowNumberLemmas.{charge-is-deed, nothing-quiet, numbers-begun, quiet-numbers}
+use Rattle.gw_books.proofs.ServedReplyLemmas.{replies-no-deed}
 
 -- the replies that a terminal's end owes ask for nothing
 replies-uncharged : (number : ℕ) (asker : Option ℕ) (reply : Option ReplyValue) → charge_owed number (reply_calls_to asker reply) ≡ false
@@ -99,7 +111,7 @@ module _ (laws : LedgerLaws) (known : Known) (past : Past) (book : List BookedEn
   breaks-after = quiet-after now (CutPt number ∷ []) refl refl refl (n.standings number old here)
 
   stops-after : After (stops known number now)
-  stops-after = quiet-after (record now { awaited = now.awaited + 1 }) _ refl refl refl (n.standings number old here)
+  stops-after = quiet-after (record now { awaited = one_more_awaited now.awaited }) _ refl refl refl (n.standings number old here)
 
   -- what is open has its Outcome
   resolves-after : (standing : Standing) (outcome : TheOutcome) (intent : TheIntent) → open_entry known.kept old.pt.poi ≡ Some (open_entry_of outcome.slot intent) → IsOutcome outcome → (outcome.approved ≡ true → intent.before < outcome.number)
@@ -354,13 +366,71 @@ module _ (laws : LedgerLaws) (known : Known) (past : Past) (book : List BookedEn
       transaction-after heard.Unclear means fit = breaks-after
       transaction-after heard.Stray means fit = stays-after
 
+    -- ---- an end of day, and a display
+
+    -- the terminal is ready as before, nothing is kept, and its till gets the reply, where there is one
+    replied-after : (last : ℕ) (reply : Option ReplyValue) → IsReadyNumber book past.commands old.pt.poi past.place last → After (terminal_becomes known number (done_with now (Ready last)) (reply_calls_to now.asker reply))
+    replied-after last reply ready =
+        quiet-after (done_with now (Ready last)) (reply_calls_to now.asker reply) (replies-keep-nothing now.asker reply).no_records (replies-no-deed now.asker reply) refl ready
+
+    -- an end of day is done: its Settled is kept
+    settles-after : (header : Header) (last : ℕ) → IsReadyNumber book past.commands old.pt.poi past.place last → After (day_done known number now last header)
+    settles-after header last ready =
+        let settled : TheSettled = settled_of hows.Acquirer header now.pt.currency known.moment in
+        let reply : Option ReplyValue = reply_to_settled known.kept settled in
+        record {
+          records = subst (λ (records : List Record). AreRecordsNumbered book past.commands past.place records)
+              (sym (ap (λ (rest : List Record). known.kept ++ Settled settled ∷ rest) (replies-keep-nothing now.asker reply).no_records))
+              (numbered-with-settled laws known.kept settled book past.commands past.place n.records);
+          standings = set (done_with now (Ready last)) refl ready;
+          asked = λ other terminal found owed. let clash : true ≡ false = sym owed ∙ replies-uncharged other now.asker reply in absurd cc;
+        }
+
+    day-after : (header : Header) (last : ℕ) (meant : Heard) → IsReadyNumber book past.commands old.pt.poi past.place last → After (serving_day known number now last header meant)
+    day-after header last (heard.Begun true) ready = stops-after
+    day-after header last (heard.Begun false) ready = stays-after
+    day-after header last (heard.Note intermediate_status) ready = stays-after
+    day-after header last heard.Line ready = stays-after
+    day-after header last heard.Block ready = stays-after
+    day-after header last heard.Seen ready = stays-after
+    day-after header last (heard.Approved figures) ready = stays-after
+    day-after header last heard.Done ready = settles-after header last ready
+    day-after header last (heard.Told reported approved result_code) ready = stays-after
+    day-after header last (heard.Declined result_code reported) ready = replied-after last (Some (failure_reply header (condition_of_code result_code (was_stopped now.talk)))) ready
+    day-after header last heard.Unclear ready = breaks-after
+    day-after header last heard.Stray ready = stays-after
+
+    display-after : (header : Header) (results : Option (List Shown)) (last : ℕ) (meant : Heard) → IsReadyNumber book past.commands old.pt.poi past.place last → After (serving_display known number now last header results meant)
+    display-after header results last (heard.Begun stop) ready = stays-after
+    display-after header results last (heard.Note intermediate_status) ready = stays-after
+    display-after header results last heard.Line ready = stays-after
+    display-after header results last heard.Block ready = stays-after
+    display-after header results last heard.Seen ready = stays-after
+    display-after header results last (heard.Approved figures) ready = stays-after
+    display-after header results last heard.Done ready = replied-after last (display_reply header (option_map (with_customer_verdict success) results)) ready
+    display-after header results last (heard.Told reported approved result_code) ready = stays-after
+    display-after header results last (heard.Declined result_code reported) ready =
+        replied-after last (display_reply header (option_map (with_customer_verdict (failure (condition_of_code result_code (was_stopped now.talk)))) results)) ready
+    display-after header results last heard.Unclear ready = breaks-after
+    display-after header results last heard.Stray ready = stays-after
+
+    -- ---- a device request
+
+    -- what the terminal shows or prints changes no terminal
+    requests-after : (till : ℕ) (request : ReplyValue) → After (requests_device known number now till request)
+    requests-after till request = record {
+      records = subst (λ (records : List Record). AreRecordsNumbered book past.commands past.place records) (sym (append-nil known.kept)) n.records;
+      standings = λ other terminal found. set now refl (n.standings number old here) other terminal found;
+      asked = λ other terminal found owed. absurd cc;
+    }
+
     -- ---- in each standing
 
     serving-after : (service : Service) (last : ℕ) (meant : Heard) → old.standing ≡ Serving service last → IsServiceOnRecord known.kept old.pt.poi last service → meaning_at old message ≡ meant → FitsRecord meant
         → After (serving known number now service last meant)
     serving-after (Transaction slot) last meant is has means fit = transaction-after slot last is has meant means fit
-    serving-after (EndOfDay header period) last meant is has means fit = absurd has
-    serving-after (Display header outputs) last meant is has means fit = absurd has
+    serving-after (EndOfDay header period) last meant is has means fit = day-after header last meant (subst Stands is (n.standings number old here))
+    serving-after (Display header results) last meant is has means fit = display-after header results last meant (subst Stands is (n.standings number old here))
 
     consequence-after : (standing : Standing) (meant : Heard) → old.standing ≡ standing → AreRecordsOf known.kept old.pt.poi standing → meaning_at old message ≡ meant → FitsRecord meant → After (consequence known number now meant standing)
     consequence-after (Unlinked due) meant is has means fit = nothing-after
@@ -376,8 +446,10 @@ module _ (laws : LedgerLaws) (known : Known) (past : Past) (book : List BookedEn
         in-order : IsTerminalInOrder known.kept old
         in-order = between.in_order.terminals number old here
 
-        by-taken : (b : Bool) → After (owing_where b known (consequence known number now (meaning_at old message) old.standing))
-        by-taken true = consequence-after old.standing (meaning_at old message) refl in-order.records refl (meant-fits old.talk (taken_as old.awaited message) in-order.read)
+        by-taken : (b : Bool) → After (owing_where b known (taken_row known number now (meaning_at old message) message))
+        by-taken true =
+            taken-cases After known number now (meaning_at old message) message
+            (consequence-after old.standing (meaning_at old message) refl in-order.records refl (meant-fits old.talk (taken_as old.awaited message) in-order.read)) (λ at stays. requests-after at.till at.request)
         by-taken false = nothing-after
 
         by-linked : (b : Bool) → After (owing_where b known (handle_message known number old message))

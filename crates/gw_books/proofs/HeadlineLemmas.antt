@@ -6,8 +6,9 @@ use Rattle.gw_owes.specs.Items.{RoundItem, Crowded, Message, Asked, Unframed, Go
 use Rattle.gw_owes.proofs.RecordLemmas.{LedgerLaws}
 use Rattle.gw_ledger.specs.Fold.{AreFolded}
 use Rattle.gw_rules.specs.Laws.{IsLeanCourse}
-use Rattle.gw_rules.specs.Lawful.{IsCourse}
+use Rattle.gw_rules.specs.Lawful.{IsCourse, Stands}
 use Rattle.gw_rules.specs.View.{View, Move, Begin, Read, Make, after, view_from, at_first}
+use Rattle.gw_rules.proofs.CourseLemmas.{stands-more}
 use Rattle.gw_rules.proofs.PrefixLemmas.{prefix-lawful}
 use Rattle.gw_rules.proofs.RecordOrderLemmas.{Ordered, begin-ordered, each-log-folds, read-ordered, turn-ordered, first-ordered}
 use Rattle.gw_rules.proofs.RecordRowLemmas.{OrderLaws}
@@ -21,6 +22,7 @@ use Rattle.gw_books.proofs.BeginHoldsLemmas.{begin-holds, first-holds, read-hold
 use Rattle.gw_books.proofs.CallHoldsLemmas.{cut-pt-holds, cut-till-holds, link-failed-holds, linked-holds, sent-pt-holds, sent-till-holds}
 use Rattle.gw_books.proofs.HandleLemmas.{handle-holds}
 use Rattle.gw_books.proofs.HandleNumberLemmas.{handle-numbers}
+use Rattle.gw_books.proofs.HandledLemmas.{IsItemHandled, first-handled, first-stands, stands-begun, stands-read}
 use Rattle.gw_books.proofs.Holding.{Holds, TurnHolds}
 use Rattle.gw_books.proofs.HonestLemmas.{honest-back}
 use Rattle.gw_books.proofs.Numbering.{Numbered, RowHolds, RowNumbers}
@@ -34,21 +36,21 @@ use Rattle.gw_books.proofs.TurnNumberLemmas.{first-numbered, read-numbers, turn-
 -- ---- each step
 
 -- each item's row
-row-holds : LedgerLaws → (item : RoundItem) → RowHolds item
-row-holds laws (Crowded till) = crowded-holds till
-row-holds laws (Message till bytes) = message-holds till bytes
-row-holds laws (Asked till as_read) = asked-holds laws till as_read
-row-holds laws (Unframed till) = unframed-holds till
-row-holds laws (Gone till) = gone-holds till
-row-holds laws (Greet number apdu) = greet-holds number apdu
-row-holds laws (Handle number apdu) = handle-holds laws number apdu
-row-holds laws (Serve number till header request) = serve-holds laws number till header request
-row-holds laws (NextWaiting number) = next-waiting-holds number
-row-holds laws (Oversized number) = oversized-holds number
-row-holds laws (LinkLost number) = link-lost-holds number
-row-holds laws (Late number) = late-holds number
-row-holds laws (Overdue key) = overdue-holds key
-row-holds laws (Due number) = due-holds number
+row-holds : LedgerLaws → (item : RoundItem) → IsItemHandled item → RowHolds item
+row-holds laws (Crowded till) handled = crowded-holds till
+row-holds laws (Message till bytes) handled = message-holds till bytes
+row-holds laws (Asked till as_read) handled = asked-holds laws till as_read
+row-holds laws (Unframed till) handled = unframed-holds till
+row-holds laws (Gone till) handled = gone-holds till
+row-holds laws (Greet number apdu) handled = greet-holds number apdu
+row-holds laws (Handle number apdu) handled = handle-holds laws number apdu handled
+row-holds laws (Serve number till header request) handled = serve-holds laws number till header request
+row-holds laws (NextWaiting number) handled = next-waiting-holds number
+row-holds laws (Oversized number) handled = oversized-holds number
+row-holds laws (LinkLost number) handled = link-lost-holds number
+row-holds laws (Late number) handled = late-holds number
+row-holds laws (Overdue key) handled = overdue-holds key
+row-holds laws (Due number) handled = due-holds number
 
 -- and its trace numbers
 numbers-of : LedgerLaws → (item : RoundItem) → RowNumbers item
@@ -98,23 +100,24 @@ pub record HoldsNumbered (v : View) (past : Past) (book : List BookedEntry) : Ty
 
 module _ (orders : OrderLaws) (laws : LedgerLaws) (book : List BookedEntry) where
   -- what holds before moves of a lawful course holds after them
-  course-both : (log : List Turn) (v : View) (past : Past) (moves : List Move) → Ordered log v → IsCourse v moves → Holds v past book → Numbered v past book → Honest (past_from v past moves) book
+  course-both : (log : List Turn) (v : View) (past : Past) (moves : List Move) → Stands log v → Ordered log v → IsCourse v moves → Holds v past book → Numbered v past book → Honest (past_from v past moves) book
       → HoldsNumbered (view_from v moves) (past_from v past moves) book
-  course-both log v past [] o c holds numbers honest = record { holds = holds; numbers = numbers }
-  course-both log v past (Begin ∷ moves) o c holds numbers honest =
+  course-both log v past [] s o c holds numbers honest = record { holds = holds; numbers = numbers }
+  course-both log v past (Begin ∷ moves) s o c holds numbers honest =
       let now : Honest (past_after v past Begin) book = honest-back (after v Begin) (past_after v past Begin) moves book honest in
-      course-both log (after v Begin) (past_after v past Begin) moves (begin-ordered orders log v o c.0) c.1 (begin-holds (row-holds laws) log v past book o c.0 holds numbers now)
-      (begin-numbers (row-holds laws) (numbers-of laws) log v past book o c.0 holds numbers now) honest
-  course-both log v past (Read as_read ∷ moves) o c holds numbers honest =
-      course-both log (after v (Read as_read)) (past_after v past (Read as_read)) moves (read-ordered log v as_read o c.0) c.1 (read-holds log v past book as_read o c.0 holds)
+      course-both log (after v Begin) (past_after v past Begin) moves (stands-begun log v s c.0) (begin-ordered orders log v o c.0) c.1
+      (begin-holds (row-holds laws) log v past book o c.0 (λ item rest is. first-handled log v item rest s is) holds numbers now)
+      (begin-numbers (row-holds laws) (numbers-of laws) log v past book o c.0 (λ item rest is. first-handled log v item rest s is) holds numbers now) honest
+  course-both log v past (Read as_read ∷ moves) s o c holds numbers honest =
+      course-both log (after v (Read as_read)) (past_after v past (Read as_read)) moves (stands-read log v as_read s c.0) (read-ordered log v as_read o c.0) c.1 (read-holds log v past book as_read o c.0 holds)
       (read-numbers log v past book as_read o c.0 holds numbers) honest
-  course-both log v past (Make turn ∷ moves) o c holds numbers honest =
-      course-both (log ++ turn ∷ []) (after v (Make turn)) (past_after v past (Make turn)) moves (turn-ordered orders log v turn o c.0) c.1 (turn-holds laws turn log v past book o c.0 holds)
+  course-both log v past (Make turn ∷ moves) s o c holds numbers honest =
+      course-both (log ++ turn ∷ []) (after v (Make turn)) (past_after v past (Make turn)) moves (stands-more log v (Make turn ∷ []) s (c.0, tt)) (turn-ordered orders log v turn o c.0) c.1 (turn-holds laws turn log v past book o c.0 holds)
       (turn-numbers laws turn log v past book o c.0 holds numbers) honest
 
   -- so it does from the first turn on
   pub holds-along : (moves : List Move) → IsCourse at_first moves → Honest (past_of moves) book → HoldsNumbered (view_from at_first moves) (past_of moves) book
-  holds-along moves lawful honest = course-both [] at_first no_past moves first-ordered lawful (first-holds book) (first-numbered book) honest
+  holds-along moves lawful honest = course-both [] at_first no_past moves first-stands first-ordered lawful (first-holds book) (first-numbered book) honest
 
 -- the records that are kept after a lean course may come each after those before it
 pub lean-folds : OrderLaws → (log : List Turn) (moves : List Move) → IsLeanCourse log moves → AreFolded (view_from at_first moves).scene.kept

@@ -1,5 +1,5 @@
 -- What holds along a lawful course of what has happened, and of a book that is honest for it.
-use Rattle.std.specs.Prelude.{◌≡◌, ◌⊎◌, ◌≤◌, ◌<◌, ℕ, ◌^◌, ◌==◌, nat_lt, Bool, true, false, ◌&&◌, ◌||◌, not, bytes_eq, List, [], ◌∷◌, ◌++◌, length, find, slice_get, Some}
+use Rattle.std.specs.Prelude.{◌≡◌, ◌⊎◌, ◌≤◌, ◌<◌, ℕ, ◌^◌, ◌==◌, nat_lt, Bool, true, false, ◌&&◌, ◌||◌, not, bytes_eq, codes, IfSome, List, [], ◌∷◌, ◌++◌, length, find, slice_get, Some}
 use Rattle.std.specs.List.{list_any, list_all}
 use Rattle.gw_base.specs.Transaction.{transaction_text}
 use Rattle.gw_base.specs.declared.key.Key.{Key}
@@ -8,6 +8,8 @@ use Rattle.json_text.specs.Canonical.{canonical}
 use Rattle.json_text.specs.Spellable.{IsSpellable}
 use Rattle.json_text.specs.Tree.{Tree}
 use Rattle.sale_values.specs.Money.{money_text}
+use Rattle.sale_values.specs.declared.header.Header.{Header}
+use Rattle.sale_reply.specs.Limits.{IsHeaderWithinLimits}
 use Rattle.zvt_msg.specs.declared.command.Command.{Command}
 use Rattle.zvt_msg.specs.declared.command.Command.TheVariants as command
 use Rattle.jrn_record.specs.declared.records.Deal.{Deal}
@@ -21,6 +23,7 @@ use Rattle.gw_ledger.specs.Fold.{AreFolded}
 use Rattle.gw_ledger.specs.Keys.{intent_key, slot_of}
 use Rattle.gw_ledger.specs.Slots.{asks_payment, intent_at}
 use Rattle.xlate.specs.Reply.{deal_category}
+use Rattle.gw_owes.specs.declared.terminal.Service.{Service}
 use Rattle.gw_owes.specs.declared.terminal.Service.TheVariants.{Transaction, EndOfDay, Display}
 use Rattle.gw_owes.specs.declared.terminal.Standing.{Standing}
 use Rattle.gw_owes.specs.declared.terminal.Standing.TheVariants.{Unlinked, Registering, Enquiring, Ready, Serving, Aside}
@@ -29,7 +32,7 @@ use Rattle.gw_owes.specs.Calls.{Sending, Ask, Acknowledge, Refuse, OwedCall, Sen
 use Rattle.gw_owes.specs.Core.{Core}
 use Rattle.gw_owes.specs.Dialogues.{AllHaveDialogues, HasItsDialogue}
 use Rattle.gw_owes.specs.Items.{RoundItem, Crowded, Message, Asked, Unframed, Gone, Greet, Handle, Serve, NextWaiting, Oversized, LinkLost, Late, Overdue, Due}
-use Rattle.gw_owes.specs.RecordLaws.{IsInOrder}
+use Rattle.gw_owes.specs.RecordLaws.{AreResultsWithinLimits, IsInOrder}
 use Rattle.gw_owes.specs.Reply.{ReplyValue, reply_value_tree}
 use Rattle.gw_owes.specs.Row.{Known, Row}
 use Rattle.gw_rules.specs.Lawful.{AllowedTurn, IsRead}
@@ -40,7 +43,7 @@ use Rattle.gw_rules.specs.Stage.{is_round, is_broken}
 use Rattle.gw_rules.specs.TranscriptLaws.{cut_owed}
 use Rattle.gw_rules.specs.View.{View, Move, Read, Make, after}
 use Rattle.gw_rules.proofs.RecordOrderLemmas.{Ordered}
-use Rattle.gw_books.specs.Past.{Occasion, SentCommand, MadeLink, HeardEnd, SentReply, MadePoll, Past, no_past, occasion_of, ends_of, past_after}
+use Rattle.gw_books.specs.Past.{Occasion, SentCommand, MadeLink, HeardEnd, SentReply, MadePoll, Past, no_past, occasion_of, ends_of, past_after, waiting_keys}
 use Rattle.gw_books.specs.Books.{BookedEntry, Honest}
 use Rattle.gw_books.specs.Said.{Said, all_said, IsFramed}
 use Rattle.gw_books.specs.SaidLaws.{said_by_reply}
@@ -147,26 +150,26 @@ pub record SaysSuccess (records : List Record) (said : Said) : Type 0 where
   pub transaction_is : said.transaction ≡ transaction_text says.outcome.number says.outcome.receipt says.outcome.slot
   pub amount_is : said.amount ≡ money_text says.outcome.amount
 
--- a reply that is sent with these records, for this
-abbrev pub sent_with : List Record → Occasion → SentReply
-sent_with records occasion = record { place = 0; bytes = []; occasion = occasion; kept = records; waiting = [] }
+-- a reply that is sent with these records, while these keys wait, for this
+abbrev pub sent_with : List Record → List Key → Occasion → SentReply
+sent_with records waiting occasion = record { place = 0; bytes = []; occasion = occasion; kept = records; waiting = waiting }
 
--- what is said is true of the records, by what it is said for
-pub record IsSaidTrue (records : List Record) (occasion : Occasion) (said : Said) : Type 0 where
+-- what is said is true of the records and of the keys that wait, by what it is said for
+pub record IsSaidTrue (records : List Record) (waiting : List Key) (occasion : Occasion) (said : Said) : Type 0 where
   pub success : (is_transaction said && is_success said) ≡ true → SaysSuccess records said
   pub refusal : (is_transaction said && (not (is_success said) && said.has_poi_data)) ≡ true → SaysOutcome records said false
-  pub unaccepted : unaccepted_agrees no_past [] (sent_with records occasion) said ≡ true
-  pub not_found : not_found_agrees no_past [] (sent_with records occasion) said ≡ true
-  pub in_progress : in_progress_agrees no_past [] (sent_with records occasion) said ≡ true
+  pub unaccepted : unaccepted_agrees no_past [] (sent_with records waiting occasion) said ≡ true
+  pub not_found : not_found_agrees no_past [] (sent_with records waiting occasion) said ≡ true
+  pub in_progress : in_progress_agrees no_past [] (sent_with records waiting occasion) said ≡ true
 
 -- the message of the reply can be spelled, and its length fits its frame
 pub record IsReplyWithin (reply : ReplyValue) : Type 0 where
   pub spellable : IsSpellable (reply_value_tree reply)
   pub small : length (canonical (reply_value_tree reply)) < 2 ^ 32
 
--- all that the reply says is true of the records
-abbrev pub IsReplyTrue : List Record → Occasion → ReplyValue → Type 0
-IsReplyTrue records occasion reply = (said : Said) → In said (said_by_reply reply) → IsSaidTrue records occasion said
+-- all that the reply says is true of the records and of the keys that wait
+abbrev pub IsReplyTrue : List Record → List Key → Occasion → ReplyValue → Type 0
+IsReplyTrue records waiting occasion reply = (said : Said) → In said (said_by_reply reply) → IsSaidTrue records waiting occasion said
 
 -- the first records of these
 abbrev pub IsFirstOf : List Record → List Record → Type 0
@@ -175,7 +178,7 @@ IsFirstOf first records = (more : List Record) × (records ≡ first ++ more)
 -- the reply that was sent is true of the records with which it was sent, and so are their Outcomes
 pub record IsSentTrue (commands : List SentCommand) (book : List BookedEntry) (reply : SentReply) : Type 0 where
   pub outcomes : AreOutcomesTrue commands book reply.place reply.kept
-  pub says : (message : Tree) → IsFramed reply.bytes message → (said : Said) → In said (all_said message) → IsSaidTrue reply.kept reply.occasion said
+  pub says : (message : Tree) → IsFramed reply.bytes message → (said : Said) → In said (all_said message) → IsSaidTrue reply.kept reply.waiting reply.occasion said
 
 -- ---- what is owed
 
@@ -209,13 +212,13 @@ IsSendingSound records core commands number (Ask asked) = IsCommandSound records
 IsSendingSound records core commands number Acknowledge = Unit {0}
 IsSendingSound records core commands number Refuse = Unit {0}
 
--- a reply that is owed can be spelled, and is true of the records, once they have what is owed before it
-pub record IsReplySound (records : List Record) (occasion : Occasion) (reply : ReplyValue) : Type 0 where
+-- a reply that is owed can be spelled, and is true of the records, once they have what is owed before it, and of the keys that wait
+pub record IsReplySound (records : List Record) (waiting : List Key) (occasion : Occasion) (reply : ReplyValue) : Type 0 where
   pub within : IsReplyWithin reply
-  pub says : IsReplyTrue records occasion reply
+  pub says : IsReplyTrue records waiting occasion reply
 
 abbrev pub IsCallSound : List Record → Core → List SentCommand → Occasion → OwedCall → Type 0
-IsCallSound records core commands occasion (SendTill till reply) = IsReplySound records occasion reply
+IsCallSound records core commands occasion (SendTill till reply) = IsReplySound records (waiting_keys core) occasion reply
 IsCallSound records core commands occasion (SendPt number sending) = IsSendingSound records core commands number sending
 IsCallSound records core commands occasion (LinkPt number) = Unit {0}
 IsCallSound records core commands occasion (WriteBody slot the_record) = Unit {0}
@@ -292,20 +295,33 @@ IsServingSound records commands poi (Serving (EndOfDay header period) last) = Un
 IsServingSound records commands poi (Serving (Display header outputs) last) = Unit {0}
 IsServingSound records commands poi (Aside before reported) = Unit {0}
 
--- a terminal that serves serves a payment or a reversal
-abbrev pub ServesTransaction : Standing → Type 0
-ServesTransaction (Unlinked due) = Unit {0}
-ServesTransaction Registering = Unit {0}
-ServesTransaction Enquiring = Unit {0}
-ServesTransaction (Ready last) = Unit {0}
-ServesTransaction (Serving (Transaction slot) last) = Unit {0}
-ServesTransaction (Serving (EndOfDay header period) last) = ⊥
-ServesTransaction (Serving (Display header outputs) last) = ⊥
-ServesTransaction (Aside before reported) = Unit {0}
+-- it is no header of a payment or a reversal
+abbrev pub IsNoTransaction : Header → Type 0
+IsNoTransaction header = (bytes_eq header.category (codes "Payment") || bytes_eq header.category (codes "Reversal")) ≡ false
 
--- so does each
-abbrev pub ServeTransactions : Core → Type 0
-ServeTransactions core = (number : ℕ) (terminal : Terminal) → slice_get core.terminals number ≡ Some terminal → ServesTransaction terminal.standing
+-- the header of what is served beside payments and reversals lies within the limits of a reply, and is no other's
+pub record IsHeaderBeside (header : Header) : Type 0 where
+  pub within : IsHeaderWithinLimits header
+  pub apart : IsNoTransaction header
+
+-- what a reply to an end of day or a display has of it can be said
+abbrev pub IsServiceRepliable : Service → Type 0
+IsServiceRepliable (Transaction slot) = Unit {0}
+IsServiceRepliable (EndOfDay header period) = IsHeaderBeside header
+IsServiceRepliable (Display header results) = IsHeaderBeside header × IfSome results AreResultsWithinLimits
+
+-- so it is of what a terminal of this standing serves
+abbrev pub IsRepliable : Standing → Type 0
+IsRepliable (Unlinked due) = Unit {0}
+IsRepliable Registering = Unit {0}
+IsRepliable Enquiring = Unit {0}
+IsRepliable (Ready last) = Unit {0}
+IsRepliable (Serving service last) = IsServiceRepliable service
+IsRepliable (Aside before reported) = Unit {0}
+
+-- so it is of each
+abbrev pub AreRepliable : Core → Type 0
+AreRepliable core = (number : ℕ) (terminal : Terminal) → slice_get core.terminals number ≡ Some terminal → IsRepliable terminal.standing
 
 -- ---- links
 
@@ -362,7 +378,7 @@ pub record Holds (v : View) (past : Past) (book : List BookedEntry) : Type 0 whe
   -- but of a terminal whose command is still owed, or its cut
   pub serving : is_broken v.scene.stage ≡ false → (number : ℕ) (terminal : Terminal) → slice_get v.scene.core.terminals number ≡ Some terminal
       → charge_owed number v.calls ≡ false → cut_owed number v.calls ≡ false → IsServingSound (records_coming v) past.commands terminal.pt.poi terminal.standing
-  pub transactions : ServeTransactions v.scene.core
+  pub repliable : AreRepliable v.scene.core
   pub dialogues : is_broken v.scene.stage ≡ false → (number : ℕ) (terminal : Terminal) → slice_get v.scene.core.terminals number ≡ Some terminal → cut_owed number v.calls ≡ false → HasItsDialogue terminal
   pub inside : is_round v.scene.stage ≡ true → deed_owed v.calls ≡ true → is_inside past.occasion ≡ true
   pub deeds : list_all is_inside past.deeds ≡ true
@@ -392,7 +408,7 @@ pub record HoldsBetween (known : Known) (past : Past) (book : List BookedEntry) 
   pub commands : AreKeyed known.kept past.place past.commands
   pub outcomes : AreOutcomesTrue past.commands book past.place known.kept
   pub serving : (number : ℕ) (terminal : Terminal) → slice_get known.core.terminals number ≡ Some terminal → IsServingSound known.kept past.commands terminal.pt.poi terminal.standing
-  pub transactions : ServeTransactions known.core
+  pub repliable : AreRepliable known.core
   pub dialogues : AllHaveDialogues known.core
   pub links : (link : MadeLink) → In link past.lasting → IsLinkAtRest known.kept known.core past link
 
@@ -406,7 +422,7 @@ pub record HoldsAfterRow (known : Known) (past : Past) (book : List BookedEntry)
   pub calls : AreCallsSound (records_after known row) row.core past.commands past.occasion row.calls
   pub serving : (number : ℕ) (terminal : Terminal) → slice_get row.core.terminals number ≡ Some terminal
       → charge_owed number row.calls ≡ false → cut_owed number row.calls ≡ false → IsServingSound (records_after known row) past.commands terminal.pt.poi terminal.standing
-  pub transactions : ServeTransactions row.core
+  pub repliable : AreRepliable row.core
   pub inside : deed_owed row.calls ≡ true → is_inside past.occasion ≡ true
   pub handles_none : list_any is_handle row.items ≡ false
   pub links : (link : MadeLink) → In link past.lasting → IsLinkSound (records_after known row) row.core row.calls past link

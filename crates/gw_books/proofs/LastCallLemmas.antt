@@ -35,7 +35,7 @@ use Rattle.gw_rules.proofs.TranscriptLogLemmas.{image-there, there-image}
 use Rattle.gw_books.specs.Agrees.{is_inside}
 use Rattle.gw_books.specs.Books.{BookedEntry}
 use Rattle.gw_books.specs.Past.{Occasion, SentCommand, MadeLink, SentReply, Past}
-use Rattle.gw_books.proofs.Holding.{AreOutcomesTrue, AreFalling, AreKeyed, IsFirstOf, IsSentTrue, AreCallsSound, charges_terminal, charge_owed, deed_owed, IsServingSound, ServeTransactions, is_report_after, IsResolvedOn, IsOfTerminal, IsLinkSound, IsLinkAtRest, is_handle, Holds}
+use Rattle.gw_books.proofs.Holding.{AreOutcomesTrue, AreFalling, AreKeyed, IsFirstOf, IsSentTrue, AreCallsSound, charges_terminal, charge_owed, deed_owed, IsServingSound, AreRepliable, is_report_after, IsResolvedOn, IsOfTerminal, IsLinkSound, IsLinkAtRest, is_handle, Holds}
 use Rattle.gw_books.proofs.ListLemmas.{In}
 
 -- ---- while no round goes on, calls on the disk alone are owed
@@ -203,7 +203,7 @@ pub record Leaves (v w : View) (past next : Past) (book : List BookedEntry) : Ty
   pub calls : AreCallsSound (records_coming v) w.scene.core next.commands past.occasion w.calls
   pub serving : (number : ℕ) (terminal : Terminal) → slice_get w.scene.core.terminals number ≡ Some terminal → charge_owed number w.calls ≡ false → cut_owed number w.calls ≡ false
       → IsServingSound (records_coming v) next.commands terminal.pt.poi terminal.standing
-  pub transactions : ServeTransactions w.scene.core
+  pub repliable : AreRepliable w.scene.core
   pub dialogues : (number : ℕ) (terminal : Terminal) → slice_get w.scene.core.terminals number ≡ Some terminal → cut_owed number w.calls ≡ false → HasItsDialogue terminal
   pub no_deed : deed_owed w.calls ≡ false
   pub deeds : list_all is_inside next.deeds ≡ true
@@ -224,7 +224,7 @@ holds-on v w past book commands links lasting replies deeds h l =
       outcomes = subst (λ records. AreOutcomesTrue commands book next.place records) (sym l.coming) l.outcomes;
       calls = subst (λ records. AreCallsSound records w.scene.core commands past.occasion w.calls) (sym l.coming) l.calls;
       serving = λ clear number terminal found no_charge no_cut. subst (λ records. IsServingSound records commands terminal.pt.poi terminal.standing) (sym l.coming) (l.serving number terminal found no_charge no_cut);
-      transactions = l.transactions;
+      repliable = l.repliable;
       dialogues = λ clear number terminal found no_cut. l.dialogues number terminal found no_cut;
       inside = λ round deed. no-true (sym l.no_deed ∙ deed);
       deeds = l.deeds;

@@ -5,10 +5,13 @@ pub mod BookLemmas
 pub mod CallHoldsLemmas
 pub mod CallNumberLemmas
 pub mod CourseLemmas
+pub mod DayExampleLemmas
+pub mod DayTextLemmas
 pub mod DisagreeLemmas
 pub mod EventLimitLemmas
 pub mod ExampleLemmas
 pub mod FrameRowLemmas
+pub mod HandledLemmas
 pub mod HandleLemmas
 pub mod HandleNumberLemmas
 pub mod HeadlineLemmas
@@ -20,12 +23,12 @@ pub mod LastCallLemmas
 pub mod ListLemmas
 pub mod MeaningLemmas
 pub mod MessageLemmas
+pub mod NoteLemmas
 pub mod NumberStepLemmas
 pub mod Numbering
 pub mod PastLawLemmas
 pub mod PaymentTextLemmas
 pub mod QuietRowLemmas
-pub mod ReadLimitLemmas
 pub mod RecordMoreLemmas
 pub mod RecordNumberLemmas
 pub mod ReplyLimitLemmas
@@ -46,7 +49,9 @@ pub mod SentBytesLemmas
 pub mod SentCommandLemmas
 pub mod SentFrameLemmas
 pub mod ServeLemmas
+pub mod ServedReplyLemmas
 pub mod StepTruthLemmas
 pub mod TillLemmas
 pub mod TurnHoldsLemmas
 pub mod TurnNumberLemmas
+pub mod WaitingLemmas

@@ -1,5 +1,5 @@
 -- Only an enquiry reports, and what an end is by what its message means.
-use Rattle.std.proofs.Common.{◌≡◌, ◌≢◌, ◌∙◌, ℕ, Bool, true, false, ◌||◌, cond, eqb, refl, ap, subst}
+use Rattle.std.proofs.Common.{◌≡◌, ◌≢◌, ◌∙◌, ℕ, Bool, true, false, ◌||◌, cond, eqb, refl, sym, ap, subst}
 use Rattle.std.specs.Prelude.{map, Option, Some, None}
 use Rattle.std.specs.List.{list_any}
 use Rattle.std.specs.Option.{option_map, option_to_list}
@@ -18,12 +18,14 @@ use Rattle.zvt_talk.specs.Dialogue.{is_display}
 use Rattle.zvt_talk.specs.Table.{acknowledged, approved_with, declined, declined_unless, full_figures, meaning_when_asked, service_completed, service_result, transaction_completed, transaction_result}
 use Rattle.zvt_talk.specs.Talk.{TalkFacts}
 use Rattle.zvt_talk.specs.TalkSteps.{meaning_in_phase}
+use Rattle.gw_owes.specs.declared.terminal.Service.{Service}
 use Rattle.gw_owes.specs.declared.terminal.Service.TheVariants.{Transaction, EndOfDay, Display}
 use Rattle.gw_owes.specs.declared.terminal.Standing.{Standing}
 use Rattle.gw_owes.specs.declared.terminal.Standing.TheVariants.{Unlinked, Registering, Enquiring, Ready, Serving, Aside}
 use Rattle.gw_owes.specs.declared.terminal.Terminal.{Terminal}
-use Rattle.gw_owes.specs.Dialogues.{IsDialogueOf, RunsTransaction, runs_transaction}
+use Rattle.gw_owes.specs.Dialogues.{IsDialogueOf, IsKindOfService, RunsService, runs_transaction}
 use Rattle.gw_owes.specs.Handling.{meaning_at, meaning_for, taken_as}
+use Rattle.gw_owes.proofs.HandlingLemmas.{IsShown}
 use Rattle.gw_books.specs.Agrees.{is_report}
 use Rattle.gw_books.specs.Past.{Ending, Approved, Declined, HeardEnd, Past, ending_at, ending_with, ends_by}
 
@@ -46,6 +48,20 @@ IsReport heard.Stray = ⊥
 -- it is none
 abbrev pub IsNoReport : Heard → Type 0
 IsNoReport meant = IsReport meant → ⊥
+
+-- what is shown or printed is none
+pub shown-no-report : (meant : Heard) → IsShown meant → IsNoReport meant
+shown-no-report (heard.Begun stop) is_shown = absurd is_shown
+shown-no-report (heard.Note intermediate_status) is_shown = λ as_report. as_report
+shown-no-report heard.Line is_shown = λ as_report. as_report
+shown-no-report heard.Block is_shown = λ as_report. as_report
+shown-no-report heard.Seen is_shown = absurd is_shown
+shown-no-report (heard.Approved figures) is_shown = absurd is_shown
+shown-no-report heard.Done is_shown = absurd is_shown
+shown-no-report (heard.Told trace figures result_code) is_shown = absurd is_shown
+shown-no-report (heard.Declined result_code trace) is_shown = absurd is_shown
+shown-no-report heard.Unclear is_shown = absurd is_shown
+shown-no-report heard.Stray is_shown = absurd is_shown
 
 neither : (b : Bool) (one other : Heard) → IsNoReport one → IsNoReport other → IsNoReport (cond b one other)
 neither true one other p q = p
@@ -156,6 +172,54 @@ transactions-no-report Reversal is none phase message = λ as_report. payment-no
 transactions-no-report EndOfDayDialogue is none phase message = absurd cc
 transactions-no-report DisplayDialogue is none phase message = absurd cc
 
+-- ---- no end of day and no display reports
+
+-- a message means the same of an end of day as of a registration
+as-of-registration : (none : ℕ) (phase : Phase) (message : MessageValue) → meaning_in_phase EndOfDayDialogue none phase message ≡ meaning_in_phase Registration none phase message
+as-of-registration none (Asked stop_wished) Ack = refl
+as-of-registration none (Asked stop_wished) (Nack error_code) = refl
+as-of-registration none (Asked stop_wished) (Intermediate intermediate_status) = refl
+as-of-registration none (Asked stop_wished) (Line text) = refl
+as-of-registration none (Asked stop_wished) (Block objects) = refl
+as-of-registration none (Asked stop_wished) (Status fields) = refl
+as-of-registration none (Asked stop_wished) Completion = refl
+as-of-registration none (Asked stop_wished) (Abort result_code) = refl
+as-of-registration none (Asked stop_wished) Other = refl
+as-of-registration none (Begun stop_sent statuses) Ack = refl
+as-of-registration none (Begun stop_sent statuses) (Nack error_code) = refl
+as-of-registration none (Begun stop_sent statuses) (Intermediate intermediate_status) = refl
+as-of-registration none (Begun stop_sent statuses) (Line text) = refl
+as-of-registration none (Begun stop_sent statuses) (Block objects) = refl
+as-of-registration none (Begun stop_sent statuses) (Status fields) = refl
+as-of-registration none (Begun stop_sent statuses) Completion = refl
+as-of-registration none (Begun stop_sent statuses) (Abort None) = refl
+as-of-registration none (Begun stop_sent statuses) (Abort (Some result_code)) = refl
+as-of-registration none (Begun stop_sent statuses) Other = refl
+as-of-registration none (Ended stop_sent) message = refl
+
+day-no-report : (none : ℕ) (phase : Phase) (message : MessageValue) → IsNoReport (meaning_in_phase EndOfDayDialogue none phase message)
+day-no-report none phase message = λ as_report. registration-no-report none phase message (subst IsReport (as-of-registration none phase message) as_report)
+
+display-no-report : (none : ℕ) (phase : Phase) (message : MessageValue) → IsNoReport (meaning_in_phase DisplayDialogue none phase message)
+display-no-report none (Asked stop_wished) message = asked-no-report DisplayDialogue stop_wished message
+display-no-report none (Begun stop_sent statuses) Ack = λ as_report. as_report
+display-no-report none (Begun stop_sent statuses) (Nack error_code) = λ as_report. as_report
+display-no-report none (Begun stop_sent statuses) (Intermediate intermediate_status) = λ as_report. as_report
+display-no-report none (Begun stop_sent statuses) (Line text) = λ as_report. as_report
+display-no-report none (Begun stop_sent statuses) (Block objects) = λ as_report. as_report
+display-no-report none (Begun stop_sent statuses) (Status fields) = λ as_report. as_report
+display-no-report none (Begun stop_sent statuses) Completion = λ as_report. as_report
+display-no-report none (Begun stop_sent statuses) (Abort None) = λ as_report. as_report
+display-no-report none (Begun stop_sent statuses) (Abort (Some result_code)) = neither (eqb result_code 0) heard.Unclear heard.Unclear (λ as_report. as_report) (λ as_report. as_report)
+display-no-report none (Begun stop_sent statuses) Other = λ as_report. as_report
+display-no-report none (Ended stop_sent) message = λ as_report. as_report
+
+-- so nothing that is served has such a report
+served-no-report : (service : Service) (dialogue_kind : DialogueKind) → IsKindOfService service dialogue_kind → (none : ℕ) (phase : Phase) (message : MessageValue) → IsNoReport (meaning_in_phase dialogue_kind none phase message)
+served-no-report (Transaction slot) dialogue_kind is none phase message = transactions-no-report dialogue_kind is none phase message
+served-no-report (EndOfDay header period) dialogue_kind is none phase message = subst (λ (k : DialogueKind). IsNoReport (meaning_in_phase k none phase message)) (sym is) (day-no-report none phase message)
+served-no-report (Display header results) dialogue_kind is none phase message = subst (λ (k : DialogueKind). IsNoReport (meaning_in_phase k none phase message)) (sym is) (display-no-report none phase message)
+
 -- ---- only an enquiry does
 
 runs-no-report : (dialogue_kind : DialogueKind) (terminal : Terminal) (message : MessageValue) (facts : TalkFacts) → terminal.talk ≡ Some facts → facts.dialogue_kind ≡ dialogue_kind
@@ -166,8 +230,8 @@ runs-no-report dialogue_kind terminal message facts talk_is kind_is never as_rep
     ∙ ap (λ (k : DialogueKind). meaning_in_phase k facts.none facts.phase (taken_as terminal.awaited message)) kind_is in
     never facts.none facts.phase (taken_as terminal.awaited message) (subst IsReport means as_report)
 
-serves-no-report : (terminal : Terminal) (message : MessageValue) → RunsTransaction terminal.talk terminal.awaited → IsNoReport (meaning_at terminal message)
-serves-no-report terminal message runs = runs-no-report runs.facts.dialogue_kind terminal message runs.facts runs.talk_is refl (transactions-no-report runs.facts.dialogue_kind runs.kind_is)
+serves-no-report : (terminal : Terminal) (message : MessageValue) (service : Service) → RunsService service terminal.talk terminal.awaited → IsNoReport (meaning_at terminal message)
+serves-no-report terminal message service runs = runs-no-report runs.facts.dialogue_kind terminal message runs.facts runs.talk_is refl (served-no-report service runs.facts.dialogue_kind runs.kind_is)
 
 none-no-report : (terminal : Terminal) (message : MessageValue) → terminal.talk ≡ None → IsNoReport (meaning_at terminal message)
 none-no-report terminal message none as_report = subst IsReport (ap (λ (talk : Option TalkFacts). meaning_for talk (taken_as terminal.awaited message)) none) as_report
@@ -178,9 +242,7 @@ report-enquires terminal message (Unlinked due) runs apart = none-no-report term
 report-enquires terminal message Registering runs apart = runs-no-report Registration terminal message runs.facts runs.talk_is runs.kind_is registration-no-report
 report-enquires terminal message Enquiring runs apart = absurd (apart refl)
 report-enquires terminal message (Ready last) runs apart = none-no-report terminal message runs
-report-enquires terminal message (Serving (Transaction slot) last) runs apart = serves-no-report terminal message runs
-report-enquires terminal message (Serving (EndOfDay header period) last) runs apart = absurd runs
-report-enquires terminal message (Serving (Display header outputs) last) runs apart = absurd runs
+report-enquires terminal message (Serving service last) runs apart = serves-no-report terminal message service runs
 report-enquires terminal message (Aside before reported) runs apart = none-no-report terminal message runs
 
 -- ---- ends

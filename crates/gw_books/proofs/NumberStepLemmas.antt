@@ -7,6 +7,7 @@ use Rattle.gw_site.specs.declared.turn.Turn.{Turn}
 use Rattle.zvt_apdu.specs.DecodeStream.{DecodedApdus}
 use Rattle.zvt_apdu.specs.Grammar.{ApduValue}
 use Rattle.jrn_record.specs.declared.records.Record.{Record}
+use Rattle.gw_owes.specs.declared.terminal.Service.TheVariants.{Transaction, EndOfDay, Display}
 use Rattle.gw_owes.specs.declared.terminal.Standing.{Standing}
 use Rattle.gw_owes.specs.declared.terminal.Standing.TheVariants.{Unlinked, Registering, Enquiring, Ready, Serving, Aside}
 use Rattle.gw_owes.specs.declared.terminal.Terminal.{Terminal}
@@ -156,7 +157,11 @@ standing-stays past now book poi Enquiring commands links places is =
     subst (λ (all : List MadeLink). IsLinkedSince all now.commands poi) (sym links) (subst (λ (sent : List SentCommand). IsLinkedSince past.links sent poi) (sym commands) is)
 standing-stays past now book poi (Ready last) commands links places is =
     subst (λ (sent : List SentCommand). IsReadyNumber book sent poi now.place last) (sym commands) (ready-later past.place now.place places book past.commands poi last is)
-standing-stays past now book poi (Serving service last) commands links places is = tt
+standing-stays past now book poi (Serving (Transaction slot) last) commands links places is = tt
+standing-stays past now book poi (Serving (EndOfDay header period) last) commands links places is =
+    subst (λ (sent : List SentCommand). IsReadyNumber book sent poi now.place last) (sym commands) (ready-later past.place now.place places book past.commands poi last is)
+standing-stays past now book poi (Serving (Display header results) last) commands links places is =
+    subst (λ (sent : List SentCommand). IsReadyNumber book sent poi now.place last) (sym commands) (ready-later past.place now.place places book past.commands poi last is)
 standing-stays past now book poi (Aside before reported) commands links places is = is
 
 -- one terminal becomes another

@@ -9,6 +9,8 @@ use Rattle.jrn_record.specs.declared.records.Record.{Record}
 use Rattle.gw_ledger.specs.Accounts.{open_slot, last_number_of}
 use Rattle.gw_ledger.specs.Keys.{intent_key}
 use Rattle.gw_ledger.specs.Slots.{intent_at}
+use Rattle.gw_owes.specs.declared.terminal.Service.{Service}
+use Rattle.gw_owes.specs.declared.terminal.Service.TheVariants.{Transaction, EndOfDay, Display}
 use Rattle.gw_owes.specs.declared.terminal.Standing.{Standing}
 use Rattle.gw_owes.specs.declared.terminal.Standing.TheVariants.{Unlinked, Registering, Enquiring, Ready, Serving, Aside}
 use Rattle.gw_owes.specs.declared.terminal.Terminal.{Terminal}
@@ -26,6 +28,7 @@ use Rattle.gw_rules.specs.View.{View, Begin, Read, Make, after}
 use Rattle.gw_rules.proofs.RecordOrderLemmas.{Ordered}
 use Rattle.gw_books.specs.Past.{SentCommand, MadeLink, Past, past_after}
 use Rattle.gw_books.specs.Books.{BookedEntry, Honest}
+use Rattle.gw_books.proofs.HandledLemmas.{IsItemHandled}
 use Rattle.gw_books.proofs.Holding.{Holds, HoldsAfterRow, HoldsBetween, begun_past, charge_owed, is_handle, records_after}
 use Rattle.gw_books.proofs.ListLemmas.{In}
 
@@ -114,13 +117,19 @@ pub record IsLinkedSince (links : List MadeLink) (commands : List SentCommand) (
   pub poi_is : link.poi ≡ poi
   pub later : (command : SentCommand) → In command commands → command.poi ≡ poi → command.place < link.place
 
+-- a terminal that serves an end of day or a display is as it was ready: neither has a trace number
+abbrev pub IsServiceNumbered : List SentCommand → ℕ → List BookedEntry → List ℕ → ℕ → Service → Type 0
+IsServiceNumbered commands place book poi last (Transaction slot) = Unit {0}
+IsServiceNumbered commands place book poi last (EndOfDay header period) = IsReadyNumber book commands poi place last
+IsServiceNumbered commands place book poi last (Display header results) = IsReadyNumber book commands poi place last
+
 -- beside an honest book: no terminal is set aside
 abbrev pub IsStandingNumbered : List MadeLink → List SentCommand → ℕ → List BookedEntry → List ℕ → Standing → Type 0
 IsStandingNumbered links commands place book poi (Unlinked due) = Unit {0}
 IsStandingNumbered links commands place book poi Registering = IsLinkedSince links commands poi
 IsStandingNumbered links commands place book poi Enquiring = IsLinkedSince links commands poi
 IsStandingNumbered links commands place book poi (Ready last) = IsReadyNumber book commands poi place last
-IsStandingNumbered links commands place book poi (Serving service last) = Unit {0}
+IsStandingNumbered links commands place book poi (Serving service last) = IsServiceNumbered commands place book poi last service
 IsStandingNumbered links commands place book poi (Aside before reported) = ⊥
 
 -- so it is of each terminal
@@ -215,14 +224,18 @@ pub record RowOrders (tills : List Connection) (known : Known) (item : RoundItem
   pub items : list_any is_due_item (row_of tills known item).items ≡ false
   pub none : is_due_item item ≡ true → (row_of tills known item).items ≡ []
 
+-- what is handled where the item that comes first does was heard
+abbrev pub IsFirstHandled : View → Type 0
+IsFirstHandled v = (item : RoundItem) (rest : List RoundItem) → v.items ≡ item ∷ rest → IsItemHandled item
+
 -- each move keeps what holds
 abbrev pub BeginHolds : Type 0
 BeginHolds =
-    (log : List Turn) (v : View) (past : Past) (book : List BookedEntry) → Ordered log v → Begins v → Holds v past book → Numbered v past book → Honest (past_after v past Begin) book → Holds (after v Begin) (past_after v past Begin) book
+    (log : List Turn) (v : View) (past : Past) (book : List BookedEntry) → Ordered log v → Begins v → IsFirstHandled v → Holds v past book → Numbered v past book → Honest (past_after v past Begin) book → Holds (after v Begin) (past_after v past Begin) book
 
 abbrev pub BeginNumbers : Type 0
 BeginNumbers =
-    (log : List Turn) (v : View) (past : Past) (book : List BookedEntry) → Ordered log v → Begins v → Holds v past book → Numbered v past book → Honest (past_after v past Begin) book → Numbered (after v Begin) (past_after v past Begin) book
+    (log : List Turn) (v : View) (past : Past) (book : List BookedEntry) → Ordered log v → Begins v → IsFirstHandled v → Holds v past book → Numbered v past book → Honest (past_after v past Begin) book → Numbered (after v Begin) (past_after v past Begin) book
 
 abbrev pub ReadNumbers : Type 0
 ReadNumbers =

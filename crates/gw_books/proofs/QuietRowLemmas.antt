@@ -13,9 +13,7 @@ use Rattle.zvt_msg.specs.Message.{MessageValue, Ack, Nack, Intermediate, Line, B
 use Rattle.zvt_msg.specs.MessageDecode.{decode_pt_message}
 use Rattle.zvt_talk.specs.Talk.{TalkFacts}
 use Rattle.jrn_record.specs.declared.records.Record.{Record}
-use Rattle.gw_owes.specs.declared.terminal.Service.TheVariants.{Transaction, EndOfDay, Display}
-use Rattle.gw_owes.specs.declared.terminal.Standing.{Standing}
-use Rattle.gw_owes.specs.declared.terminal.Standing.TheVariants.{Unlinked, Registering, Enquiring, Ready, Serving, Aside}
+use Rattle.gw_owes.specs.declared.terminal.Standing.TheVariants.{Unlinked}
 use Rattle.gw_owes.specs.declared.terminal.Terminal.{Terminal}
 use Rattle.gw_owes.specs.Calls.{OwedCall, LinkPt, CutTill, records_kept}
 use Rattle.gw_owes.specs.Core.{Core}
@@ -27,11 +25,13 @@ use Rattle.gw_owes.specs.ReadAs.{ReadAs, Request, Silent, NoMessage, NoJson}
 use Rattle.gw_owes.specs.RecordLaws.{IsReadFromTill}
 use Rattle.gw_owes.specs.Reply.{ReplyValue}
 use Rattle.gw_owes.specs.Requests.{reply_to, begun_by}
-use Rattle.gw_owes.specs.Row.{Known, Row, owing, owing_where, becoming}
+use Rattle.gw_owes.specs.Row.{Known, Row, owing, owing_where}
 use Rattle.gw_owes.specs.Rows.{asked_row, gone_row}
+use Rattle.gw_owes.specs.SessionRows.{session_succeeds}
 use Rattle.gw_owes.specs.Stops.{wishing}
 use Rattle.gw_owes.specs.Terminals.{terminal_becomes, with_terminal, reply_calls_to, reply_to_lost, unlinked_terminal, unlinks, forgets_till, core_without}
 use Rattle.gw_owes.proofs.HandlingLemmas.{by-where, each-terminal, each-linked}
+use Rattle.gw_owes.proofs.KeepingLemmas.{replies-keep-nothing}
 use Rattle.gw_owes.proofs.PaymentLemmas.{StopsAt}
 use Rattle.gw_owes.proofs.RecordLemmas.{LedgerLaws}
 use Rattle.gw_owes.proofs.SetLemmas.{new-is-there, others-stay, same-some}
@@ -40,11 +40,12 @@ use Rattle.gw_rules.proofs.LinkStateLemmas.{apart}
 use Rattle.gw_rules.proofs.RowFormLemmas.{form-begun}
 use Rattle.gw_rules.proofs.StageLemmas.{no-true}
 use Rattle.gw_rules.proofs.TranscriptLogLemmas.{image-there, there-image}
-use Rattle.gw_books.specs.Past.{Occasion, OfNothing, SentCommand, MadeLink, HeardEnd, Past, occasion_read, ends_of}
+use Rattle.gw_books.specs.Past.{Occasion, OfNothing, SentCommand, MadeLink, HeardEnd, Past, occasion_read, ends_of, waiting_keys}
 use Rattle.gw_books.specs.Books.{BookedEntry}
-use Rattle.gw_books.proofs.Holding.{AreOutcomesTrue, AreCallsSound, deed_owed, is_handle, IsServingSound, ServesTransaction, IsOfTerminal, IsLinkSound, IsLinkAtRest, HoldsBetween, HoldsAfterRow, records_after}
+use Rattle.gw_books.proofs.Holding.{AreOutcomesTrue, AreCallsSound, deed_owed, is_handle, IsServingSound, IsRepliable, IsOfTerminal, IsLinkSound, IsLinkAtRest, HoldsBetween, HoldsAfterRow, records_after}
 use Rattle.gw_books.proofs.Numbering.{RowHolds}
 use Rattle.gw_books.proofs.ReplyLimitLemmas.{asked-within}
+use Rattle.gw_books.proofs.ServedReplyLemmas.{lost-sound, replies-no-deed, replies-sound}
 use Rattle.gw_books.proofs.StepTruthLemmas.{asked-true}
 
 -- ---- terminals that stay, or lose their links
@@ -139,12 +140,12 @@ calm-serving records commands core number terminal was sound = by_standing was.s
         subst (λ (pt : Pt). IsServingSound records commands pt.poi terminal.standing) (sym was.pt_is) (subst (IsServingSound records commands was.old.pt.poi) (sym same) sound)
     by_standing (inr lost) = subst (IsServingSound records commands terminal.pt.poi) (sym lost.1) tt
 
-calm-serves : (core : Core) (number : ℕ) (terminal : Terminal) (was : WasThere core number terminal) → ServesTransaction was.old.standing → ServesTransaction terminal.standing
+calm-serves : (core : Core) (number : ℕ) (terminal : Terminal) (was : WasThere core number terminal) → IsRepliable was.old.standing → IsRepliable terminal.standing
 calm-serves core number terminal was serves = by_standing was.standing_is
   where
-    by_standing : (terminal.standing ≡ was.old.standing) ⊎ ((due : Option ℕ) × (terminal.standing ≡ Unlinked due)) → ServesTransaction terminal.standing
-    by_standing (inl same) = subst ServesTransaction (sym same) serves
-    by_standing (inr lost) = subst ServesTransaction (sym lost.1) tt
+    by_standing : (terminal.standing ≡ was.old.standing) ⊎ ((due : Option ℕ) × (terminal.standing ≡ Unlinked due)) → IsRepliable terminal.standing
+    by_standing (inl same) = subst IsRepliable (sym same) serves
+    by_standing (inr lost) = subst IsRepliable (sym lost.1) tt
 
 -- a link stays that of a terminal
 calm-of : (before after : Core) (link : MadeLink) → IsCalm before after → IsOfTerminal before link → IsOfTerminal after link
@@ -163,9 +164,9 @@ quiet-holds known past book occasion row h q calls =
       serving = λ number terminal found no_charge no_cut.
           let was = q.calm.was number terminal found in
           subst (λ l. IsServingSound l past.commands terminal.pt.poi terminal.standing) (sym same) (calm-serving known.kept past.commands known.core number terminal was (h.serving number was.old was.found));
-      transactions = λ number terminal found.
+      repliable = λ number terminal found.
           let was = q.calm.was number terminal found in
-          calm-serves known.core number terminal was (h.transactions number was.old was.found);
+          calm-serves known.core number terminal was (h.repliable number was.old was.found);
       inside = λ deed. no-true (sym q.no_deed ∙ deed);
       handles_none = q.handles_none;
       links = λ link lasts. subst (λ l. IsLinkSound l row.core row.calls (record past { occasion = occasion }) link) (sym same) (link_sound link (h.links link lasts));
@@ -184,6 +185,18 @@ pub stopped-quiet : (known : Known) (number : ℕ) (header : Header) (request : 
     → IsQuiet known (terminal_becomes known number (record (wishing terminal talk) { awaited = awaited }) calls)
 stopped-quiet known number header request terminal talk awaited calls at none_kept no_deed =
     record { calm = becomes-calm known.core number terminal (record (wishing terminal talk) { awaited = awaited }) at.found refl (inl refl); none_kept = none_kept; no_deed = no_deed; handles_none = refl }
+
+-- a Login or a Logout succeeds
+pub session-quiet : (known : Known) (till : ℕ) (header : Header) (request : SaleRequest) → IsQuiet known (session_succeeds known till header request)
+session-quiet known till header request = record {
+  calm = record {
+    was = λ number terminal found. record { old = terminal; found = found; pt_is = refl; standing_is = inl refl };
+    stays = λ number terminal found. record { new = terminal; found = found; pt_is = refl };
+  };
+  none_kept = refl;
+  no_deed = refl;
+  handles_none = refl;
+}
 
 -- a row that owes these calls and changes nothing
 pub owing-holds : (known : Known) (past : Past) (book : List BookedEntry) (occasion : Occasion) (calls : List OwedCall) (items : List RoundItem) → HoldsBetween known past book → records_kept calls ≡ [] → deed_owed calls ≡ false
@@ -287,28 +300,22 @@ due-holds number scene tills known past book core h numbered linked read honest 
     by-where (LeavesHolding known past book) known (owing known (LinkPt number ∷ [])) (is_due known.moment terminal.standing) (nothing-holds known past book OfNothing h)
     (λ due. owing-holds known past book OfNothing (LinkPt number ∷ []) [] h refl refl refl (tt, tt)))
 
-no-reply : (asker : Option ℕ) → reply_calls_to asker None ≡ []
-no-reply None = refl
-no-reply (Some till) = refl
-
--- the loss of a link owes no reply where no more than payments are served
-pub lost-unanswered : (asker : Option ℕ) (standing : Standing) → ServesTransaction standing → reply_calls_to asker (reply_to_lost standing) ≡ []
-lost-unanswered asker (Unlinked due) serves = no-reply asker
-lost-unanswered asker Registering serves = no-reply asker
-lost-unanswered asker Enquiring serves = no-reply asker
-lost-unanswered asker (Ready last) serves = no-reply asker
-lost-unanswered asker (Serving (Transaction slot) last) serves = no-reply asker
-lost-unanswered asker (Serving (EndOfDay header period) last) serves = absurd serves
-lost-unanswered asker (Serving (Display header outputs) last) serves = absurd serves
-lost-unanswered asker (Aside before reported) serves = no-reply asker
+-- the loss of a terminal's link leaves it unlinked, and owes no more than a reply
+pub unlinks-quiet : (known : Known) (number : ℕ) (terminal : Terminal) → slice_get known.core.terminals number ≡ Some terminal → IsQuiet known (unlinks known number terminal)
+unlinks-quiet known number terminal found = record {
+  calm = unlinked-calm known.core number terminal (unlinked_terminal terminal known.moment) _ found refl refl;
+  none_kept = (replies-keep-nothing terminal.asker (reply_to_lost terminal.standing)).no_records;
+  no_deed = replies-no-deed terminal.asker (reply_to_lost terminal.standing);
+  handles_none = refl;
+}
 
 -- a link that is lost leaves its terminal unlinked
 pub link-lost-holds : (number : ℕ) → RowHolds (LinkLost number)
 link-lost-holds number scene tills known past book core h numbered linked read honest =
     each-terminal (LeavesHolding known past book) known number (unlinks known number) (nothing-holds known past book OfNothing h) (λ terminal found.
-    subst (λ (calls : List OwedCall). LeavesHolding known past book (becoming (with_terminal known.core number (unlinked_terminal terminal known.moment)) calls)) (sym (lost-unanswered terminal.asker terminal.standing (h.transactions number terminal found)))
-    (quiet-holds known past book OfNothing (becoming (with_terminal known.core number (unlinked_terminal terminal known.moment)) []) h
-    (record { calm = unlinked-calm known.core number terminal (unlinked_terminal terminal known.moment) _ found refl refl; none_kept = refl; no_deed = refl; handles_none = refl }) tt))
+    quiet-holds known past book OfNothing (unlinks known number terminal) h (unlinks-quiet known number terminal found)
+    (replies-sound known.kept (unlinks known number terminal).core past.commands OfNothing terminal.asker (reply_to_lost terminal.standing)
+    (λ own replies. lost-sound known.kept (waiting_keys (unlinks known number terminal).core) OfNothing terminal.standing own (h.repliable number terminal found) replies)))
 
 pub next-waiting-holds : (number : ℕ) → RowHolds (NextWaiting number)
 next-waiting-holds number scene tills known past book core h numbered linked read honest = nothing-holds known past book OfNothing h

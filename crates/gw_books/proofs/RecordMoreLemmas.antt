@@ -13,6 +13,7 @@ use Rattle.jrn_record.specs.declared.records.Intent.{Intent as TheIntent}
 use Rattle.jrn_record.specs.declared.records.Outcome.{Outcome as TheOutcome}
 use Rattle.jrn_record.specs.declared.records.Record.{Record}
 use Rattle.jrn_record.specs.declared.records.Record.TheVariants.{Intent, Outcome, Settled}
+use Rattle.jrn_record.specs.declared.records.Settled.{Settled as TheSettled}
 use Rattle.gw_ledger.specs.declared.account.Account.{Account}
 use Rattle.gw_ledger.specs.declared.entry.Found.TheVariants.{Entry}
 use Rattle.gw_ledger.specs.Accounts.{is_poi, open_slot, poi_of, account_of, account_with}
@@ -306,6 +307,10 @@ outcomes-and-outcome commands book place records outcome folded are new = outcom
     its-own other intent is found =
         let same : outcome ≡ other = cc in
         subst (λ (o : TheOutcome). IsOutcomeTrue commands book place (intent_key intent) o) same (new intent (subst (λ (o : TheOutcome). intent_at records o.slot ≡ Some intent) (sym same) found))
+
+pub outcomes-and-settled : (commands : List SentCommand) (book : List BookedEntry) (place : ℕ) (records : List Record) (settled : TheSettled) → AreFolded records → AreOutcomesTrue commands book place records
+    → AreOutcomesTrue commands book place (records ++ Settled settled ∷ [])
+outcomes-and-settled commands book place records settled folded are = outcomes-more commands book place records (Settled settled) folded are (λ outcome other is found. absurd cc)
 
 -- ---- links
 

@@ -9,6 +9,7 @@ use Rattle.jrn_record.specs.declared.records.Intent.{Intent as TheIntent}
 use Rattle.jrn_record.specs.declared.records.Outcome.{Outcome as TheOutcome}
 use Rattle.jrn_record.specs.declared.records.Record.{Record}
 use Rattle.jrn_record.specs.declared.records.Record.TheVariants.{Intent, Outcome, Settled}
+use Rattle.jrn_record.specs.declared.records.Settled.{Settled as TheSettled}
 use Rattle.gw_ledger.specs.declared.account.Account.{Account}
 use Rattle.gw_ledger.specs.Accounts.{account_of, account_with, is_poi, last_number_of, open_slot, poi_of}
 use Rattle.gw_ledger.specs.Fold.{AreFolded, FitBy, fits, fits_beside_key}
@@ -21,7 +22,7 @@ use Rattle.gw_ledger.proofs.HistoryLemmas.{history-push}
 use Rattle.gw_ledger.proofs.OpenLemmas.{account_push}
 use Rattle.gw_ledger.proofs.RecordLemmas.{folded_beside, get_push, intent_push}
 use Rattle.gw_ledger.proofs.TieLemmas.{eqb_above, eqb_same}
-use Rattle.gw_owes.proofs.RecordLemmas.{LedgerLaws, intent-within, open-unended, same-text-is, same-text-itself}
+use Rattle.gw_owes.proofs.RecordLemmas.{LedgerLaws, intent-within, open-unended, same-text-is, same-text-itself, settled-leaves}
 use Rattle.gw_books.specs.Books.{BookedEntry}
 use Rattle.gw_books.specs.Past.{SentCommand}
 use Rattle.gw_books.proofs.Holding.{IsUnsent}
@@ -229,3 +230,14 @@ numbered-with-outcome laws records outcome intent folded asked book commands pla
           let own : intent.poi ≡ poi = own-poi poi intent.poi (sym (ap (λ (i : Option TheIntent). is_poi poi (option_map (λ (j : TheIntent). j.poi) i)) asked) ∙ mine.0) in
           booked-at book poi intent.poi place outcome.number (last_number_of (records ++ Outcome outcome ∷ []) poi) own mine.1 booked
     ]
+
+-- one more Settled, which opens nothing and has no trace number
+pub numbered-with-settled : (laws : LedgerLaws) (records : List Record) (settled : TheSettled) (book : List BookedEntry) (commands : List SentCommand) (place : ℕ) → AreRecordsNumbered book commands place records
+    → AreRecordsNumbered book commands place (records ++ Settled settled ∷ [])
+numbered-with-settled laws records settled book commands place numbered = record {
+  opened = λ poi slot other is_open there. numbered.opened poi slot other (sym (settled-leaves laws records settled poi).slot_stays ∙ is_open) (elim (intent_push records (Settled settled) slot other there) [
+    | inl earlier ↦ earlier.1
+    | inr it ↦ let clash = it.1 in absurd cc
+  ]);
+  last = λ poi. subst (λ (n : ℕ). IsBookedNumber book poi place n) (sym (settled-leaves laws records settled poi).number_stays) (numbered.last poi);
+}

@@ -6,7 +6,6 @@ use Rattle.std.specs.Prelude.{◌==◌, ◌&&◌, nat_le, not, is_some, if◌the
 use Rattle.std.specs.List.{list_any, list_all}
 use Rattle.gw_base.specs.declared.condition.Condition.TheVariants.{Aborted}
 use Rattle.gw_base.specs.declared.figures.Figures.{Figures}
-use Rattle.gw_base.specs.declared.key.Key.{Key}
 use Rattle.zvt_apdu.specs.Grammar.{ApduValue}
 use Rattle.jrn_record.specs.Limits.{IsRecord}
 use Rattle.jrn_record.specs.declared.records.Intent.{Intent as TheIntent}
@@ -18,7 +17,7 @@ use Rattle.gw_ledger.specs.Accounts.{is_poi, open_slot}
 use Rattle.gw_ledger.specs.Fold.{AreFolded, fits_beside_key}
 use Rattle.gw_ledger.specs.History.{history}
 use Rattle.gw_ledger.specs.Keys.{intent_key}
-use Rattle.gw_ledger.specs.Slots.{as_outcome, ended_at, ended_in, intent_at, is_open, is_outcome_of}
+use Rattle.gw_ledger.specs.Slots.{as_outcome, asks_payment, ended_at, ended_in, intent_at, is_open, is_outcome_of}
 use Rattle.gw_ledger.proofs.FoldLemmas.{along}
 use Rattle.gw_ledger.proofs.HistoryLemmas.{history-push}
 use Rattle.gw_ledger.proofs.RecordLemmas.{folded_beside, get_last}
@@ -32,7 +31,7 @@ use Rattle.gw_owes.specs.Reports.{Report, outcome_as_last, outcome_reported}
 use Rattle.gw_owes.specs.Row.{Known}
 use Rattle.gw_owes.specs.Serving.{refused_outcome, reply_to_outcome}
 use Rattle.gw_owes.proofs.KeepingLemmas.{replies-keep-nothing}
-use Rattle.gw_owes.proofs.RecordLemmas.{LedgerLaws, open-parts, open-without-outcome, same-text-itself, still-there}
+use Rattle.gw_owes.proofs.RecordLemmas.{LedgerLaws, intent-stays, open-parts, open-without-outcome, same-text-itself, still-there}
 use Rattle.gw_rules.specs.Lawful.{Stands}
 use Rattle.gw_rules.specs.RecordOrder.{records_coming}
 use Rattle.gw_rules.specs.Scene.{known_in}
@@ -42,12 +41,12 @@ use Rattle.gw_rules.proofs.RecordOrderLemmas.{between-items, each-log-folds, log
 use Rattle.gw_rules.proofs.RecordRowLemmas.{LeavesInOrder, OrderLaws, rows-in-order}
 use Rattle.gw_rules.proofs.SetupLemmas.{HasSetup, setup-within-limits}
 use Rattle.gw_books.specs.Past.{MadeLink, MadePoll, Past, past_of}
-use Rattle.gw_books.specs.Books.{BookedEntry, Honest}
+use Rattle.gw_books.specs.Books.{BookedEntry, Honest, is_caused}
 use Rattle.gw_books.specs.Agrees.{is_approved_entry, is_report_on, is_resolved_on, report_resolves}
-use Rattle.gw_books.specs.RecoveryLaws.{EachOutcomeIsTrue, HasTrueOutcome, HonestSetsNoneAside, IsReportedAt, ReportIsSaid, ReportedIsResolved, agrees_outcome, is_entry_of}
-use Rattle.gw_books.proofs.AgreeLemmas.{approved-for, none-approved}
-use Rattle.gw_books.proofs.HeadlineLemmas.{HoldsNumbered, holds-along}
-use Rattle.gw_books.proofs.Holding.{AreFalling, AreOutcomesTrue, BearsOut, IsFirstOf, IsOutcomeTrue}
+use Rattle.gw_books.specs.RecoveryLaws.{EachOutcomeIsTrue, HasTrueOutcome, HonestSetsNoneAside, IsReportedAt, ReportIsSaid, ReportedIsResolved, agrees_outcome, is_as_asked, is_entry_of}
+use Rattle.gw_books.proofs.AgreeLemmas.{approved-for, entry-kind, none-approved}
+use Rattle.gw_books.proofs.HeadlineLemmas.{HoldsNumbered, holds-along, lean-folds}
+use Rattle.gw_books.proofs.Holding.{AreKeyed, AreOutcomesTrue, BearsOut, IsFirstOf, IsOutcomeTrue}
 use Rattle.gw_books.proofs.KeptReplyLemmas.{ended-entry, entry-found, first-reply-is-kept}
 use Rattle.gw_books.proofs.ListLemmas.{In, all-in, any-from}
 use Rattle.gw_books.proofs.Numbering.{IsStandingNumbered}
@@ -104,24 +103,34 @@ open-or-ended laws records slot intent folded asked = by-end (ended_at records s
 
 -- ---- an Outcome agrees with the book
 
--- the entry of an approval has its numbers and its amount
-approval-agrees : (past : Past) (book : List BookedEntry) (place : ℕ) (key : Key) (outcome : TheOutcome) → AreFalling past.place past.commands → BearsOut true past.commands book place key outcome
-    → list_any (is_entry_of past key outcome) book ≡ true
-approval-agrees past book place key outcome falling own =
-    let entry = own.booked.entry in
-    let approved : is_approved_entry past key entry ≡ true = approved-for past falling own.command own.sent key own.key_is entry own.booked.caused own.booked.approved in
-    any-from (is_entry_of past key outcome) book entry own.booked.within
-    (and_from (is_approved_entry past key entry) _ approved
-    (and_from (entry.number == outcome.number) _ (eq-eqb entry.number outcome.number own.booked.number)
-    (and_from (entry.receipt == outcome.receipt) (entry.amount == outcome.amount) (eq-eqb entry.receipt outcome.receipt own.booked.receipt) (eq-eqb entry.amount outcome.amount own.booked.amount))))
+-- the entry is of the Intent's kind
+as-asked : (payment reversal : Bool) → reversal ≡ not payment → (if payment then not reversal else reversal) ≡ true
+as-asked true reversal is = ap not is
+as-asked false reversal is = is
 
-outcome-agrees : (past : Past) (book : List BookedEntry) (place : ℕ) (key : Key) (outcome : TheOutcome) → AreFalling past.place past.commands → IsOutcomeTrue past.commands book place key outcome
-    → agrees_outcome past book key outcome ≡ true
-outcome-agrees past book place key outcome falling own = by-approved outcome.approved own
-  where
-    by-approved : (b : Bool) → BearsOut b past.commands book place key outcome → (if b then list_any (is_entry_of past key outcome) book else not (list_any (is_approved_entry past key) book)) ≡ true
-    by-approved true borne = approval-agrees past book place key outcome falling borne
-    by-approved false borne = none-approved past book key borne
+-- the Outcome of an Intent that is kept
+module _ (laws : LedgerLaws) (kept : List Record) (folded : AreFolded kept) (past : Past) (book : List BookedEntry) (keyed : AreKeyed kept past.place past.commands) (honest : Honest past book) (place slot : ℕ) (intent : TheIntent)
+    (intent_is : intent_at kept slot ≡ Some intent) (outcome : TheOutcome) where
+  -- the entry of an approval has its numbers and its amount
+  approval-agrees : BearsOut true past.commands book place (intent_key intent) outcome → list_any (is_entry_of past intent outcome) book ≡ true
+  approval-agrees own =
+      let entry = own.booked.entry in
+      let approved : is_approved_entry past (intent_key intent) entry ≡ true = approved-for past keyed.falling own.command own.sent (intent_key intent) own.key_is entry own.booked.caused own.booked.approved in
+      let caused : is_caused past entry entry.cause ≡ true = all-in (λ (one : BookedEntry). is_caused past one one.cause) book honest.caused entry own.booked.within in
+      let kind = entry-kind laws kept folded past keyed entry caused own.command own.sent own.booked.caused slot intent intent_is own.key_is in
+      any-from (is_entry_of past intent outcome) book entry own.booked.within
+      (and_from (is_approved_entry past (intent_key intent) entry) _ approved
+      (and_from (is_as_asked intent entry) _ (as-asked (asks_payment intent.what) entry.reversal kind)
+      (and_from (entry.number == outcome.number) _ (eq-eqb entry.number outcome.number own.booked.number)
+      (and_from (entry.receipt == outcome.receipt) (entry.amount == outcome.amount) (eq-eqb entry.receipt outcome.receipt own.booked.receipt) (eq-eqb entry.amount outcome.amount own.booked.amount)))))
+
+  outcome-agrees : IsOutcomeTrue past.commands book place (intent_key intent) outcome → agrees_outcome past book intent outcome ≡ true
+  outcome-agrees own = by-approved outcome.approved own
+    where
+      by-approved : (b : Bool) → BearsOut b past.commands book place (intent_key intent) outcome
+          → (if b then list_any (is_entry_of past intent outcome) book else not (list_any (is_approved_entry past (intent_key intent)) book)) ≡ true
+      by-approved true borne = approval-agrees borne
+      by-approved false borne = none-approved past book (intent_key intent) borne
 
 -- the Outcomes of a poll's records are true
 polled-true : (v : View) (past : Past) (book : List BookedEntry) → HoldsNumbered v past book → (poll : MadePoll) → In poll past.polls → AreOutcomesTrue past.commands book past.place poll.kept
@@ -136,12 +145,16 @@ each-outcome-is-true orders laws log past book polled poll at outcome intent has
     let own : Honest (past_of has.moves) book = subst (λ (p : Past). Honest p book) has.past_is honest in
     let both : HoldsNumbered (view_from at_first has.moves) (past_of has.moves) book = holds-along orders laws book has.moves has.lean.lawful own in
     let made : In poll (past_of has.moves).polls = at-in (past_of has.moves).polls polled poll (subst (λ (p : Past). slice_get p.polls polled ≡ Some poll) has.past_is polled_is) in
-    subst (λ (p : Past). agrees_outcome p book (intent_key intent) outcome ≡ true) (sym has.past_is)
-    (outcome-agrees (past_of has.moves) book (past_of has.moves).place (intent_key intent) outcome both.holds.commands.falling (polled-true (view_from at_first has.moves) (past_of has.moves) book both poll made at outcome intent found asked))
+    let first : IsFirstOf poll.kept (view_from at_first has.moves).scene.kept = both.holds.kept_polled poll made in
+    let asked_now : intent_at (view_from at_first has.moves).scene.kept outcome.slot ≡ Some intent =
+    subst (λ (records : List Record). intent_at records outcome.slot ≡ Some intent) (sym first.1) (intent-stays poll.kept first.0 outcome.slot intent asked) in
+    subst (λ (p : Past). agrees_outcome p book intent outcome ≡ true) (sym has.past_is)
+    (outcome-agrees laws (view_from at_first has.moves).scene.kept (lean-folds orders log has.moves has.lean) (past_of has.moves) book both.holds.commands own (past_of has.moves).place outcome.slot intent asked_now outcome
+    (polled-true (view_from at_first has.moves) (past_of has.moves) book both poll made at outcome intent found asked))
 
 -- ---- what a report has resolved
 
-module _ (laws : LedgerLaws) (v : View) (past : Past) (book : List BookedEntry) (folded : AreFolded v.scene.kept) (both : HoldsNumbered v past book) (poll : MadePoll) (link : MadeLink) (slot : ℕ) (intent : TheIntent)
+module _ (laws : LedgerLaws) (v : View) (past : Past) (book : List BookedEntry) (folded : AreFolded v.scene.kept) (both : HoldsNumbered v past book) (honest : Honest past book) (poll : MadePoll) (link : MadeLink) (slot : ℕ) (intent : TheIntent)
     (reported : IsReportedAt past poll link slot intent) where
   made : In poll past.polls
   made = at-in past.polls reported.polled poll reported.poll_is
@@ -178,10 +191,12 @@ module _ (laws : LedgerLaws) (v : View) (past : Past) (book : List BookedEntry) 
       let end = end-there poll.kept slot at poll-folds ended in
       let there = ended-entry poll.kept slot at intent end.outcome reported.intent_is ended (ap (option_and_then as_outcome) end.found) in
       let asked : intent_at poll.kept end.outcome.slot ≡ Some intent = ap (intent_at poll.kept) end.slot_is ∙ reported.intent_is in
+      let asked-now : intent_at v.scene.kept end.outcome.slot ≡ Some intent =
+      subst (λ (records : List Record). intent_at records end.outcome.slot ≡ Some intent) (sym kept-then.1) (intent-stays poll.kept kept-then.0 end.outcome.slot intent asked) in
       record {
         outcome = end.outcome;
         found = entry-found laws poll.kept slot intent _ poll-folds reported.intent_is there;
-        true_outcome = outcome-agrees past book past.place (intent_key intent) end.outcome both.holds.commands.falling (then-true at end.outcome intent end.found asked);
+        true_outcome = outcome-agrees laws v.scene.kept folded past book both.holds.commands honest past.place end.outcome.slot intent asked-now end.outcome (then-true at end.outcome intent end.found asked);
       }
 
   pub resolved-true : HasTrueOutcome past book poll.kept slot intent
@@ -196,7 +211,7 @@ reported-is-resolved orders laws log past book poll link slot intent has honest 
     let own : Honest (past_of has.moves) book = subst (λ (p : Past). Honest p book) has.past_is honest in
     let stands : Stands log (view_from at_first has.moves) = record { course = has.moves; log_is = has.lean.turns_are; lawful = has.lean.lawful; view_is = refl } in
     subst (λ (p : Past). HasTrueOutcome p book poll.kept slot intent) (sym has.past_is)
-    (resolved-true laws (view_from at_first has.moves) (past_of has.moves) book (each-log-folds orders log (view_from at_first has.moves) stands).kept (holds-along orders laws book has.moves has.lean.lawful own) poll link slot intent
+    (resolved-true laws (view_from at_first has.moves) (past_of has.moves) book (each-log-folds orders log (view_from at_first has.moves) stands).kept (holds-along orders laws book has.moves has.lean.lawful own) own poll link slot intent
     (subst (λ (p : Past). IsReportedAt p poll link slot intent) has.past_is reported))
 
 -- ---- no terminal is set aside

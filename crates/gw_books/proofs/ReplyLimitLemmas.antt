@@ -1,7 +1,6 @@
 -- Each reply that is owed lies within its limits.
-use Rattle.std.proofs.Common.{◌≡◌, ℕ, ◌<◌, ◌≤◌, ◌^◌, Bool, true, false, List, [], ◌∷◌, length, take, All, slice_get, refl, sym, subst, arith, length-take}
-use Rattle.std.specs.Prelude.{pos, bytes_eq, if◌then◌else◌, Option, Some, None, IfSome, codes, map, option_and_then, option_map}
-use Rattle.std.proofs.lemmas.List.{length-map}
+use Rattle.std.proofs.Common.{◌≡◌, ℕ, ◌<◌, ◌≤◌, ◌^◌, Bool, true, false, List, [], ◌∷◌, length, take, slice_get, refl, sym, subst, arith, length-take}
+use Rattle.std.specs.Prelude.{◌||◌, pos, bytes_eq, if◌then◌else◌, Option, Some, None, IfSome, codes, option_and_then, option_map}
 use Rattle.std.proofs.lemmas.List.Elements.{All-nil, All-cons}
 use Rattle.gw_base.specs.declared.condition.Condition.{Condition}
 use Rattle.gw_base.specs.declared.condition.Condition.TheVariants.{InProgress, NotFound, UnavailableDevice, UnavailableService}
@@ -19,7 +18,7 @@ use Rattle.sale_values.specs.declared.request.Output.{Output}
 use Rattle.sale_values.specs.declared.request.Reference.{Reference}
 use Rattle.sale_values.specs.declared.request.SaleRequest.{SaleRequest}
 use Rattle.sale_values.specs.declared.request.SaleRequest.TheVariants as requests
-use Rattle.sale_msg.specs.Grammar.{Asks, HasBody, IsRequest, IsSaleFault, parts_of}
+use Rattle.sale_msg.specs.Grammar.{Asks, HasBody, IsRequest, IsSaleFault}
 use Rattle.sale_msg.specs.declared.category.Category.TheVariants as categories
 use Rattle.sale_msg.specs.declared.table.Envelope.TheVariants as envelopes
 use Rattle.sale_reply.specs.Limits.{IsHeaderWithinLimits, IsShownWithinLimits, IsToldWithinLimits, IsTotalWithinLimits, IsWithinLimits}
@@ -31,7 +30,7 @@ use Rattle.sale_reply.specs.declared.reply.Shown.{Shown}
 use Rattle.sale_reply.specs.declared.reply.Told.{Told}
 use Rattle.sale_reply.proofs.ReplySizeLemmas.{reply_size}
 use Rattle.sale_reply.proofs.SpellableLemmas.{reply_spellable}
-use Rattle.jrn_record.specs.Limits.{HasTillText, IsOutcome}
+use Rattle.jrn_record.specs.Limits.{HasTillText, IsOutcome, IsSettled}
 use Rattle.jrn_record.specs.declared.records.Deal.{Deal}
 use Rattle.jrn_record.specs.declared.records.Deal.TheVariants.{Payment, Reversal}
 use Rattle.jrn_record.specs.declared.records.Intent.{Intent as TheIntent}
@@ -51,22 +50,28 @@ use Rattle.gw_ledger.proofs.FoldLemmas.{present-le, room_for}
 use Rattle.gw_ledger.proofs.RecordLemmas.{folded_beside}
 use Rattle.xlate.specs.Reply.{deal_category, entry_body, header_of, outcome_body, result_body_of}
 use Rattle.xlate.proofs.LimitLemmas.{numbers_limited}
+use Rattle.gw_owes.specs.Core.{Core}
+use Rattle.gw_owes.specs.Days.{asks_day_served, is_day_served}
+use Rattle.gw_owes.specs.Displays.{display_result, reply_of_display}
 use Rattle.gw_owes.specs.Diagnosis.{NamedTerminal, diagnosis_reply, named_terminal, status_of_standing}
-use Rattle.gw_owes.specs.KeptReplies.{found_by_status, found_for, is_open_key, kept_reply, own_key, repeated_reply, status_reply}
+use Rattle.gw_owes.specs.KeptReplies.{found_by_status, found_for, is_open_key, kept_reply, own_key, repeated_reply, status_reply_at}
 use Rattle.gw_owes.specs.ReadAs.{ReadAs, Request, Silent, NoMessage, NoJson}
-use Rattle.gw_owes.specs.RecordLaws.{IsInOrder, IsReadFromTill}
-use Rattle.gw_owes.specs.Replies.{display_refusal, failure, failure_reply, format_failure, has_device_class, header_of_reply, is_response_required, malformed_output, output_refused, reject_event, reply_to_fault, reply_to_malformed}
+use Rattle.gw_owes.specs.Reconciliations.{closed_after, reply_to_settled}
+use Rattle.gw_owes.specs.RecordLaws.{AreResultsWithinLimits, IsInOrder, IsReadFromTill}
+use Rattle.gw_owes.specs.Replies.{display_reply, failure, failure_reply, format_failure, has_device_class, header_of_reply, malformed_output, refused_results, reject_event, success, reply_to_fault, reply_to_malformed}
 use Rattle.gw_owes.specs.Reply.{ReplyValue, Plain, Finished, Repeated, Display, Print, Reject, reply_value_tree}
-use Rattle.gw_owes.specs.Requests.{abort_reply, reply_at, reply_to, unserved_for}
+use Rattle.gw_owes.specs.Requests.{abort_reply, reply_at, reply_to}
 use Rattle.gw_owes.specs.Row.{Known}
 use Rattle.gw_owes.specs.Serving.{reply_to_outcome}
+use Rattle.gw_owes.specs.SessionRows.{session_result, success_reply}
 use Rattle.gw_owes.specs.Steps.{StepResult, KeptReply, Fails, Begins, reply_of_result, step_result}
 use Rattle.gw_owes.proofs.HeardLemmas.{of-both}
 use Rattle.gw_owes.proofs.LimitLemmas.{ident-at}
 use Rattle.gw_owes.proofs.RecordLemmas.{LedgerLaws, entry-parts, intent-within, there-within}
 use Rattle.gw_books.proofs.EventLimitLemmas.{json-fault-within}
 use Rattle.gw_books.proofs.Holding.{IsReplyWithin}
-use Rattle.gw_books.proofs.ReadLimitLemmas.{all-refused-within, body-path, few-outputs, header-read, headless-path, known-ident}
+use Rattle.gw_owes.proofs.BeginLemmas.{refused-within}
+use Rattle.gw_owes.proofs.ReadLimitLemmas.{body-path, header-read, headless-path, known-ident}
 
 -- a reply whose parts lie within their limits
 pub value-within : (reply : ReplyValue) (value : SaleReply) → reply_value_tree reply ≡ tree_of value → IsWithinLimits value → IsReplyWithin reply
@@ -78,7 +83,7 @@ value-within reply value is within =
       small = subst (λ (tree : Tree). length (canonical tree) < 2 ^ 32) (sym is) small;
     }
 
-some-holds : {A : Type 0} (P : A → Type 0) (found : Option A) (one : A) → IfSome found P → found ≡ Some one → P one
+pub some-holds : {A : Type 0} (P : A → Type 0) (found : Option A) (one : A) → IfSome found P → found ≡ Some one → P one
 some-holds P found one all is = subst (λ (each : Option _). IfSome each P) is all
 
 -- ---- headers
@@ -92,7 +97,7 @@ reply-header header within = record {
   poi = within.poi;
 }
 
-failure-within : (header : Header) (condition : Condition) → IsHeaderWithinLimits header → IsReplyWithin (failure_reply header condition)
+pub failure-within : (header : Header) (condition : Condition) → IsHeaderWithinLimits header → IsReplyWithin (failure_reply header condition)
 failure-within header condition within = value-within (failure_reply header condition) (replies.Plain (header_of_reply header) (failure condition)) refl (reply-header header within, tt)
 
 -- ---- what the records have
@@ -229,12 +234,15 @@ module _ (laws : LedgerLaws) (kept : List Record) (folded : AreFolded kept) (few
   status-limited header None found is = last-limited (last_slot kept header.sale header.poi) found is
   status-limited header (Some reference) found is = found-limited (key_of header reference) found is
 
-  status-within : (header : Header) (reference : Option Reference) → IsHeaderWithinLimits header → IsReplyWithin (status_reply header (found_by_status kept header reference))
-  status-within header reference within = by-found (found_by_status kept header reference) refl
+  -- the reply to a status, also where an end of day is served
+  status-at-within : (core : Core) (header : Header) (reference : Option Reference) → IsHeaderWithinLimits header
+      → IsReplyWithin (status_reply_at header (found_by_status kept header reference) (asks_day_served core header reference))
+  status-at-within core header reference within = by-found (found_by_status kept header reference) (asks_day_served core header reference) refl
     where
-      by-found : (found : Option Found) → found_by_status kept header reference ≡ found → IsReplyWithin (status_reply header found)
-      by-found None is = failure-within header NotFound within
-      by-found (Some found) is = repeated-within header found within (status-limited header reference found is)
+      by-found : (found : Option Found) (served : Bool) → found_by_status kept header reference ≡ found → IsReplyWithin (status_reply_at header found served)
+      by-found None true is = failure-within header InProgress within
+      by-found None false is = failure-within header NotFound within
+      by-found (Some found) served is = repeated-within header found within (status-limited header reference found is)
 
   -- the reply that the steps give
   result-within : (header : Header) (result : StepResult) → IsHeaderWithinLimits header → IfSome (reply_of_result kept header result) IsReplyWithin
@@ -264,6 +272,19 @@ pub outcome-within : (laws : LedgerLaws) (known : Known) (slot : ℕ) (outcome :
 outcome-within laws known slot outcome reply order is replies =
     some-holds IsReplyWithin (reply_to_outcome known.kept slot outcome) reply (ended-within laws known.kept order.folded (few-records known order) slot outcome is) replies
 
+-- the totals of the records that are to be settled now
+settled-small : (known : Known) (settled : TheSettled) → IsInOrder known → length known.kept < 1000000 → IsFoundSmall (Closed (closed_after known.kept settled))
+settled-small known settled order fewer =
+    let room = room_for known.kept (folded_beside known.kept order.folded) fewer 0 (omega arith) settled.poi settled.currency in
+    ((omega (arith, room.debits), omega (arith, room.debited)), (omega (arith, room.reversals), omega (arith, room.undone)))
+
+-- the reply to a reconciliation that is settled now is within its limits, where its Settled is and has a slot
+pub settled-reply-within : (known : Known) (settled : TheSettled) (reply : ReplyValue) → IsInOrder known → IsSettled settled → length known.kept < known.setup.slots → reply_to_settled known.kept settled ≡ Some reply → IsReplyWithin reply
+settled-reply-within known settled reply order is slot replies =
+    let most = order.of_setup.within.slots.1 in
+    some-holds IsReplyWithin (reply_to_settled known.kept settled) reply
+    (kept-within (Closed (closed_after known.kept settled)) (record { small = settled-small known settled order (omega (arith, slot, most)); within = is })) replies
+
 -- ---- requests
 
 reject-within : (known : Known) (header : Header) (is_open : Bool) → IsHeaderWithinLimits header → IfSome (abort_reply is_open known header) IsReplyWithin
@@ -276,28 +297,31 @@ diagnosis-within header None within = failure-within header UnavailableDevice wi
 diagnosis-within header (Some named) within =
     value-within (diagnosis_reply header (Some named)) (replies.Diagnosis (header_of_reply header) (status_of_standing named.terminal.standing)) refl (reply-header header within)
 
-display-within : (condition : Condition) (body : Tree) (header : Header) (outputs : List Output) → IsHeaderWithinLimits header → HasBody categories.Display body → Asks body (requests.Display outputs)
-    → IfSome (display_refusal condition header outputs) IsReplyWithin
-display-within condition body header outputs within has asks =
-    let results : List Shown = map (output_refused condition) outputs in
-    let few : length results ≤ 16 = omega (arith, length-map outputs (output_refused condition), few-outputs body outputs has.members asks) in
-    let each : All IsShownWithinLimits results = all-refused-within condition (parts_of categories.Display body) outputs has.parts asks in
-    of-both (λ (reply : Option ReplyValue). IfSome reply IsReplyWithin) (is_response_required outputs) (Some (Display (header_of_reply header) results)) None
-    (value-within (Display (header_of_reply header) results) (replies.Display (header_of_reply header) results) refl (reply-header header within, few, each)) tt
+-- the reply to a Display with these results, where there are any
+pub results-within : (header : Header) (results : Option (List Shown)) → IsHeaderWithinLimits header → IfSome results AreResultsWithinLimits → IfSome (display_reply header results) IsReplyWithin
+results-within header None within are = tt
+results-within header (Some results) within are =
+    value-within (Display (header_of_reply header) results) (replies.Display (header_of_reply header) results) refl (reply-header header within, are.0, are.1)
+
+display-within : (body : Tree) (header : Header) (outputs : List Output) (result : StepResult) → IsHeaderWithinLimits header → HasBody categories.Display body → Asks body (requests.Display outputs)
+    → IfSome (reply_of_display header outputs result) IsReplyWithin
+display-within body header outputs KeptReply within has asks = tt
+display-within body header outputs (Fails condition) within has asks = results-within header (refused_results condition outputs) within (refused-within body condition outputs has asks)
+display-within body header outputs Begins within has asks = tt
 
 module _ (laws : LedgerLaws) (known : Known) (order : IsInOrder known) where
   service-within : (header : Header) (result : StepResult) → IsHeaderWithinLimits header → IfSome (reply_of_result known.kept header result) IsReplyWithin
   service-within header result within = result-within laws known.kept order.folded (few-records known order) header result within
 
   request-within : (message body : Tree) (header : Header) (named : Option NamedTerminal) (request : SaleRequest) → IsHeaderWithinLimits header → IsRequest message body header request → IfSome (reply_at named known header request) IsReplyWithin
-  request-within message body header named requests.Login within is = failure-within header (unserved_for named) within
-  request-within message body header named requests.Logout within is = failure-within header (unserved_for named) within
+  request-within message body header named requests.Login within is = service-within header (session_result known header requests.Login named) within
+  request-within message body header named requests.Logout within is = service-within header (session_result known header requests.Logout named) within
   request-within message body header named (requests.Payment ask) within is = service-within header (step_result known header (requests.Payment ask) named) within
   request-within message body header named (requests.Reversal ask) within is = service-within header (step_result known header (requests.Reversal ask) named) within
-  request-within message body header named (requests.Abort reference) within is = reject-within known header (is_open_key known.kept header reference) within
-  request-within message body header named (requests.Status reference) within is = status-within laws known.kept order.folded (few-records known order) header reference within
+  request-within message body header named (requests.Abort reference) within is = reject-within known header (is_open_key known.kept header reference || is_day_served known.core (key_of header reference)) within
+  request-within message body header named (requests.Status reference) within is = status-at-within laws known.kept order.folded (few-records known order) known.core header reference within
   request-within message body header named (requests.Reconciliation period) within is = service-within header (step_result known header (requests.Reconciliation period) named) within
-  request-within message body header named (requests.Display outputs) within is = display-within (unserved_for named) body header outputs within is.members is.asks
+  request-within message body header named (requests.Display outputs) within is = display-within body header outputs (display_result outputs named) within is.members is.asks
   request-within message body header named (requests.Print qualifier) within is =
       value-within (Print (header_of_reply header) qualifier (failure UnavailableDevice)) (replies.Print (header_of_reply header) qualifier (failure UnavailableDevice)) refl
       (reply-header header within, ident-at _ 40 body qualifier (λ tree form. form) is.members.members.1.1.0 is.asks, tt)
@@ -347,3 +371,10 @@ each-within laws known (NoJson fault) order read = json-fault-within (codes "0")
 -- the reply to what was read of a till is within its limits
 pub asked-within : (laws : LedgerLaws) (known : Known) (as_read : ReadAs) (reply : ReplyValue) → IsInOrder known → IsReadFromTill as_read → reply_to known as_read ≡ Some reply → IsReplyWithin reply
 asked-within laws known as_read reply order read is = some-holds IsReplyWithin (reply_to known as_read) reply (each-within laws known as_read order read) is
+
+-- so is the success of a request that was read
+pub success-within : (header : Header) (request : SaleRequest) → IsReadFromTill (Request header request) → IsReplyWithin (success_reply header)
+success-within header request read =
+    let message = read.1 in
+    let is = message.read in
+    value-within (success_reply header) (replies.Plain (header_of_reply header) success) refl (reply-header header (header-read envelopes.Request is.0 header is.1.request_of.header_is), tt)

@@ -23,12 +23,13 @@ use Rattle.jrn_record.specs.declared.records.Intent.{Intent as TheIntent}
 use Rattle.jrn_record.specs.declared.records.Outcome.{Outcome as TheOutcome}
 use Rattle.jrn_record.specs.declared.records.Record.{Record}
 use Rattle.jrn_record.specs.declared.records.Record.TheVariants.{Intent, Outcome, Settled}
+use Rattle.gw_ledger.specs.declared.entry.Closed.{Closed as TheClosed}
 use Rattle.gw_ledger.specs.declared.entry.Entry.{Entry as TheEntry}
 use Rattle.gw_ledger.specs.declared.entry.Found.{Found}
 use Rattle.gw_ledger.specs.declared.entry.Found.TheVariants.{Entry, Closed}
 use Rattle.gw_ledger.specs.Fold.{AreFolded, closed_of, found_by, found_of, last_entry}
 use Rattle.gw_ledger.specs.History.{history}
-use Rattle.gw_ledger.specs.Keys.{intent_key, last_slot, slot_of}
+use Rattle.gw_ledger.specs.Keys.{intent_key, last_slot, same_key, slot_of}
 use Rattle.gw_ledger.specs.Laws.{IsEntryWithin}
 use Rattle.gw_ledger.specs.Slots.{as_outcome, ended_at, ended_in, entry_at, entry_with, intent_at, is_open, is_outcome_of, outcome_at}
 use Rattle.xlate.specs.Reply.{deal_category, entry_body, header_of, money_of, outcome_body, reply_header, result_body_of, totals_body, transaction_mark, with_reason, with_texts}
@@ -41,7 +42,7 @@ use Rattle.gw_books.specs.Past.{Occasion, OfRequest, no_past}
 use Rattle.gw_books.specs.Said.{Said}
 use Rattle.gw_books.specs.SaidLaws.{display_said, finished_said, header_key, plain_said}
 use Rattle.gw_books.specs.Agrees.{fails_with, has_other_content, in_progress_agrees, is_accepted, is_failure, is_success, is_transaction, is_unresolved, key_meant, not_found_agrees, unaccepted_agrees}
-use Rattle.gw_books.proofs.Holding.{IsReplyTrue, IsSaidTrue, SaysOutcome, SaysSuccess, sent_with}
+use Rattle.gw_books.proofs.Holding.{IsNoTransaction, IsReplyTrue, IsSaidTrue, SaysOutcome, SaysSuccess, sent_with}
 use Rattle.gw_books.proofs.ListLemmas.{In}
 use Rattle.gw_books.proofs.RecordMoreLemmas.{own-slot}
 
@@ -73,7 +74,7 @@ not-three one other third fails all = let none : (one && (other && third)) ≡ f
 
 -- what is said to have succeeded, or has no result and is of no payment and no reversal, is true where a success of one is
 unfailed-true : (records : List Record) (occasion : Occasion) (said : Said) → is_failure said ≡ false → (is_transaction said && not (is_success said)) ≡ false
-    → ((is_transaction said && is_success said) ≡ true → SaysSuccess records said) → IsSaidTrue records occasion said
+    → ((is_transaction said && is_success said) ≡ true → SaysSuccess records said) → IsSaidTrue records [] occasion said
 unfailed-true records occasion said unfailed succeeds success = record {
   success = success;
   refusal = λ all. absurd (not-three (is_transaction said) (not (is_success said)) said.has_poi_data succeeds all);
@@ -83,34 +84,34 @@ unfailed-true records occasion said unfailed succeeds success = record {
   in_progress = passes (fails_with (codes "InProgress") said) _ (and_left (is_failure said) (bytes_eq said.condition (codes "InProgress")) unfailed);
 }
 
--- it is no header of a payment or a reversal
-abbrev pub IsNoTransaction : Header → Type 0
-IsNoTransaction header = (bytes_eq header.category (codes "Payment") || bytes_eq header.category (codes "Reversal")) ≡ false
-
 -- by its category
 pub kind-is : (header : Header) (category : List ℕ) → header.category ≡ category
     → (bytes_eq category (codes "Payment") || bytes_eq category (codes "Reversal")) ≡ false → IsNoTransaction header
 kind-is header category is apart = ap (λ (name : List ℕ). bytes_eq name (codes "Payment") || bytes_eq name (codes "Reversal")) is ∙ apart
 
 -- a reply without a result body, of no payment and no reversal, succeeds
-pub succeeded-true : (records : List Record) (occasion : Occasion) (header : Header) → IsNoTransaction header → IsSaidTrue records occasion (plain_said header None)
+pub succeeded-true : (records : List Record) (occasion : Occasion) (header : Header) → IsNoTransaction header → IsSaidTrue records [] occasion (plain_said header None)
 succeeded-true records occasion header apart =
     unfailed-true records occasion (plain_said header None) refl (and_left (is_transaction (plain_said header None)) false apart) (λ both. absurd (no-first (is_transaction (plain_said header None)) true apart both))
 
 -- a reply to a Display has no result, and is of no payment and no reversal
-pub display-true : (records : List Record) (occasion : Occasion) (header : Header) → IsNoTransaction header → IsSaidTrue records occasion (display_said header)
+pub display-true : (records : List Record) (occasion : Occasion) (header : Header) → IsNoTransaction header → IsSaidTrue records [] occasion (display_said header)
 display-true records occasion header apart =
     unfailed-true records occasion (display_said header) refl (and_left (is_transaction (display_said header)) true apart) (λ both. absurd (no-second (is_transaction (display_said header)) false refl both))
+
+-- the totals of a reconciliation are said of no payment and no reversal
+pub totals-true : (records : List Record) (occasion : Occasion) (closed : TheClosed) → IsSaidTrue records [] occasion (finished_said (header_of (Closed closed)) (totals_body closed))
+totals-true records occasion closed = unfailed-true records occasion (finished_said (header_of (Closed closed)) (totals_body closed)) refl refl (λ both. absurd cc)
 
 -- ---- a Failure without a result body
 
 -- it is true where it agrees
-failed-true : (records : List Record) (occasion : Occasion) (header : Header) (condition : Condition)
-    → unaccepted_agrees no_past [] (sent_with records occasion) (plain_said header (Some condition)) ≡ true
-    → not_found_agrees no_past [] (sent_with records occasion) (plain_said header (Some condition)) ≡ true
-    → in_progress_agrees no_past [] (sent_with records occasion) (plain_said header (Some condition)) ≡ true
-    → IsSaidTrue records occasion (plain_said header (Some condition))
-failed-true records occasion header condition unaccepted not_found in_progress = record {
+failed-true : (records : List Record) (waiting : List Key) (occasion : Occasion) (header : Header) (condition : Condition)
+    → unaccepted_agrees no_past [] (sent_with records waiting occasion) (plain_said header (Some condition)) ≡ true
+    → not_found_agrees no_past [] (sent_with records waiting occasion) (plain_said header (Some condition)) ≡ true
+    → in_progress_agrees no_past [] (sent_with records waiting occasion) (plain_said header (Some condition)) ≡ true
+    → IsSaidTrue records waiting occasion (plain_said header (Some condition))
+failed-true records waiting occasion header condition unaccepted not_found in_progress = record {
   success = λ both. absurd (no-second (is_transaction (plain_said header (Some condition))) false refl both);
   refusal = λ both. absurd (no-second (is_transaction (plain_said header (Some condition))) false refl both);
   unaccepted = unaccepted;
@@ -123,41 +124,41 @@ abbrev pub IsIdle : Condition → Type 0
 IsIdle condition = (bytes_eq (name_of condition) (codes "InProgress") ≡ false) × (bytes_eq (name_of condition) (codes "NotFound") ≡ false)
 
 idle-true : (records : List Record) (occasion : Occasion) (header : Header) (condition : Condition) → IsIdle condition
-    → unaccepted_agrees no_past [] (sent_with records occasion) (plain_said header (Some condition)) ≡ true → IsSaidTrue records occasion (plain_said header (Some condition))
-idle-true records occasion header condition idle unaccepted = failed-true records occasion header condition unaccepted
+    → unaccepted_agrees no_past [] (sent_with records [] occasion) (plain_said header (Some condition)) ≡ true → IsSaidTrue records [] occasion (plain_said header (Some condition))
+idle-true records occasion header condition idle unaccepted = failed-true records [] occasion header condition unaccepted
     (passes (bytes_eq header.category (codes "TransactionStatus") && bytes_eq (name_of condition) (codes "NotFound")) _
     (and_right (bytes_eq header.category (codes "TransactionStatus")) (bytes_eq (name_of condition) (codes "NotFound")) idle.1))
     (passes (bytes_eq (name_of condition) (codes "InProgress")) _ idle.0)
 
 kind-agrees : (records : List Record) (occasion : Occasion) (header : Header) (condition : Condition) → IsNoTransaction header
-    → unaccepted_agrees no_past [] (sent_with records occasion) (plain_said header (Some condition)) ≡ true
+    → unaccepted_agrees no_past [] (sent_with records [] occasion) (plain_said header (Some condition)) ≡ true
 kind-agrees records occasion header condition apart =
     passes (is_transaction (plain_said header (Some condition)) && true) _ (and_left (is_transaction (plain_said header (Some condition))) true apart)
 
 -- that of no payment and no reversal
 pub other-kind-true : (records : List Record) (occasion : Occasion) (header : Header) (condition : Condition) → IsIdle condition → IsNoTransaction header
-    → IsSaidTrue records occasion (plain_said header (Some condition))
+    → IsSaidTrue records [] occasion (plain_said header (Some condition))
 other-kind-true records occasion header condition idle apart = idle-true records occasion header condition idle (kind-agrees records occasion header condition apart)
 
 -- that of a key which was not accepted, where the reply is about that key
 pub unknown-true : (records : List Record) (occasion : Occasion) (header : Header) (condition : Condition) → bytes_eq (name_of condition) (codes "InProgress") ≡ false
-    → key_meant records (header_key header) occasion ≡ Some (header_key header) → is_accepted records (header_key header) ≡ false → IsSaidTrue records occasion (plain_said header (Some condition))
+    → key_meant records (header_key header) occasion ≡ Some (header_key header) → is_accepted records (header_key header) ≡ false → IsSaidTrue records [] occasion (plain_said header (Some condition))
 unknown-true records occasion header condition idle meant lacks =
     let said : Said = plain_said header (Some condition) in
     let other : Bool = fails_with (codes "NotAllowed") said && has_other_content records (header_key header) occasion in
     let none : (not (is_accepted records (header_key header)) || other) ≡ true = or_left (not (is_accepted records (header_key header))) other (ap not lacks) in
     let format : (fails_with (codes "MessageFormat") said || (not (is_accepted records (header_key header)) || other)) ≡ true = or_right (fails_with (codes "MessageFormat") said) _ none in
-    failed-true records occasion header condition (or_right (not (is_transaction said && true)) _ (or_right (fails_with (codes "InProgress") said) _ format))
+    failed-true records [] occasion header condition (or_right (not (is_transaction said && true)) _ (or_right (fails_with (codes "InProgress") said) _ format))
     (or_right _ _ (ap (λ (key : Option Key). not (list_any (is_accepted records) (option_to_list key))) meant ∙ ap (λ (b : Bool). not (b || false)) lacks))
     (passes (bytes_eq (name_of condition) (codes "InProgress")) _ idle)
 
 -- that of a body of another form
-pub malformed-true : (records : List Record) (occasion : Occasion) (header : Header) → IsSaidTrue records occasion (plain_said header (Some MessageFormat))
+pub malformed-true : (records : List Record) (occasion : Occasion) (header : Header) → IsSaidTrue records [] occasion (plain_said header (Some MessageFormat))
 malformed-true records occasion header = idle-true records occasion header MessageFormat (refl, refl) (or_right _ _ refl)
 
 -- that of other content under the key
 pub other-content-true : (records : List Record) (asking header : Header) (request : SaleRequest) (found : Found) → found_of records (header_key header) ≡ Some found
-    → has_same_content records request found ≡ false → IsSaidTrue records (OfRequest asking request) (plain_said header (Some NotAllowed))
+    → has_same_content records request found ≡ false → IsSaidTrue records [] (OfRequest asking request) (plain_said header (Some NotAllowed))
 other-content-true records asking header request found is other = idle-true records (OfRequest asking request) header NotAllowed (refl, refl)
     (or_right _ _ (or_right (not (is_accepted records (header_key header))) _
     (ap (λ (there : Option Found). list_any (λ (one : Found). not (has_same_content records request one)) (option_to_list there)) is ∙ ap (λ (b : Bool). not b || false) other)))
@@ -170,18 +171,55 @@ pub record IsOpenKey (records : List Record) (key : Key) : Type 0 where
 
 -- that of a key which is open
 pub open-true : (records : List Record) (occasion : Occasion) (header : Header) (key : Key) → key_meant records (header_key header) occasion ≡ Some key → IsOpenKey records key
-    → IsSaidTrue records occasion (plain_said header (Some InProgress))
-open-true records occasion header key meant unresolved = failed-true records occasion header InProgress
+    → IsSaidTrue records [] occasion (plain_said header (Some InProgress))
+open-true records occasion header key meant unresolved = failed-true records [] occasion header InProgress
     (or_right _ _ refl)
     (passes (bytes_eq header.category (codes "TransactionStatus") && false) _ (and_right (bytes_eq header.category (codes "TransactionStatus")) false refl))
-    (ap (λ (one : Option Key). list_any (is_unresolved (sent_with records occasion)) (option_to_list one)) meant
+    (ap (λ (one : Option Key). list_any (is_unresolved (sent_with records [] occasion)) (option_to_list one)) meant
     ∙ (ap (λ (at : Option ℕ). (list_any (is_open records) (option_to_list at) || false) || false) unresolved.slot_is
     ∙ ap (λ (b : Bool). ((b || false) || false) || false) unresolved.opened))
 
+-- that of a key which waits
+pub waits-true : (records : List Record) (waiting : List Key) (occasion : Occasion) (header : Header) (key : Key) → key_meant records (header_key header) occasion ≡ Some key → list_any (same_key key) waiting ≡ true
+    → IsSaidTrue records waiting occasion (plain_said header (Some InProgress))
+waits-true records waiting occasion header key meant waits = failed-true records waiting occasion header InProgress
+    (or_right _ _ refl)
+    (passes (bytes_eq header.category (codes "TransactionStatus") && false) _ (and_right (bytes_eq header.category (codes "TransactionStatus")) false refl))
+    (ap (λ (one : Option Key). list_any (is_unresolved (sent_with records waiting occasion)) (option_to_list one)) meant
+    ∙ ap (λ (b : Bool). b || false) (or_right (list_any (is_open records) (option_to_list (slot_of records key))) (list_any (same_key key) waiting) waits))
+
+-- what is unresolved where none waits is so whatever waits
+unresolved-more : (records : List Record) (waiting : List Key) (occasion : Occasion) (key : Option Key)
+    → list_any (is_unresolved (sent_with records [] occasion)) (option_to_list key) ≡ true → list_any (is_unresolved (sent_with records waiting occasion)) (option_to_list key) ≡ true
+unresolved-more records waiting occasion None e = e
+unresolved-more records waiting occasion (Some key) e = by (list_any (is_open records) (option_to_list (slot_of records key))) e
+  where
+    by : (b : Bool) → ((b || false) || false) ≡ true → ((b || list_any (same_key key) waiting) || false) ≡ true
+    by true f = refl
+    by false f = cc
+
+-- and so is what is true
+pub true-more : (records : List Record) (waiting : List Key) (occasion : Occasion) (said : Said) → IsSaidTrue records [] occasion said → IsSaidTrue records waiting occasion said
+true-more records waiting occasion said truth = record {
+  success = truth.success;
+  refusal = truth.refusal;
+  unaccepted = truth.unaccepted;
+  not_found = truth.not_found;
+  in_progress = by (fails_with (codes "InProgress") said) truth.in_progress;
+}
+  where
+    by : (b : Bool) → (not b || list_any (is_unresolved (sent_with records [] occasion)) (option_to_list (key_meant records said.key occasion))) ≡ true
+        → (not b || list_any (is_unresolved (sent_with records waiting occasion)) (option_to_list (key_meant records said.key occasion))) ≡ true
+    by true e = unresolved-more records waiting occasion (key_meant records said.key occasion) e
+    by false e = refl
+
+pub reply-true-more : (records : List Record) (waiting : List Key) (occasion : Occasion) (reply : ReplyValue) → IsReplyTrue records [] occasion reply → IsReplyTrue records waiting occasion reply
+reply-true-more records waiting occasion reply truth = λ said there. true-more records waiting occasion said (truth said there)
+
 -- that of a status which finds nothing
 pub not-found-true : (records : List Record) (occasion : Occasion) (header : Header) → IsNoTransaction header
-    → list_any (is_accepted records) (option_to_list (key_meant records (header_key header) occasion)) ≡ false → IsSaidTrue records occasion (plain_said header (Some NotFound))
-not-found-true records occasion header apart none = failed-true records occasion header NotFound (kind-agrees records occasion header NotFound apart) (or_right _ _ (ap not none)) refl
+    → list_any (is_accepted records) (option_to_list (key_meant records (header_key header) occasion)) ≡ false → IsSaidTrue records [] occasion (plain_said header (Some NotFound))
+not-found-true records occasion header apart none = failed-true records [] occasion header NotFound (kind-agrees records occasion header NotFound apart) (or_right _ _ (ap not none)) refl
 
 -- ---- an Outcome
 
@@ -218,7 +256,7 @@ module _ (records : List Record) (entry : TheEntry) (outcome : TheOutcome) (has 
 
 -- a decline is true where it says the Outcome
 declined-true : (records : List Record) (occasion : Occasion) (said : Said) → is_success said ≡ false → said.has_poi_data ≡ true → bytes_eq said.category (codes "TransactionStatus") ≡ false
-    → bytes_eq said.condition (codes "InProgress") ≡ false → SaysOutcome records said false → IsSaidTrue records occasion said
+    → bytes_eq said.condition (codes "InProgress") ≡ false → SaysOutcome records said false → IsSaidTrue records [] occasion said
 declined-true records occasion said declined has_data no_status reason says = record {
   success = λ both. absurd (no-second (is_transaction said) (is_success said) declined both);
   refusal = λ both. says;
@@ -294,14 +332,14 @@ module _ (records : List Record) (occasion : Occasion) (entry : TheEntry) (outco
   said_of_entry category body = finished_said (reply_header category entry.intent.sale entry.intent.poi entry.intent.service) body
 
   payment-approved : (transaction stamp : List ℕ) → entry.intent.what ≡ Payment → outcome.approved ≡ true
-      → IsSaidTrue records occasion (said_of_entry (codes "Payment") (PaymentApproved transaction stamp (transaction_mark entry.slot outcome) entry.intent.amount (money_of entry.intent outcome)))
+      → IsSaidTrue records [] occasion (said_of_entry (codes "Payment") (PaymentApproved transaction stamp (transaction_mark entry.slot outcome) entry.intent.amount (money_of entry.intent outcome)))
   payment-approved transaction stamp what is =
       let said : Said = said_of_entry (codes "Payment") (PaymentApproved transaction stamp (transaction_mark entry.slot outcome) entry.intent.amount (money_of entry.intent outcome)) in
       unfailed-true records occasion said (paid-unfailed entry.intent.amount outcome.amount)
       (and_right (is_transaction said) (not (is_success said)) (paid-succeeds entry.intent.amount outcome.amount)) (λ both. says-success records entry outcome has said refl (sym (ap deal_category what)) is refl refl)
 
   reversal-approved : entry.intent.what ≡ Reversal → outcome.approved ≡ true
-      → IsSaidTrue records occasion (said_of_entry (codes "Reversal") (ReversalApproved (transaction_mark entry.slot outcome) (money_of entry.intent outcome)))
+      → IsSaidTrue records [] occasion (said_of_entry (codes "Reversal") (ReversalApproved (transaction_mark entry.slot outcome) (money_of entry.intent outcome)))
   reversal-approved what is =
       let said : Said = said_of_entry (codes "Reversal") (ReversalApproved (transaction_mark entry.slot outcome) (money_of entry.intent outcome)) in
       unfailed-true records occasion said refl refl (λ both. says-success records entry outcome has said refl (sym (ap deal_category what)) is refl refl)
@@ -311,50 +349,50 @@ module _ (records : List Record) (occasion : Occasion) (entry : TheEntry) (outco
       reason-idle reason (subst (HasReason false) there (subst (λ (approved : Bool). HasReason approved outcome.condition) is has.within.condition))
 
   payment-declined : (transaction stamp : List ℕ) (reason : Condition) → entry.intent.what ≡ Payment → outcome.approved ≡ false → outcome.condition ≡ Some reason
-      → IsSaidTrue records occasion (said_of_entry (codes "Payment") (PaymentDeclined transaction stamp (transaction_mark entry.slot outcome) reason))
+      → IsSaidTrue records [] occasion (said_of_entry (codes "Payment") (PaymentDeclined transaction stamp (transaction_mark entry.slot outcome) reason))
   payment-declined transaction stamp reason what is there =
       let said : Said = said_of_entry (codes "Payment") (PaymentDeclined transaction stamp (transaction_mark entry.slot outcome) reason) in
       declined-true records occasion said refl refl refl (reason-within reason is there) (says-outcome records entry outcome has said refl (sym (ap deal_category what)) false is)
 
   reversal-declined : (reason : Condition) → entry.intent.what ≡ Reversal → outcome.approved ≡ false → outcome.condition ≡ Some reason
-      → IsSaidTrue records occasion (said_of_entry (codes "Reversal") (ReversalDeclined (transaction_mark entry.slot outcome) reason))
+      → IsSaidTrue records [] occasion (said_of_entry (codes "Reversal") (ReversalDeclined (transaction_mark entry.slot outcome) reason))
   reversal-declined reason what is there =
       let said : Said = said_of_entry (codes "Reversal") (ReversalDeclined (transaction_mark entry.slot outcome) reason) in
       declined-true records occasion said refl refl refl (reason-within reason is there) (says-outcome records entry outcome has said refl (sym (ap deal_category what)) false is)
 
   body-true : (what : Deal) (approved : Bool) (body : ResultBody) → entry.intent.what ≡ what → outcome.approved ≡ approved → entry_body what approved entry.slot entry.intent outcome ≡ Some body
-      → IsSaidTrue records occasion (said_of_entry (deal_category what) body)
+      → IsSaidTrue records [] occasion (said_of_entry (deal_category what) body)
   body-true Payment true body what is made =
       let texts = texts-are entry.intent (λ transaction stamp. PaymentApproved transaction stamp (transaction_mark entry.slot outcome) entry.intent.amount (money_of entry.intent outcome)) body made in
-      subst (λ (result : ResultBody). IsSaidTrue records occasion (said_of_entry (codes "Payment") result)) texts.is (payment-approved texts.transaction texts.stamp what is)
+      subst (λ (result : ResultBody). IsSaidTrue records [] occasion (said_of_entry (codes "Payment") result)) texts.is (payment-approved texts.transaction texts.stamp what is)
   body-true Payment false body what is made =
       let reason = reason-is outcome (λ reason. with_texts entry.intent (λ transaction stamp. PaymentDeclined transaction stamp (transaction_mark entry.slot outcome) reason)) body made in
       let texts = texts-are entry.intent (λ transaction stamp. PaymentDeclined transaction stamp (transaction_mark entry.slot outcome) reason.reason) body reason.is in
-      subst (λ (result : ResultBody). IsSaidTrue records occasion (said_of_entry (codes "Payment") result)) texts.is
+      subst (λ (result : ResultBody). IsSaidTrue records [] occasion (said_of_entry (codes "Payment") result)) texts.is
       (payment-declined texts.transaction texts.stamp reason.reason what is reason.reason_is)
   body-true Reversal true body what is made =
-      subst (λ (result : ResultBody). IsSaidTrue records occasion (said_of_entry (codes "Reversal") result))
+      subst (λ (result : ResultBody). IsSaidTrue records [] occasion (said_of_entry (codes "Reversal") result))
       (same_Some (ReversalApproved (transaction_mark entry.slot outcome) (money_of entry.intent outcome)) body made) (reversal-approved what is)
   body-true Reversal false body what is made =
       let reason = reason-is outcome (λ reason. Some (ReversalDeclined (transaction_mark entry.slot outcome) reason)) body made in
-      subst (λ (result : ResultBody). IsSaidTrue records occasion (said_of_entry (codes "Reversal") result))
+      subst (λ (result : ResultBody). IsSaidTrue records [] occasion (said_of_entry (codes "Reversal") result))
       (same_Some (ReversalDeclined (transaction_mark entry.slot outcome) reason.reason) body reason.is) (reversal-declined reason.reason what is reason.reason_is)
 
   -- what the result body of the Outcome says is true
-  entry-true : (body : ResultBody) → outcome_body entry outcome ≡ Some body → IsSaidTrue records occasion (finished_said (header_of (Entry entry)) body)
+  entry-true : (body : ResultBody) → outcome_body entry outcome ≡ Some body → IsSaidTrue records [] occasion (finished_said (header_of (Entry entry)) body)
   entry-true body made = body-true entry.intent.what outcome.approved body refl refl made
 
 -- ---- the reply to an Outcome
 
 -- what is said alone
-pub alone-true : (records : List Record) (occasion : Occasion) (one said : Said) → IsSaidTrue records occasion one → In said (one ∷ []) → IsSaidTrue records occasion said
-alone-true records occasion one said holds (inl same) = subst (IsSaidTrue records occasion) (sym same) holds
+pub alone-true : (records : List Record) (occasion : Occasion) (one said : Said) → IsSaidTrue records [] occasion one → In said (one ∷ []) → IsSaidTrue records [] occasion said
+alone-true records occasion one said holds (inl same) = subst (IsSaidTrue records [] occasion) (sym same) holds
 alone-true records occasion one said holds (inr none) = absurd none
 
 -- what is said of two
-pub both-true : (records : List Record) (occasion : Occasion) (one other said : Said) → IsSaidTrue records occasion one → IsSaidTrue records occasion other → In said (one ∷ other ∷ [])
-    → IsSaidTrue records occasion said
-both-true records occasion one other said holds more (inl same) = subst (IsSaidTrue records occasion) (sym same) holds
+pub both-true : (records : List Record) (occasion : Occasion) (one other said : Said) → IsSaidTrue records [] occasion one → IsSaidTrue records [] occasion other → In said (one ∷ other ∷ [])
+    → IsSaidTrue records [] occasion said
+both-true records occasion one other said holds more (inl same) = subst (IsSaidTrue records [] occasion) (sym same) holds
 both-true records occasion one other said holds more (inr later) = alone-true records occasion other said more later
 
 -- the entry of a slot, by its Intent
@@ -389,17 +427,17 @@ resolved-has laws kept slot outcome intent folded slot_is is =
 -- the reply to an Outcome, as soon as it is kept, is true
 pub outcome-true : (laws : LedgerLaws) (kept : List Record) (slot : ℕ) (outcome : TheOutcome) (intent : TheIntent) (occasion : Occasion) (reply : ReplyValue)
     → AreFolded kept → AreFolded (kept ++ Outcome outcome ∷ []) → outcome.slot ≡ slot → intent_at kept slot ≡ Some intent → reply_to_outcome kept slot outcome ≡ Some reply
-    → IsReplyTrue (kept ++ Outcome outcome ∷ []) occasion reply
+    → IsReplyTrue (kept ++ Outcome outcome ∷ []) [] occasion reply
 outcome-true laws kept slot outcome intent occasion reply before folded slot_is is replied = by-body (outcome_body (resolved slot intent outcome) outcome) refl made
   where
     made : kept_reply (Entry (resolved slot intent outcome)) ≡ Some reply
     made = sym (ap (option_and_then (λ (entry : TheEntry). kept_reply (Entry (record entry { result = Some outcome })))) (entry-of kept slot intent is)) ∙ replied
 
     by-body : (body : Option ResultBody) → outcome_body (resolved slot intent outcome) outcome ≡ body → option_map (Finished (header_of (Entry (resolved slot intent outcome)))) body ≡ Some reply
-        → IsReplyTrue (kept ++ Outcome outcome ∷ []) occasion reply
+        → IsReplyTrue (kept ++ Outcome outcome ∷ []) [] occasion reply
     by-body None body_is made = absurd cc
     by-body (Some body) body_is made =
-        subst (IsReplyTrue (kept ++ Outcome outcome ∷ []) occasion) (same_Some (Finished (header_of (Entry (resolved slot intent outcome))) body) reply made)
+        subst (IsReplyTrue (kept ++ Outcome outcome ∷ []) [] occasion) (same_Some (Finished (header_of (Entry (resolved slot intent outcome))) body) reply made)
         (λ said there. alone-true (kept ++ Outcome outcome ∷ []) occasion (finished_said (header_of (Entry (resolved slot intent outcome))) body) said
         (entry-true (kept ++ Outcome outcome ∷ []) occasion (resolved slot intent outcome) outcome (resolved-has laws kept slot outcome intent folded slot_is is) body body_is) there)
 
@@ -592,12 +630,12 @@ module _ (laws : LedgerLaws) (records : List Record) (folded : AreFolded records
 
   -- what the result body of what is found says is true
   pub finished-true : (occasion : Occasion) (key : Key) (found : Found) (body : ResultBody) → IsFoundUnder records key found → result_body_of found ≡ Some body
-      → IsSaidTrue records occasion (finished_said (header_of found) body)
+      → IsSaidTrue records [] occasion (finished_said (header_of found) body)
   finished-true occasion key (Entry entry) body under is = by-result entry.result refl is
     where
-      by-result : (result : Option TheOutcome) → entry.result ≡ result → option_and_then (outcome_body entry) result ≡ Some body → IsSaidTrue records occasion (finished_said (header_of (Entry entry)) body)
+      by-result : (result : Option TheOutcome) → entry.result ≡ result → option_and_then (outcome_body entry) result ≡ Some body → IsSaidTrue records [] occasion (finished_said (header_of (Entry entry)) body)
       by-result None result_is made = absurd cc
       by-result (Some outcome) result_is made = entry-true records occasion entry outcome (has-outcome under.slot entry outcome under.entry_is result_is) body made
   finished-true occasion key (Closed closed) body under is =
-      subst (λ (result : ResultBody). IsSaidTrue records occasion (finished_said (header_of (Closed closed)) result)) (same_Some (totals_body closed) body is)
-      (unfailed-true records occasion (finished_said (header_of (Closed closed)) (totals_body closed)) refl refl (λ both. absurd cc))
+      subst (λ (result : ResultBody). IsSaidTrue records [] occasion (finished_said (header_of (Closed closed)) result)) (same_Some (totals_body closed) body is)
+      (totals-true records occasion closed)

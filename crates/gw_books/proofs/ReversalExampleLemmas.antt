@@ -32,7 +32,7 @@ use Rattle.gw_books.specs.Books.{Honest}
 use Rattle.gw_books.specs.Said.{IsFramed, all_said}
 use Rattle.gw_books.specs.Agrees.{Agrees, EachSaid, success_agrees, refusal_agrees, unaccepted_agrees, not_found_agrees, in_progress_agrees}
 use Rattle.gw_books.specs.DisagreeExample.{entry_in_time}
-use Rattle.gw_books.specs.Example.{asked_course, asked_past, paid_course, paid_entry, paid_moves, paying_intent, payment_command, payment_occasion, payment_text, sent_success, success_reply}
+use Rattle.gw_books.specs.Example.{asked_course, asked_past, paid_course, paid_entry, paid_moves, paying_intent, payment_command, payment_occasion, payment_text, sent_success, paid_reply}
 use Rattle.gw_books.specs.ReversalExample.{abort_text, abort_asked_course, kept_reversal, misasked_course, paid_original, reversal_heard_course, reversal_kept, reversal_text, reversed_book, reversed_course, reversed_moves, reversed_past, reversing_reply, reversed_result_body, reversing_status, reversing_header, reversing_intent, reversing_moves, sent_reversal, stopping_moves, AbortedRoundIsStopped, ReversalIsNoPayment, ReversalRoundIsAsked, ReversedAgrees, ReversedHasPast, ReversedIsBooked}
 use Rattle.gw_books.proofs.CourseLemmas.{asked-lawful, lean-tested, paying-lawful}
 use Rattle.gw_books.proofs.DisagreeLemmas.{breaks-by, last-refused}
@@ -105,10 +105,10 @@ reversed-framed = reply-framed reversing_reply (reply.Told (header_of_reply reve
 
 -- both replies say what agrees
 both-say : (agrees : Agreement) → list_all (agrees reversed_past reversed_book sent_reversal) (all_said (reply_value_tree reversing_reply)) ≡ true
-    → list_all (agrees reversed_past reversed_book sent_success) (all_said (reply_value_tree success_reply)) ≡ true → EachSaid agrees reversed_past reversed_book
+    → list_all (agrees reversed_past reversed_book sent_success) (all_said (reply_value_tree paid_reply)) ≡ true → EachSaid agrees reversed_past reversed_book
 both-say agrees reversed paid = each-agrees agrees reversed_past reversed_book (sent_reversal ∷ sent_success ∷ []) refl (
   record { message = reply_value_tree reversing_reply; framed = reversed-framed; passes = reversed },
-  (record { message = reply_value_tree success_reply; framed = success-framed; passes = paid }, tt),
+  (record { message = reply_value_tree paid_reply; framed = success-framed; passes = paid }, tt),
 )
 
 reversed-book-agrees : Agrees reversed_past reversed_book
@@ -196,7 +196,7 @@ aborted-round-is-stopped = record {
 
 -- the reply after the command
 abbrev misasked_sent : SentReply
-misasked_sent = record { place = 23; bytes = reply_value_bytes success_reply; occasion = payment_occasion; kept = Intent paying_intent ∷ []; waiting = [] }
+misasked_sent = record { place = 23; bytes = reply_value_bytes paid_reply; occasion = payment_occasion; kept = Intent paying_intent ∷ []; waiting = [] }
 
 -- what has happened until then
 abbrev misasked_past : Past
@@ -207,16 +207,16 @@ misasked_past = record asked_past {
   replies = misasked_sent ∷ [];
 }
 
-misasked-past : past_of (misasked_course ++ Make (SentTill 1 (reply_value_bytes success_reply) true) ∷ []) ≡ misasked_past
+misasked-past : past_of (misasked_course ++ Make (SentTill 1 (reply_value_bytes paid_reply) true) ∷ []) ≡ misasked_past
 unfolding decode_apdus decode_apdus_within decode_pt_message history payment_text
 misasked-past = refl
 
-misasked-booked : list_all (success_agrees misasked_past (record entry_in_time { reversal = true } ∷ []) misasked_sent) (all_said (reply_value_tree success_reply)) ≡ false
+misasked-booked : list_all (success_agrees misasked_past (record entry_in_time { reversal = true } ∷ []) misasked_sent) (all_said (reply_value_tree paid_reply)) ≡ false
 unfolding history message_tree header_tree result_tree sale_data poi_data payment_result approved_body result_body transaction_text money_text digits tree_at
 misasked-booked = refl
 
 pub reversal-is-no-payment : ReversalIsNoPayment
 reversal-is-no-payment =
-    breaks-by (misasked_course ++ Make (SentTill 1 (reply_value_bytes success_reply) true) ∷ []) misasked_past (record entry_in_time { reversal = true } ∷ []) misasked-past
+    breaks-by (misasked_course ++ Make (SentTill 1 (reply_value_bytes paid_reply) true) ∷ []) misasked_past (record entry_in_time { reversal = true } ∷ []) misasked-past
     (record { caused = refl; linked = refl; ordered = refl; numbered = refl; true_ends = refl })
-    (λ agrees. last-refused success_agrees misasked_past (record entry_in_time { reversal = true } ∷ []) misasked_sent [] (reply_value_tree success_reply) refl success-framed misasked-booked agrees.success)
+    (λ agrees. last-refused success_agrees misasked_past (record entry_in_time { reversal = true } ∷ []) misasked_sent [] (reply_value_tree paid_reply) refl success-framed misasked-booked agrees.success)

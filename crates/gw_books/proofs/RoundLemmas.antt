@@ -45,7 +45,7 @@ use Rattle.gw_owes.specs.Items.{RoundItem, Message, Asked, Handle, Serve}
 use Rattle.gw_owes.specs.KeptReplies.{kept_reply}
 use Rattle.gw_owes.specs.Laws.{ends_in_one}
 use Rattle.gw_owes.specs.PaymentLaws.{ApprovalIsKept, BeginsThere, DeclineIsKept, EachAcceptedBegins, EachBegunIsServed, MeansAt, outcome_calls}
-use Rattle.gw_owes.specs.Payments.{begins_asking, begins_in, begins_request, beginning_row, is_beginning, reversal_asking, serve_row}
+use Rattle.gw_owes.specs.Payments.{begins_asking, begins_in, begins_request, beginning_row, reversal_asking, serve_row}
 use Rattle.gw_owes.specs.ReadAs.{IsReadAs, ReadAs, Request}
 use Rattle.gw_owes.specs.RecordLaws.{AreRecordsOf, IsInOrder, IsServedOpen}
 use Rattle.gw_owes.specs.Reply.{ReplyValue, Finished}
@@ -53,7 +53,7 @@ use Rattle.gw_owes.specs.Reversals.{original_of, reversal_intent}
 use Rattle.gw_owes.specs.Row.{Known, Row, owing_where}
 use Rattle.gw_owes.specs.Rows.{asked_row, row_of}
 use Rattle.gw_owes.specs.Serving.{reply_to_outcome, staying, stops}
-use Rattle.gw_owes.specs.Steps.{StepResult, Begins, step_result}
+use Rattle.gw_owes.specs.Steps.{StepResult, Begins, is_beginning, step_result}
 use Rattle.gw_owes.specs.Stops.{serves_key, stop_row, stops_key, wishes_stop, wishing}
 use Rattle.gw_owes.specs.Terminals.{of_terminal, terminal_at}
 use Rattle.gw_owes.proofs.ReadLemmas.{reads-one}

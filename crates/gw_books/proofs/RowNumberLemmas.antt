@@ -1,7 +1,7 @@
 -- What an item that isn't a message of a terminal's dialogue leaves of trace numbers, and the order of items and links.
 use Rattle.std.proofs.Common.{◌≡◌, ℕ, Bool, true, false, List, [], ◌∷◌, ◌++◌, refl, sym, ◌∙◌, ap, subst, inl, inr, eqb-true, append-nil, eqb, length, Option, Some, None, ◌⊎◌}
 use Rattle.std.proofs.lemmas.Bool.{eqb-false, eqb-true, ne_eqb, or_parts}
-use Rattle.std.specs.Prelude.{◌⊎◌, ◌+◌, ◌==◌, slice_get, Option, Some, None, Result, Ok, Err, ◌&&◌, ◌||◌}
+use Rattle.std.specs.Prelude.{◌⊎◌, ◌==◌, slice_get, Option, Some, None, Result, Ok, Err, ◌&&◌, ◌||◌}
 use Rattle.std.specs.List.{list_any}
 use Rattle.gw_base.specs.declared.setup.Pt.{Pt}
 use Rattle.gw_site.specs.declared.turn.Turn.{Turn}
@@ -9,38 +9,45 @@ use Rattle.gw_site.specs.Outside.{is_connected, Connection}
 use Rattle.sale_values.specs.declared.header.Header.{Header}
 use Rattle.sale_values.specs.declared.request.SaleRequest.{SaleRequest}
 use Rattle.zvt_apdu.specs.Grammar.{ApduValue}
+use Rattle.zvt_msg.specs.declared.command.Command.{Command}
 use Rattle.zvt_msg.specs.declared.command.Command.TheVariants as commands
 use Rattle.zvt_msg.specs.declared.fault.PtFault.{PtFault}
 use Rattle.zvt_msg.specs.Message.{MessageValue, Ack, Nack, Intermediate, Line, Block, Status, Completion, Abort, Other}
 use Rattle.zvt_msg.specs.MessageDecode.{decode_pt_message}
 use Rattle.jrn_record.specs.declared.records.Intent.{Intent as TheIntent}
 use Rattle.jrn_record.specs.declared.records.Record.{Record}
-use Rattle.jrn_record.specs.declared.records.Record.TheVariants.{Intent}
+use Rattle.jrn_record.specs.declared.records.How.TheVariants as hows
+use Rattle.jrn_record.specs.declared.records.Record.TheVariants.{Intent, Settled}
+use Rattle.jrn_record.specs.declared.records.Settled.{Settled as TheSettled}
 use Rattle.gw_ledger.specs.Fold.{AreFolded}
 use Rattle.gw_ledger.specs.Keys.{intent_key}
 use Rattle.xlate.specs.Ask.{ask}
 use Rattle.gw_owes.specs.declared.terminal.Standing.{Standing}
-use Rattle.gw_owes.specs.declared.terminal.Standing.TheVariants.{Unlinked}
+use Rattle.gw_owes.specs.declared.terminal.Standing.TheVariants.{Unlinked, Ready}
 use Rattle.gw_owes.specs.declared.terminal.Terminal.{Terminal}
 use Rattle.gw_owes.specs.Calls.{OwedCall, LinkPt, CutTill, records_kept, SendTill, SendPt, WriteBody, WriteGate, WriteFirstGate, Sync, CutPt, Ask, keep_calls}
+use Rattle.gw_owes.specs.Awaited.{one_more_awaited}
 use Rattle.gw_owes.specs.Deadlines.{is_late, is_due, late_row, due_row}
+use Rattle.gw_owes.specs.Displays.{asked_to_show}
 use Rattle.gw_owes.specs.Greeting.{greeting, sending_calls, greet_decoded}
 use Rattle.gw_owes.specs.Handling.{handle_row}
 use Rattle.gw_owes.specs.Items.{RoundItem, Crowded, Message, Asked, Unframed, Gone, Greet, NextWaiting, Oversized, LinkLost, Late, Overdue, Due, Serve, Handle}
 use Rattle.gw_owes.specs.Links.{cutting}
 use Rattle.gw_owes.specs.Payments.{Asking, asked_for, beginning_row, serve_row}
 use Rattle.gw_owes.specs.ReadAs.{ReadAs}
+use Rattle.gw_owes.specs.Reconciliations.{asked_for_day, day_command, reply_to_settled, settled_of}
 use Rattle.gw_owes.specs.RecordLaws.{IsReadItem}
 use Rattle.gw_owes.specs.Reply.{ReplyValue}
 use Rattle.gw_owes.specs.Requests.{reply_to, begun_by}
-use Rattle.gw_owes.specs.Row.{Known, Row, owing, owing_where, becoming}
+use Rattle.gw_owes.specs.Row.{Known, Row, owing, owing_where}
 use Rattle.gw_owes.specs.Rows.{asked_row, gone_row, row_of}
 use Rattle.gw_owes.specs.Serving.{reply_to_outcome, staying, stops}
 use Rattle.gw_owes.specs.Stops.{wishing}
-use Rattle.gw_owes.specs.Terminals.{with_terminal, reply_calls_to, reply_to_lost, unlinked_terminal, unlinks, link_lost}
+use Rattle.gw_owes.specs.Terminals.{with_terminal, reply_calls_to, reply_to_lost, terminal_at, terminal_becomes, unlinks, link_lost}
 use Rattle.gw_owes.proofs.BeginLemmas.{IsAskedAnew, begins-anew, begins-keeps}
 use Rattle.gw_owes.proofs.HandlingLemmas.{by-where, each-terminal, each-linked}
-use Rattle.gw_owes.proofs.PaymentLemmas.{BeginsAt, each-served}
+use Rattle.gw_owes.proofs.KeepingLemmas.{replies-keep-nothing}
+use Rattle.gw_owes.proofs.PaymentLemmas.{BeginsAt, each-served, settled_row}
 use Rattle.gw_owes.proofs.RecordLemmas.{LedgerLaws}
 use Rattle.gw_owes.proofs.SetLemmas.{new-is-there, same-some}
 use Rattle.gw_rules.specs.Lawful.{Begins, may_begin}
@@ -60,12 +67,13 @@ use Rattle.gw_rules.proofs.StageLemmas.{no-true}
 use Rattle.gw_books.specs.Books.{BookedEntry, Honest}
 use Rattle.gw_books.specs.Past.{Past, past_after}
 use Rattle.gw_books.proofs.BeginHoldsLemmas.{between-holds, between-numbered}
-use Rattle.gw_books.proofs.Holding.{begun_past, charge_owed, charges_terminal, is_deed, sending_charges, ServeTransactions, HoldsBetween, deed_owed, is_handle}
+use Rattle.gw_books.proofs.HandledLemmas.{IsItemHandled}
+use Rattle.gw_books.proofs.Holding.{begun_past, charge_owed, charges, charges_terminal, is_deed, sending_charges, HoldsBetween, deed_owed, is_handle}
 use Rattle.gw_books.proofs.Numbering.{AreLinkedBeforeHearing, AreRecordsNumbered, BeginNumbers, IsQuiet as IsQuietAt, IsReadyNumber, IsStandingNumbered, Numbered, NumberedAfterRow, NumberedBetween, RowHolds, RowNumbers, RowOrders, handles_after_due, is_due_item, link_owed}
 use Rattle.gw_books.proofs.NumberStepLemmas.{standings-set}
-use Rattle.gw_books.proofs.QuietRowLemmas.{IsQuiet, asked-handles-none, gone-calm, lost-unanswered, same-calm, stopped-quiet, unlinked-calm}
-use Rattle.gw_books.proofs.RecordNumberLemmas.{numbered-with-intent}
-use Rattle.gw_books.proofs.ServeLemmas.{key-unsent}
+use Rattle.gw_books.proofs.QuietRowLemmas.{IsQuiet, asked-handles-none, gone-calm, same-calm, session-quiet, stopped-quiet, unlinks-quiet}
+use Rattle.gw_books.proofs.RecordNumberLemmas.{numbered-with-intent, numbered-with-settled}
+use Rattle.gw_books.proofs.ServeLemmas.{key-unsent, show-free}
 
 -- ---- rows that leave each standing, or lose a link
 
@@ -147,10 +155,8 @@ due-quiet known number =
     each-terminal (IsQuiet known) known number (λ terminal. owing_where (is_due known.moment terminal.standing) known (owing known (LinkPt number ∷ []))) (nothing-quiet known)
     (λ terminal found. by-where (IsQuiet known) known (owing known (LinkPt number ∷ [])) (is_due known.moment terminal.standing) (nothing-quiet known) (λ due. owing-quiet known (LinkPt number ∷ []) [] refl refl refl))
 
-lost-quiet : (known : Known) (number : ℕ) → ServeTransactions known.core → IsQuiet known (link_lost known number)
-lost-quiet known number serve = each-terminal (IsQuiet known) known number (unlinks known number) (nothing-quiet known) (λ terminal found.
-    subst (λ (calls : List OwedCall). IsQuiet known (becoming (with_terminal known.core number (unlinked_terminal terminal known.moment)) calls)) (sym (lost-unanswered terminal.asker terminal.standing (serve number terminal found)))
-    (record { calm = unlinked-calm known.core number terminal (unlinked_terminal terminal known.moment) _ found refl refl; none_kept = refl; no_deed = refl; handles_none = refl }))
+lost-quiet : (known : Known) (number : ℕ) → IsQuiet known (link_lost known number)
+lost-quiet known number = each-terminal (IsQuiet known) known number (unlinks known number) (nothing-quiet known) (λ terminal found. unlinks-quiet known number terminal found)
 
 -- ---- a payment or a reversal begins
 
@@ -198,13 +204,47 @@ RowLeaves item =
 pub numbers-begun : (scene : Scene) (known : Known) (past : Past) (book : List BookedEntry) (item : RoundItem) (row : Row) → NumberedAfterRow known past book row → NumberedAfterRow known (begun_past scene past item) book row
 numbers-begun scene known past book item row r = record { records = r.records; standings = r.standings; asked = r.asked }
 
+-- ---- a reconciliation and a display
+
+-- what is settled changes no terminal
+settled-numbers : (laws : LedgerLaws) (known : Known) (past : Past) (book : List BookedEntry) (till : ℕ) (header : Header) (terminal : Terminal) → NumberedBetween known past book → NumberedAfterRow known past book (settled_row known till header terminal)
+settled-numbers laws known past book till header terminal n =
+    let settled : TheSettled = settled_of hows.Sale header terminal.pt.currency known.moment in
+    let reply : Option ReplyValue = reply_to_settled known.kept settled in
+    record {
+      records = subst (λ (records : List Record). AreRecordsNumbered book past.commands past.place records)
+          (sym (ap (λ (rest : List Record). known.kept ++ Settled settled ∷ rest) (replies-keep-nothing (Some till) reply).no_records))
+          (numbered-with-settled laws known.kept settled book past.commands past.place n.records);
+      standings = n.standings;
+      asked = λ number one found owed. absurd cc;
+    }
+
+-- a terminal that is ready serves what has no trace number
+beside-numbers : (known : Known) (past : Past) (book : List BookedEntry) (number : ℕ) (terminal new : Terminal) (last : ℕ) (command : Command) → NumberedBetween known past book → terminal_at known number ≡ Some terminal → terminal.standing ≡ Ready last
+    → new.pt ≡ terminal.pt → charges command ≡ false → (IsReadyNumber book past.commands terminal.pt.poi past.place last → IsStandingNumbered past.links past.commands past.place book terminal.pt.poi new.standing)
+    → NumberedAfterRow known past book (terminal_becomes known number new (SendPt number (Ask command) ∷ []))
+beside-numbers known past book number terminal new last command n found standing same free stands = record {
+  records = subst (λ (records : List Record). AreRecordsNumbered book past.commands past.place records) (sym (append-nil known.kept)) n.records;
+  standings = standings-set past book known.core number terminal new found (λ other one apart there. n.standings other one there)
+      (subst (λ (pt : Pt). IsStandingNumbered past.links past.commands past.place book pt.poi new.standing) (sym same)
+      (stands (subst (IsStandingNumbered past.links past.commands past.place book terminal.pt.poi) standing (n.standings number terminal found))));
+  asked = λ other one there owed. no-true (sym (ap (λ (b : Bool). b || false) free) ∙ charge-is-deed other (SendPt number (Ask command) ∷ []) owed);
+}
+
 serve-numbers : (laws : LedgerLaws) (number till : ℕ) (header : Header) (request : SaleRequest) → RowLeaves (Serve number till header request)
 serve-numbers laws number till header request scene tills known past book same between n linked read honest =
-    each-served (NumberedAfterRow known past book) known number till header request (quiet-numbers known past book (owing known []) n (nothing-quiet known))
-    (λ terminal last asking at. begun-numbers laws known past book number till header request terminal last asking between n at (begins-anew laws known between.in_order number till header request terminal last asking read at))
-    (λ terminal talk at may.
-    quiet-numbers known past book (stops known number (wishing terminal talk)) n (stopped-quiet known number header request terminal talk (terminal.awaited + 1) (SendPt number (Ask commands.Stop) ∷ []) at refl refl))
-    (λ terminal talk at may. quiet-numbers known past book (staying known number (wishing terminal talk)) n (stopped-quiet known number header request terminal talk terminal.awaited [] at refl refl))
+    each-served (NumberedAfterRow known past book) known number till header request (record {
+      none = quiet-numbers known past book (owing known []) n (nothing-quiet known);
+      begins = λ terminal last asking at. begun-numbers laws known past book number till header request terminal last asking between n at (begins-anew laws known between.in_order number till header request terminal last asking read at);
+      sent = λ terminal talk at may.
+          quiet-numbers known past book (stops known number (wishing terminal talk)) n (stopped-quiet known number header request terminal talk (one_more_awaited terminal.awaited) (SendPt number (Ask commands.Stop) ∷ []) at refl refl);
+      wished = λ terminal talk at may. quiet-numbers known past book (staying known number (wishing terminal talk)) n (stopped-quiet known number header request terminal talk terminal.awaited [] at refl refl);
+      session = λ success. quiet-numbers known past book _ n (session-quiet known till header request);
+      settles = λ terminal at. settled-numbers laws known past book till header terminal n;
+      day = λ terminal last at. beside-numbers known past book number terminal (asked_for_day known till terminal last header) last (day_command terminal.pt) n at.found at.standing_is refl refl (λ ready. ready);
+      displays = λ terminal last outputs command at.
+          beside-numbers known past book number terminal (asked_to_show known till terminal last header outputs command) last command n at.found at.standing_is refl (show-free outputs command at.shown_is) (λ ready. ready);
+    })
 
 -- each item but a message of a terminal's dialogue
 row-leaves : (laws : LedgerLaws) (item : RoundItem) → is_handle item ≡ false → RowLeaves item
@@ -225,7 +265,7 @@ row-leaves laws (Serve number till header request) other scene tills known past 
 row-leaves laws (NextWaiting number) other scene tills known past book same between n linked read honest = quiet-numbers known past book _ n (nothing-quiet known)
 row-leaves laws (Oversized number) other scene tills known past book same between n linked read honest =
     quiet-numbers known past book _ n (each-linked (IsQuiet known) known number (λ terminal. cutting known number) (nothing-quiet known) (λ terminal found is_linked. cut-quiet known number))
-row-leaves laws (LinkLost number) other scene tills known past book same between n linked read honest = quiet-numbers known past book _ n (lost-quiet known number between.transactions)
+row-leaves laws (LinkLost number) other scene tills known past book same between n linked read honest = quiet-numbers known past book _ n (lost-quiet known number)
 row-leaves laws (Late number) other scene tills known past book same between n linked read honest = quiet-numbers known past book _ n (late-quiet known number)
 row-leaves laws (Overdue key) other scene tills known past book same between n linked read honest = quiet-numbers known past book _ n (nothing-quiet known)
 row-leaves laws (Due number) other scene tills known past book same between n linked read honest = quiet-numbers known past book _ n (due-quiet known number)
@@ -276,12 +316,23 @@ handle-orderly known number apdu = form-handled IsOrderly known number apdu (rec
   enquires = record { unlinked = refl; no_items = refl };
   rests = λ standing stands. record { unlinked = refl; no_items = refl };
   resolves = λ standing outcome stands. record { unlinked = replies-unlinked terminal.asker (reply_to_outcome known.kept outcome.slot outcome); no_items = refl };
+  settles = λ last settled. record { unlinked = replies-unlinked terminal.asker (reply_to_settled known.kept settled); no_items = refl };
+  replies = λ last reply. record { unlinked = replies-unlinked terminal.asker reply; no_items = refl };
+  requests = λ till request asker. record { unlinked = refl; no_items = refl };
 })
 
 serve-orderly : (known : Known) (number till : ℕ) (header : Header) (request : SaleRequest) → IsOrderly (serve_row known number till header request)
 serve-orderly known number till header request =
-    each-served IsOrderly known number till header request (record { unlinked = refl; no_items = refl }) (λ terminal last asking at. record { unlinked = refl; no_items = refl }) (λ terminal talk at may. record { unlinked = refl; no_items = refl })
-    (λ terminal talk at may. record { unlinked = refl; no_items = refl })
+    each-served IsOrderly known number till header request (record {
+      none = record { unlinked = refl; no_items = refl };
+      begins = λ terminal last asking at. record { unlinked = refl; no_items = refl };
+      sent = λ terminal talk at may. record { unlinked = refl; no_items = refl };
+      wished = λ terminal talk at may. record { unlinked = refl; no_items = refl };
+      session = λ success. record { unlinked = refl; no_items = refl };
+      settles = λ terminal at. record { unlinked = refl; no_items = refl };
+      day = λ terminal last at. record { unlinked = refl; no_items = refl };
+      displays = λ terminal last outputs command at. record { unlinked = refl; no_items = refl };
+    })
 
 late-orderly : (known : Known) (number : ℕ) → IsOrderly (late_row known number)
 late-orderly known number =
@@ -368,8 +419,8 @@ row-numbered log v past book item rest row o b n k e is handles_none r =
     after-due false is none = no-true is
 
 -- where each row keeps what holds, so does the beginning of an item
-pub begin-numbers : ((item : RoundItem) → RowHolds item) → ((item : RoundItem) → RowNumbers item) → BeginNumbers
-begin-numbers holding rows log v past book o b h n honest = by_items v.items refl
+pub begin-numbers : ((item : RoundItem) → IsItemHandled item → RowHolds item) → ((item : RoundItem) → RowNumbers item) → BeginNumbers
+begin-numbers holding rows log v past book o b handled h n honest = by_items v.items refl
   where
     by_items : (items : List RoundItem) → v.items ≡ items → Numbered (after v Begin) (past_after v past Begin) book
     by_items [] e = no-true (sym (ap (may_begin v.scene) e) ∙ b.first)
@@ -381,7 +432,7 @@ begin-numbers holding rows log v past book o b h n honest = by_items v.items ref
         let numbered = between-numbered v past book n k.setup in
         let linked : is_handle item ≡ true → AreLinkedBeforeHearing past = (λ handles. n.linked (ap (list_any is_handle) e ∙ ap (λ (b : Bool). b || list_any is_handle rest) handles)) in
         let read = first-was-read log v item rest o k e in
-        let held = holding item v.scene v.scene.outside.tills known past book refl between numbered linked read book_honest in
+        let held = holding item (handled item rest e) v.scene v.scene.outside.tills known past book refl between numbered linked read book_honest in
         let r = rows item v.scene v.scene.outside.tills known past book refl between numbered linked read book_honest in
         subst (λ (items : List RoundItem). Numbered (after (record v { items = items }) Begin) (past_after (record v { items = items }) past Begin) book) (sym e)
         (row-numbered log v past book item rest (row_at v.scene item) o b n k e (sym (row-is v.scene k item)) (ap (λ (row : Row). list_any is_handle row.items) (row-is v.scene k item) ∙ held.handles_none)

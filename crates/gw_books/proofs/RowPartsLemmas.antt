@@ -19,7 +19,7 @@ use Rattle.gw_rules.specs.TranscriptLaws.{cut_owed}
 use Rattle.gw_books.specs.Agrees.{is_inside}
 use Rattle.gw_books.specs.Books.{BookedEntry}
 use Rattle.gw_books.specs.Past.{Occasion, SentCommand, MadeLink, HeardEnd, Past}
-use Rattle.gw_books.proofs.Holding.{AreCallsSound, AreOutcomesTrue, HoldsAfterRow, HoldsBetween, IsLinkAtRest, IsLinkSound, IsOfTerminal, IsResolvedOn, IsServingSound, ServesTransaction, charge_owed, deed_owed, is_handle, is_report_after, records_after}
+use Rattle.gw_books.proofs.Holding.{AreCallsSound, AreOutcomesTrue, HoldsAfterRow, HoldsBetween, IsLinkAtRest, IsLinkSound, IsOfTerminal, IsResolvedOn, IsServingSound, IsRepliable, charge_owed, deed_owed, is_handle, is_report_after, records_after}
 use Rattle.gw_books.proofs.RecordMoreLemmas.{resolved-more, served-intent, serving-more}
 
 -- ---- records
@@ -46,7 +46,7 @@ grows-one laws kept next commands = record {
 
 -- what is served at the terminal of this number is sound, unless its command is still owed, or its cut
 pub record IsServedSound (records : List Record) (commands : List SentCommand) (calls : List OwedCall) (number : ℕ) (terminal : Terminal) : Type 0 where
-  pub transaction : ServesTransaction terminal.standing
+  pub repliable : IsRepliable terminal.standing
   pub serving : charge_owed number calls ≡ false → cut_owed number calls ≡ false → IsServingSound records commands terminal.pt.poi terminal.standing
 
 -- a terminal of this number has these settings
@@ -91,7 +91,7 @@ parts-hold known past book occasion ends row records holds parts = record {
   calls = subst (λ (r : List Record). AreCallsSound r row.core past.commands occasion row.calls) (sym parts.records_are) parts.calls;
   serving = λ number terminal found uncharged uncut.
       subst (λ (r : List Record). IsServingSound r past.commands terminal.pt.poi terminal.standing) (sym parts.records_are) (serves number terminal found uncharged uncut);
-  transactions = transactions;
+  repliable = repliable;
   inside = parts.inside;
   handles_none = ap (list_any is_handle) parts.no_items;
   links = λ link there. subst (λ (r : List Record). IsLinkSound r row.core row.calls (record past { occasion = occasion; ends = ends ++ past.ends }) link) (sym parts.records_are) (link-sound link (holds.links link there));
@@ -104,10 +104,10 @@ parts-hold known past book occasion ends row records holds parts = record {
       | inr new ↦ new.serving uncharged uncut
     ]
 
-    transactions : (number : ℕ) (terminal : Terminal) → slice_get row.core.terminals number ≡ Some terminal → ServesTransaction terminal.standing
-    transactions number terminal found = elim (parts.from number terminal found) [
-      | inl was ↦ holds.transactions number terminal was
-      | inr new ↦ new.transaction
+    repliable : (number : ℕ) (terminal : Terminal) → slice_get row.core.terminals number ≡ Some terminal → IsRepliable terminal.standing
+    repliable number terminal found = elim (parts.from number terminal found) [
+      | inl was ↦ holds.repliable number terminal was
+      | inr new ↦ new.repliable
     ]
 
     link-sound : (link : MadeLink) → IsLinkAtRest known.kept known.core past link → IsLinkSound records row.core row.calls (record past { occasion = occasion; ends = ends ++ past.ends }) link

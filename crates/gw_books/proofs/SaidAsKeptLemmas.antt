@@ -132,7 +132,7 @@ module _ (laws : LedgerLaws) (v : View) (past : Past) (book : List BookedEntry) 
   own : HasOutcomeOf poll.kept slot has.outcome
   own = outcome-of-entry laws poll.kept slot intent has.outcome (folded-first poll.kept kept-then.0 (subst AreFolded kept-then.1 folded)) asked has.found
 
-  truth : IsSaidTrue is_said.reply.kept is_said.reply.occasion said
+  truth : IsSaidTrue is_said.reply.kept is_said.reply.waiting is_said.reply.occasion said
   truth = (both.holds.replies is_said.reply within).says is_said.message is_said.framed said (at-in (all_said is_said.message) is_said.number said is_said.says)
 
   -- what is said is of the Intent's slot

@@ -1,22 +1,36 @@
 -- All bytes that are sent to a till are the frame of a message: each reply that is owed can be spelled, whatever the books say.
-use Rattle.std.proofs.Common.{◌≡◌, ◌<◌, ◌^◌, ℕ, Bool, true, false, List, [], ◌∷◌, ◌++◌, length, refl, sym, ◌∙◌, subst}
-use Rattle.std.specs.Prelude.{if◌then◌else◌, nat_lt, nat_le, slice_get, Option, Some, None, Result, Ok, Err}
+use Rattle.std.proofs.Common.{◌≡◌, ◌<◌, ◌^◌, ℕ, Bool, true, false, List, [], ◌∷◌, ◌++◌, length, refl, sym, ◌∙◌, ◌+◌, ap, subst, arith}
+use Rattle.std.proofs.lemmas.List.{length-append}
+use Rattle.std.specs.Prelude.{if◌then◌else◌, option_map, nat_lt, nat_le, slice_get, Option, Some, None, Result, Ok, Err}
+use Rattle.gw_base.specs.declared.condition.Condition.{Condition}
 use Rattle.gw_base.specs.declared.figures.Figures.{Figures}
 use Rattle.gw_base.specs.declared.setup.Setup.{Setup}
 use Rattle.gw_site.specs.Outside.{Connection, is_connected}
 use Rattle.gw_site.specs.declared.turn.Turn.{Turn}
 use Rattle.gw_site.specs.declared.turn.Turn.TheVariants.{Start, OpenFailed, Polled, Opened, HeardTill, Closed, HeardPt, Lost, Stopped, Linked, LinkFailed, SentTill, SentPt, CutTill, CutPt, Wrote, Synced, DiskFailed, Crash}
+use Rattle.sale_values.specs.declared.header.Header.{Header}
+use Rattle.sale_values.specs.declared.names.Period.{Period}
+use Rattle.sale_values.specs.declared.names.Period.TheVariants.{AcquirerReconciliation, SaleReconciliation}
+use Rattle.sale_values.specs.declared.request.SaleRequest.{SaleRequest}
+use Rattle.sale_values.specs.declared.request.SaleRequest.TheVariants as requests
+use Rattle.sale_reply.specs.Limits.{IsVerdictWithinLimits}
+use Rattle.sale_reply.specs.declared.reply.Shown.{Shown}
+use Rattle.sale_reply.specs.declared.reply.Verdict.{Verdict}
 use Rattle.zvt_msg.specs.declared.fault.PtFault.{PtFault}
 use Rattle.zvt_msg.specs.Message.{MessageValue, Ack, Nack, Intermediate, Line, Block, Status, Completion, Abort, Other}
 use Rattle.zvt_msg.specs.MessageDecode.{decode_pt_message}
 use Rattle.zvt_talk.specs.Came.{is_taken}
 use Rattle.zvt_talk.specs.declared.meaning.Heard.{Heard}
 use Rattle.zvt_talk.specs.declared.meaning.Heard.TheVariants as heard
-use Rattle.jrn_record.specs.Limits.{IsOutcome}
+use Rattle.jrn_record.specs.Limits.{IsOutcome, IsSettled}
+use Rattle.jrn_record.specs.declared.records.How.TheVariants as hows
 use Rattle.jrn_record.specs.declared.records.Outcome.{Outcome as TheOutcome}
+use Rattle.jrn_record.specs.declared.records.Record.TheVariants.{Settled}
+use Rattle.jrn_record.specs.declared.records.Settled.{Settled as TheSettled}
 use Rattle.gw_ledger.specs.declared.entry.Entry.{Entry as TheEntry}
 use Rattle.gw_ledger.specs.Accounts.{last_number_of}
 use Rattle.gw_ledger.specs.Fold.{open_entry}
+use Rattle.xlate.specs.Codes.{condition_of_code}
 use Rattle.gw_owes.specs.declared.terminal.Service.{Service}
 use Rattle.gw_owes.specs.declared.terminal.Service.TheVariants.{Transaction, EndOfDay, Display}
 use Rattle.gw_owes.specs.declared.terminal.Standing.{Standing}
@@ -25,42 +39,54 @@ use Rattle.gw_owes.specs.declared.terminal.Terminal.{Terminal}
 use Rattle.gw_owes.specs.Calls.{OwedCall, SendTill, SendPt, LinkPt, WriteBody, WriteGate, WriteFirstGate, Sync, CutTill as OwedCutTill, CutPt as OwedCutPt}
 use Rattle.gw_owes.specs.Core.{Core, new_core, new_terminal}
 use Rattle.gw_owes.specs.Deadlines.{is_late, is_due}
+use Rattle.gw_owes.specs.DeviceRequests.{requests_device}
+use Rattle.gw_owes.specs.Displays.{display_ends, serving_display, with_customer_verdict}
 use Rattle.gw_owes.specs.Greeting.{greeting, sending_calls, greet_decoded}
-use Rattle.gw_owes.specs.Handling.{consequence, enquiring, handle_decoded, handle_message, meaning_at, registering, serving, taken_as, taking}
+use Rattle.gw_owes.specs.Handling.{consequence, enquiring, handle_decoded, handle_message, meaning_at, registering, serving, taken_as, taken_row, taking}
 use Rattle.gw_owes.specs.HeardLaws.{FitsRecord, IsReportFit}
 use Rattle.gw_owes.specs.Items.{RoundItem, Crowded, Message, Asked, Unframed, Gone, Greet, Handle, Serve, NextWaiting, Oversized, LinkLost, Late, Overdue, Due}
 use Rattle.gw_owes.specs.Links.{cutting}
-use Rattle.gw_owes.specs.RecordLaws.{AreRecordsOf, IsInOrder, IsReadItem, IsServedOpen}
+use Rattle.gw_owes.specs.Reconciliations.{day_done, reply_to_settled, serving_day, settled_of}
+use Rattle.gw_owes.specs.RecordLaws.{AreRecordsOf, IsDayServed, IsInOrder, IsReadItem, IsReadRequest, IsServedOpen, IsServiceOnRecord, KeepsInOrder}
+use Rattle.gw_owes.specs.Replies.{display_reply, failure, failure_reply, success}
 use Rattle.gw_owes.specs.Reply.{ReplyValue, reply_value_tree}
 use Rattle.gw_owes.specs.Reports.{Report, on_record, outcome_reported, report_against, report_row, standing_reported}
 use Rattle.gw_owes.specs.Requests.{reply_to}
 use Rattle.gw_owes.specs.Row.{Known, Row, owing, owing_nothing, owing_where}
 use Rattle.gw_owes.specs.Rows.{asked_row, row_of}
-use Rattle.gw_owes.specs.Serving.{at_rest, approved_outcome, approved_row, declined_outcome, reply_to_outcome, resolves, serving_transaction, was_stopped}
-use Rattle.gw_owes.specs.Terminals.{core_without, forgets_till, link_lost, link_made, registers, reply_calls_to, terminal_at, terminal_becomes, unlinks}
-use Rattle.gw_owes.proofs.HandlingLemmas.{by-where, each-linked, each-terminal}
+use Rattle.gw_owes.specs.Serving.{at_rest, approved_outcome, approved_row, declined_outcome, reply_to_outcome, done_with, resolves, serving_transaction, staying, was_stopped}
+use Rattle.gw_owes.specs.Terminals.{core_without, forgets_till, link_lost, link_made, registers, reply_calls_to, reply_to_lost, terminal_at, terminal_becomes, unlinks}
+use Rattle.gw_owes.proofs.BeginLemmas.{serve-keeps}
+use Rattle.gw_owes.proofs.DayLemmas.{days-set, days_in}
+use Rattle.gw_owes.proofs.HandlingLemmas.{RequestsDevice, by-where, each-linked, each-terminal, taken-cases}
 use Rattle.gw_owes.proofs.HeardLemmas.{meant-fits}
-use Rattle.gw_owes.proofs.LimitLemmas.{approval-within, decline-within}
-use Rattle.gw_owes.proofs.PaymentLemmas.{each-served}
+use Rattle.gw_owes.proofs.KeepingLemmas.{RowKeeps}
+use Rattle.gw_owes.proofs.LimitLemmas.{approval-within, decline-within, keyed-within, reconciliation-within, settled-within}
+use Rattle.gw_owes.proofs.PaymentLemmas.{SettlesAt, each-served, settled_row}
 use Rattle.gw_owes.proofs.RecordLemmas.{LedgerLaws, open-without-outcome}
 use Rattle.gw_owes.proofs.ServingLemmas.{reported-outcome, slot-small}
 use Rattle.gw_owes.proofs.SetLemmas.{same-some}
-use Rattle.gw_rules.specs.Lawful.{Begins, IsCourse, first_call, turns_of}
+use Rattle.gw_rules.specs.Lawful.{Begins, IsCourse, Stands, first_call, turns_of}
 use Rattle.gw_rules.specs.Opening.{opening}
 use Rattle.gw_rules.specs.Scene.{Scene, known_in, records_of, row_at, row_in, link_made_at, link_lost_at}
 use Rattle.gw_rules.specs.View.{View, Move, Begin, Read, Make, after, after_turn, at_first, later}
+use Rattle.gw_rules.proofs.CourseLemmas.{stands-more}
 use Rattle.gw_rules.proofs.KeptPhaseLemmas.{round-runs}
 use Rattle.gw_rules.proofs.LinkedLemmas.{round-setup}
 use Rattle.gw_rules.proofs.RecordOrderLemmas.{Ordered, begin-ordered, between-items, first-ordered, first-was-read, read-ordered, row-is, turn-ordered}
 use Rattle.gw_rules.proofs.RecordRowLemmas.{OrderLaws}
 use Rattle.gw_rules.proofs.TranscriptLogLemmas.{image-there, there-image}
+use Rattle.gw_books.specs.Past.{OfNothing}
 use Rattle.gw_books.specs.Said.{IsFramed}
 use Rattle.gw_books.specs.SaidLaws.{EachSentIsFramed}
-use Rattle.gw_books.proofs.FrameRowLemmas.{transactions-stay}
-use Rattle.gw_books.proofs.Holding.{IsReplyWithin, ServesTransaction, ServeTransactions}
-use Rattle.gw_books.proofs.QuietRowLemmas.{lost-unanswered}
-use Rattle.gw_books.proofs.ReplyLimitLemmas.{asked-within, outcome-within}
+use Rattle.gw_books.proofs.FrameRowLemmas.{repliable-stay}
+use Rattle.gw_books.proofs.HandledLemmas.{IsItemHandled, IsMessageSmall, first-handled, first-stands, message-small, stands-begun, stands-read}
+use Rattle.gw_books.proofs.Holding.{AreRepliable, IsRepliable, IsReplyWithin, IsServiceRepliable}
+use Rattle.gw_books.proofs.NoteLemmas.{noted}
+use Rattle.gw_books.proofs.ReplyLimitLemmas.{asked-within, failure-within, outcome-within, results-within, settled-reply-within, some-holds, success-within}
 use Rattle.gw_books.proofs.SentBytesLemmas.{own-frame}
+use Rattle.gw_books.proofs.ServeLemmas.{day-beside, display-beside}
+use Rattle.gw_books.proofs.ServedReplyLemmas.{device-sound, lost-sound, served-key, verdict-within}
 
 -- ---- what is owed
 
@@ -99,15 +125,15 @@ reply-within None reply each = tt
 reply-within (Some till) None each = tt
 reply-within (Some till) (Some reply) each = (each reply refl, tt)
 
--- what a row leaves and owes: no more than payments are served, and each reply is within its limits
+-- what a row leaves and owes: what is served can be replied to, and each reply is within its limits
 record LeavesWithin (row : Row) : Type 0 where
-  transactions : ServeTransactions row.core
+  repliable : AreRepliable row.core
   calls : AreWithin row.calls
 
-module _ (known : Known) (serve : ServeTransactions known.core) where
+module _ (known : Known) (serve : AreRepliable known.core) where
   -- these calls
   owing-within : (calls : List OwedCall) → AreWithin calls → LeavesWithin (owing known calls)
-  owing-within calls all = record { transactions = serve; calls = all }
+  owing-within calls all = record { repliable = serve; calls = all }
 
   nothing-within : LeavesWithin (owing_nothing known)
   nothing-within = owing-within [] tt
@@ -116,14 +142,15 @@ module _ (known : Known) (serve : ServeTransactions known.core) where
   cut-within number = owing-within (OwedCutPt number ∷ []) (tt, tt)
 
   -- a terminal that is so now
-  becomes-within : (number : ℕ) (new : Terminal) (calls : List OwedCall) → ServesTransaction new.standing → AreWithin calls → LeavesWithin (terminal_becomes known number new calls)
-  becomes-within number new calls serves all = record { transactions = transactions-stay known.core number new serve serves; calls = all }
+  becomes-within : (number : ℕ) (new : Terminal) (calls : List OwedCall) → IsRepliable new.standing → AreWithin calls → LeavesWithin (terminal_becomes known number new calls)
+  becomes-within number new calls serves all = record { repliable = repliable-stay known.core number new serve serves; calls = all }
 
   -- ---- links
 
   lost-within : (number : ℕ) → LeavesWithin (link_lost known number)
   lost-within number = each-terminal LeavesWithin known number (unlinks known number) nothing-within (λ terminal found.
-      becomes-within number _ _ tt (subst AreWithin (sym (lost-unanswered terminal.asker terminal.standing (serve number terminal found))) tt))
+      becomes-within number _ _ tt
+      (reply-within terminal.asker (reply_to_lost terminal.standing) (λ own replies. (lost-sound known.kept [] OfNothing terminal.standing own (serve number terminal found) replies).within)))
 
   made-within : (number : ℕ) → LeavesWithin (link_made known number)
   made-within number = each-terminal LeavesWithin known number (registers known number) nothing-within (λ terminal found. becomes-within number _ _ tt (tt, tt))
@@ -146,12 +173,12 @@ module _ (known : Known) (serve : ServeTransactions known.core) where
       each-linked LeavesWithin known number (λ terminal. owing known (sending_calls number (greeting message))) nothing-within (λ terminal found linked. owing-within (sending_calls number (greeting message)) (greeted-within number message))
   greet-within number (Err fault) = each-linked LeavesWithin known number (λ terminal. cutting known number) nothing-within (λ terminal found linked. cut-within number)
 
-module _ (laws : LedgerLaws) (known : Known) (order : IsInOrder known) (serve : ServeTransactions known.core) (number : ℕ) (old : Terminal) (here : terminal_at known number ≡ Some old) (message : MessageValue) where
+module _ (laws : LedgerLaws) (known : Known) (order : IsInOrder known) (serve : AreRepliable known.core) (number : ℕ) (old : Terminal) (here : terminal_at known number ≡ Some old) (message : MessageValue) (prints : IsMessageSmall message) where
   -- the terminal once the message was taken
   abbrev now : Terminal
   now = taking old message known.moment
 
-  own-serves : ServesTransaction old.standing
+  own-serves : IsRepliable old.standing
   own-serves = serve number old here
 
   stays-within : (calls : List OwedCall) → AreWithin calls → LeavesWithin (terminal_becomes known number now calls)
@@ -180,7 +207,7 @@ module _ (laws : LedgerLaws) (known : Known) (order : IsInOrder known) (serve : 
   report-kept : (report : Report) → IsReportFit report.trace report.approved → LeavesWithin (report_row (on_record known.kept now.pt.poi) known number now report)
   report-kept report fit = by-open (open_entry known.kept now.pt.poi) refl
     where
-      by-least : (least : ℕ) (b : Bool) → ServesTransaction (if b then Ready report.trace else Aside least report.trace)
+      by-least : (least : ℕ) (b : Bool) → IsRepliable (if b then Ready report.trace else Aside least report.trace)
       by-least least true = tt
       by-least least false = tt
 
@@ -234,62 +261,156 @@ module _ (laws : LedgerLaws) (known : Known) (order : IsInOrder known) (serve : 
   transaction-kept slot last heard.Unclear has fit = stays-within (OwedCutPt number ∷ []) (tt, tt)
   transaction-kept slot last heard.Stray has fit = stays-within [] tt
 
-  serving-kept : (service : Service) (last : ℕ) (meant : Heard) → AreRecordsOf known.kept old.pt.poi (Serving service last) → FitsRecord meant → LeavesWithin (serving known number now service last meant)
-  serving-kept (Transaction slot) last meant has fit = transaction-kept slot last meant has fit
-  serving-kept (EndOfDay header period) last meant has fit = absurd has
-  serving-kept (Display header outputs) last meant has fit = absurd has
+  -- what is served there can be replied to
+  can_reply : (service : Service) (last : ℕ) → old.standing ≡ Serving service last → IsServiceRepliable service
+  can_reply service last is = subst IsRepliable is own-serves
 
-  consequence-kept : (standing : Standing) (meant : Heard) → AreRecordsOf known.kept old.pt.poi standing → FitsRecord meant → LeavesWithin (consequence known number now meant standing)
-  consequence-kept (Unlinked due) meant has fit = nothing-within known serve
-  consequence-kept Registering meant has fit = registering-kept meant
-  consequence-kept Enquiring meant has fit = enquiring-kept meant fit
-  consequence-kept (Ready last) meant has fit = stays-within [] tt
-  consequence-kept (Serving service last) meant has fit = serving-kept service last meant has fit
-  consequence-kept (Aside before reported) meant has fit = stays-within [] tt
+  -- an end of day is done: its Settled is kept
+  settles-within : (header : Header) (period : Period) (last : ℕ) → old.standing ≡ Serving (EndOfDay header period) last → IsDayServed known.kept old.pt.poi last header period → LeavesWithin (day_done known number now last header)
+  settles-within header period last is has =
+      let settled : TheSettled = settled_of hows.Acquirer header now.pt.currency known.moment in
+      let within : IsSettled settled = settled-within hows.Acquirer header now.pt.currency known.moment (keyed-within header has.key has.heading has.key_is) order.moment in
+      let counted : days_in old.standing ≡ 1 = ap days_in is in
+      let days = days-set known.core.terminals number old (done_with now (Ready last)) here in
+      let room = order.room in
+      let slot : length known.kept < known.setup.slots = omega (arith, counted, days, room) in
+      becomes-within known serve number _ _ tt
+      (tt, (tt, (tt, (tt, reply-within old.asker (reply_to_settled known.kept settled) (λ own replies. settled-reply-within known settled own order within slot replies)))))
+
+  day-kept : (header : Header) (period : Period) (last : ℕ) (meant : Heard) → old.standing ≡ Serving (EndOfDay header period) last → IsDayServed known.kept old.pt.poi last header period → LeavesWithin (serving_day known number now last header meant)
+  day-kept header period last (heard.Begun true) is has = becomes-within known serve number _ _ own-serves (tt, tt)
+  day-kept header period last (heard.Begun false) is has = stays-within [] tt
+  day-kept header period last (heard.Note intermediate_status) is has = stays-within [] tt
+  day-kept header period last heard.Line is has = stays-within [] tt
+  day-kept header period last heard.Block is has = stays-within [] tt
+  day-kept header period last heard.Seen is has = stays-within [] tt
+  day-kept header period last (heard.Approved figures) is has = stays-within [] tt
+  day-kept header period last heard.Done is has = settles-within header period last is has
+  day-kept header period last (heard.Told reported approved result_code) is has = stays-within [] tt
+  day-kept header period last (heard.Declined result_code reported) is has =
+      let condition : Condition = condition_of_code result_code (was_stopped now.talk) in
+      becomes-within known serve number _ _ tt
+      (reply-within old.asker (Some (failure_reply header condition))
+      (λ own replies. subst IsReplyWithin (same-some (failure_reply header condition) own replies) (failure-within header condition (can_reply (EndOfDay header period) last is).within)))
+  day-kept header period last heard.Unclear is has = stays-within (OwedCutPt number ∷ []) (tt, tt)
+  day-kept header period last heard.Stray is has = stays-within [] tt
+
+  -- a display ends with a verdict
+  ends-within : (header : Header) (results : Option (List Shown)) (last : ℕ) (verdict : Verdict) → old.standing ≡ Serving (Display header results) last → IsVerdictWithinLimits verdict → LeavesWithin (display_ends known number now last header results verdict)
+  ends-within header results last verdict is within =
+      let own_repliable = can_reply (Display header results) last is in
+      becomes-within known serve number _ _ tt
+      (reply-within old.asker (display_reply header (option_map (with_customer_verdict verdict) results)) (λ own replies.
+      some-holds IsReplyWithin (display_reply header (option_map (with_customer_verdict verdict) results)) own
+      (results-within header (option_map (with_customer_verdict verdict) results) own_repliable.0.within (verdict-within verdict results within own_repliable.1)) replies))
+
+  display-kept : (header : Header) (results : Option (List Shown)) (last : ℕ) (meant : Heard) → old.standing ≡ Serving (Display header results) last → LeavesWithin (serving_display known number now last header results meant)
+  display-kept header results last (heard.Begun stop) is = stays-within [] tt
+  display-kept header results last (heard.Note intermediate_status) is = stays-within [] tt
+  display-kept header results last heard.Line is = stays-within [] tt
+  display-kept header results last heard.Block is = stays-within [] tt
+  display-kept header results last heard.Seen is = stays-within [] tt
+  display-kept header results last (heard.Approved figures) is = stays-within [] tt
+  display-kept header results last heard.Done is = ends-within header results last success is tt
+  display-kept header results last (heard.Told reported approved result_code) is = stays-within [] tt
+  display-kept header results last (heard.Declined result_code reported) is = ends-within header results last (failure (condition_of_code result_code (was_stopped now.talk))) is tt
+  display-kept header results last heard.Unclear is = stays-within (OwedCutPt number ∷ []) (tt, tt)
+  display-kept header results last heard.Stray is = stays-within [] tt
+
+  -- what the terminal shows or prints is shown or printed at its till
+  requests-kept : (at : RequestsDevice known number now (meaning_at old message) message) → AreRecordsOf known.kept old.pt.poi old.standing → LeavesWithin (requests_device known number now at.till at.request)
+  requests-kept at records =
+      let has : IsServiceOnRecord known.kept old.pt.poi at.last at.service = subst (AreRecordsOf known.kept old.pt.poi) at.standing_is records in
+      let key = served-key laws known.kept old.pt.poi at.service at.last at.key order.folded has at.key_is in
+      let sound = device-sound known.kept [] OfNothing (meaning_at old message) message known.core.device_requests at.key at.request prints
+      (λ status same. noted old.talk old.awaited message status same) key order.numbered at.request_is in
+      let stays : LeavesWithin (staying known number now) = stays-within [] tt in
+      record { repliable = λ other terminal found. stays.repliable other terminal found; calls = (sound.within, tt) }
+
+  serving-kept : (service : Service) (last : ℕ) (meant : Heard) → old.standing ≡ Serving service last → AreRecordsOf known.kept old.pt.poi (Serving service last) → FitsRecord meant → LeavesWithin (serving known number now service last meant)
+  serving-kept (Transaction slot) last meant is has fit = transaction-kept slot last meant has fit
+  serving-kept (EndOfDay header period) last meant is has fit = day-kept header period last meant is has
+  serving-kept (Display header results) last meant is has fit = display-kept header results last meant is
+
+  consequence-kept : (standing : Standing) (meant : Heard) → old.standing ≡ standing → AreRecordsOf known.kept old.pt.poi standing → FitsRecord meant → LeavesWithin (consequence known number now meant standing)
+  consequence-kept (Unlinked due) meant is has fit = nothing-within known serve
+  consequence-kept Registering meant is has fit = registering-kept meant
+  consequence-kept Enquiring meant is has fit = enquiring-kept meant fit
+  consequence-kept (Ready last) meant is has fit = stays-within [] tt
+  consequence-kept (Serving service last) meant is has fit = serving-kept service last meant is has fit
+  consequence-kept (Aside before reported) meant is has fit = stays-within [] tt
 
   message-kept : LeavesWithin (handle_message known number old message)
-  message-kept = by-where LeavesWithin known (consequence known number now (meaning_at old message) old.standing) (is_taken message) (nothing-within known serve) (λ taken.
+  message-kept = by-where LeavesWithin known (taken_row known number now (meaning_at old message) message) (is_taken message) (nothing-within known serve) (λ taken.
       let own = order.terminals number old here in
-      consequence-kept old.standing (meaning_at old message) own.records (meant-fits old.talk (taken_as old.awaited message) own.read))
+      taken-cases LeavesWithin known number now (meaning_at old message) message
+      (consequence-kept old.standing (meaning_at old message) refl own.records (meant-fits old.talk (taken_as old.awaited message) own.read)) (λ at stays. requests-kept at own.records))
 
-handled-within : (laws : LedgerLaws) (known : Known) → IsInOrder known → ServeTransactions known.core → (number : ℕ) (decoded : Result MessageValue PtFault) → LeavesWithin (handle_decoded known number decoded)
-handled-within laws known order serve number (Ok message) =
-    each-linked LeavesWithin known number (λ terminal. handle_message known number terminal message) (nothing-within known serve) (λ terminal found linked. message-kept laws known order serve number terminal found message)
-handled-within laws known order serve number (Err fault) = nothing-within known serve
+handled-within : (laws : LedgerLaws) (known : Known) → IsInOrder known → AreRepliable known.core → (number : ℕ) (decoded : Result MessageValue PtFault) → ((message : MessageValue) → decoded ≡ Ok message → IsMessageSmall message) → LeavesWithin (handle_decoded known number decoded)
+handled-within laws known order serve number (Ok message) prints =
+    each-linked LeavesWithin known number (λ terminal. handle_message known number terminal message) (nothing-within known serve) (λ terminal found linked. message-kept laws known order serve number terminal found message (prints message refl))
+handled-within laws known order serve number (Err fault) prints = nothing-within known serve
 
 -- ---- items
 
--- no more than payments are served where a till is forgotten
-without-serve : (core : Core) (till : ℕ) → ServeTransactions core → ServeTransactions (core_without core till)
+-- what is served can be replied to where a till is forgotten, too
+without-serve : (core : Core) (till : ℕ) → AreRepliable core → AreRepliable (core_without core till)
 without-serve core till serve number terminal found =
     let was = image-there (forgets_till till) core.terminals number terminal found in
     let same : forgets_till till was.0 ≡ terminal = same-some (forgets_till till was.0) terminal (sym (there-image (forgets_till till) core.terminals number was.0 was.1) ∙ found) in
-    subst (λ (t : Terminal). ServesTransaction t.standing) same (serve number was.0 was.1)
+    subst (λ (t : Terminal). IsRepliable t.standing) same (serve number was.0 was.1)
+
+-- a reconciliation of the till's own is settled
+settled-kept : (laws : LedgerLaws) (known : Known) → IsInOrder known → AreRepliable known.core → (number till : ℕ) (header : Header) (request : SaleRequest) (terminal : Terminal) → IsReadItem known.setup (Serve number till header request)
+    → SettlesAt known number header request terminal → RowKeeps known number (settled_row known till header terminal) → LeavesWithin (settled_row known till header terminal)
+settled-kept laws known order serve number till header request terminal read at keeps =
+    let settled : TheSettled = settled_of hows.Sale header terminal.pt.currency known.moment in
+    let read-as : IsReadRequest known.setup number header (requests.Reconciliation SaleReconciliation) = subst (IsReadRequest known.setup number header) at.request_is read in
+    let within : IsSettled settled = settled-within hows.Sale header terminal.pt.currency known.moment (reconciliation-within header SaleReconciliation read-as.read) order.moment in
+    let kept : KeepsInOrder known (Settled settled ∷ []) known.core = keeps.uncut refl in
+    let room = kept.room in
+    let more : length (known.kept ++ Settled settled ∷ []) ≡ length known.kept + 1 = length-append known.kept (Settled settled ∷ []) in
+    record {
+      repliable = serve;
+      calls = (tt, (tt, (tt, (tt, reply-within (Some till) (reply_to_settled known.kept settled) (λ own replies. settled-reply-within known settled own order within (omega (arith, room, more)) replies)))));
+    }
 
 -- each item's row
-row-within : (laws : LedgerLaws) (tills : List Connection) (known : Known) (setup : Setup) (item : RoundItem) → IsInOrder known → ServeTransactions known.core → IsReadItem setup item → LeavesWithin (row_of tills known item)
-row-within laws tills known setup (Crowded till) order serve read = owing-within known serve (OwedCutTill till ∷ []) (tt, tt)
-row-within laws tills known setup (Message till bytes) order serve read = nothing-within known serve
-row-within laws tills known setup (Asked till as_read) order serve read =
+row-within : (laws : LedgerLaws) (tills : List Connection) (known : Known) (item : RoundItem) → IsInOrder known → AreRepliable known.core → IsReadItem known.setup item → IsItemHandled item → LeavesWithin (row_of tills known item)
+row-within laws tills known (Crowded till) order serve read handled = owing-within known serve (OwedCutTill till ∷ []) (tt, tt)
+row-within laws tills known (Message till bytes) order serve read handled = nothing-within known serve
+row-within laws tills known (Asked till as_read) order serve read handled =
     by-where LeavesWithin known (asked_row known till as_read) (is_connected tills till) (nothing-within known serve)
-    (λ there. record { transactions = serve; calls = reply-within (Some till) (reply_to known as_read) (λ own replies. asked-within laws known as_read own order read replies) })
-row-within laws tills known setup (Unframed till) order serve read =
+    (λ there. record { repliable = serve; calls = reply-within (Some till) (reply_to known as_read) (λ own replies. asked-within laws known as_read own order read replies) })
+row-within laws tills known (Unframed till) order serve read handled =
     by-where LeavesWithin known (owing known (OwedCutTill till ∷ [])) (is_connected tills till) (nothing-within known serve) (λ there. owing-within known serve (OwedCutTill till ∷ []) (tt, tt))
-row-within laws tills known setup (Gone till) order serve read = record { transactions = without-serve known.core till serve; calls = tt }
-row-within laws tills known setup (Greet number apdu) order serve read = greet-within known serve number (decode_pt_message apdu)
-row-within laws tills known setup (Handle number apdu) order serve read = handled-within laws known order serve number (decode_pt_message apdu)
-row-within laws tills known setup (Serve number till header request) order serve read =
-    each-served LeavesWithin known number till header request (nothing-within known serve) (λ terminal last asking at. becomes-within known serve number _ _ tt (tt, (tt, (tt, (tt, (tt, tt))))))
-    (λ terminal talk at may. becomes-within known serve number _ _ (serve number terminal at.found) (tt, tt)) (λ terminal talk at may. becomes-within known serve number _ _ (serve number terminal at.found) tt)
-row-within laws tills known setup (NextWaiting number) order serve read = nothing-within known serve
-row-within laws tills known setup (Oversized number) order serve read =
+row-within laws tills known (Gone till) order serve read handled = record { repliable = without-serve known.core till serve; calls = tt }
+row-within laws tills known (Greet number apdu) order serve read handled = greet-within known serve number (decode_pt_message apdu)
+row-within laws tills known (Handle number apdu) order serve read handled = handled-within laws known order serve number (decode_pt_message apdu) (λ message is. message-small apdu message handled is)
+row-within laws tills known (Serve number till header request) order serve read handled =
+    each-served (λ (row : Row). RowKeeps known number row → LeavesWithin row) known number till header request (record {
+      none = λ keeps. nothing-within known serve;
+      begins = λ terminal last asking at keeps. becomes-within known serve number _ _ tt (tt, (tt, (tt, (tt, (tt, tt)))));
+      sent = λ terminal talk at may keeps. becomes-within known serve number _ _ (serve number terminal at.found) (tt, tt);
+      wished = λ terminal talk at may keeps. becomes-within known serve number _ _ (serve number terminal at.found) tt;
+      session = λ session keeps. record { repliable = serve; calls = (success-within header request read.read, tt) };
+      settles = λ terminal at keeps. settled-kept laws known order serve number till header request terminal read at keeps;
+      day = λ terminal last at keeps.
+          let read-as : IsReadRequest known.setup number header (requests.Reconciliation AcquirerReconciliation) = subst (IsReadRequest known.setup number header) at.request_is read in
+          becomes-within known serve number _ _ (day-beside header AcquirerReconciliation read-as.read) (tt, tt);
+      displays = λ terminal last outputs command at keeps.
+          let read-as : IsReadRequest known.setup number header (requests.Display outputs) = subst (IsReadRequest known.setup number header) at.request_is read in
+          becomes-within known serve number _ _ (display-beside header outputs read-as.read) (tt, tt);
+    }) (serve-keeps laws known order number till header request read)
+row-within laws tills known (NextWaiting number) order serve read handled = nothing-within known serve
+row-within laws tills known (Oversized number) order serve read handled =
     each-linked LeavesWithin known number (λ terminal. cutting known number) (nothing-within known serve) (λ terminal found linked. cut-within known serve number)
-row-within laws tills known setup (LinkLost number) order serve read = lost-within known serve number
-row-within laws tills known setup (Late number) order serve read =
+row-within laws tills known (LinkLost number) order serve read handled = lost-within known serve number
+row-within laws tills known (Late number) order serve read handled =
     each-terminal LeavesWithin known number (λ terminal. owing_where (is_late known.moment terminal.talk) known (cutting known number)) (nothing-within known serve)
     (λ terminal found. by-where LeavesWithin known (cutting known number) (is_late known.moment terminal.talk) (nothing-within known serve) (λ late. cut-within known serve number))
-row-within laws tills known setup (Overdue key) order serve read = nothing-within known serve
-row-within laws tills known setup (Due number) order serve read =
+row-within laws tills known (Overdue key) order serve read handled = nothing-within known serve
+row-within laws tills known (Due number) order serve read handled =
     each-terminal LeavesWithin known number (λ terminal. owing_where (is_due known.moment terminal.standing) known (owing known (LinkPt number ∷ []))) (nothing-within known serve)
     (λ terminal found. by-where LeavesWithin known (owing known (LinkPt number ∷ [])) (is_due known.moment terminal.standing) (nothing-within known serve) (λ due. owing-within known serve (LinkPt number ∷ []) (tt, tt)))
 
@@ -297,37 +418,37 @@ row-within laws tills known setup (Due number) order serve read =
 
 -- what holds along a course
 record Framed (v : View) : Type 0 where
-  transactions : ServeTransactions v.scene.core
+  repliable : AreRepliable v.scene.core
   calls : AreWithin v.calls
 
-begin-framed : LedgerLaws → (log : List Turn) (v : View) → Ordered log v → Begins v → Framed v → Framed (after v Begin)
-begin-framed laws log v o b f = by-items v.items refl
+begin-framed : LedgerLaws → (log : List Turn) (v : View) → Stands log v → Ordered log v → Begins v → Framed v → Framed (after v Begin)
+begin-framed laws log v s o b f = by-items v.items refl
   where
     by-items : (items : List RoundItem) → v.items ≡ items → Framed (after v Begin)
-    by-items [] e = subst (λ (items : List RoundItem). Framed (after (record v { items = items }) Begin)) (sym e) (record { transactions = f.transactions; calls = tt })
+    by-items [] e = subst (λ (items : List RoundItem). Framed (after (record v { items = items }) Begin)) (sym e) (record { repliable = f.repliable; calls = tt })
     by-items (item ∷ rest) e =
         let k = round-setup v o.agrees.run b.idle.round in
         let known : Known = known_in v.scene k.setup in
         let order : IsInOrder known = between-items log v o k (round-runs v.scene.stage b.idle.round) b.idle.calls in
-        let row = row-within laws v.scene.outside.tills known k.setup item order f.transactions (first-was-read log v item rest o k e) in
+        let row = row-within laws v.scene.outside.tills known item order f.repliable (first-was-read log v item rest o k e) (first-handled log v item rest s e) in
         let own : LeavesWithin (row_at v.scene item) = subst LeavesWithin (sym (row-is v.scene k item)) row in
-        subst (λ (items : List RoundItem). Framed (after (record v { items = items }) Begin)) (sym e) (record { transactions = own.transactions; calls = own.calls })
+        subst (λ (items : List RoundItem). Framed (after (record v { items = items }) Begin)) (sym e) (record { repliable = own.repliable; calls = own.calls })
 
 -- what a link's event leaves and owes
-link-within : (scene : Scene) (row : Known → Row) → ServeTransactions scene.core → ((setup : Setup) → LeavesWithin (row (known_in scene setup))) → LeavesWithin (row_in scene row scene.setup)
+link-within : (scene : Scene) (row : Known → Row) → AreRepliable scene.core → ((setup : Setup) → LeavesWithin (row (known_in scene setup))) → LeavesWithin (row_in scene row scene.setup)
 link-within scene row serve each = by-setup scene.setup
   where
     by-setup : (setup : Option Setup) → LeavesWithin (row_in scene row setup)
-    by-setup None = record { transactions = serve; calls = tt }
+    by-setup None = record { repliable = serve; calls = tt }
     by-setup (Some setup) = each setup
 
 -- as a run begins
-new-serve : (setup : Setup) → ServeTransactions (new_core setup)
+new-serve : (setup : Setup) → AreRepliable (new_core setup)
 new-serve setup number terminal found =
     let was = image-there new_terminal setup.terminals number terminal found in
-    subst (λ (t : Terminal). ServesTransaction t.standing) (same-some (new_terminal was.0) terminal (sym (there-image new_terminal setup.terminals number was.0 was.1) ∙ found)) tt
+    subst (λ (t : Terminal). IsRepliable t.standing) (same-some (new_terminal was.0) terminal (sym (there-image new_terminal setup.terminals number was.0 was.1) ∙ found)) tt
 
-none-serve : (number : ℕ) (terminal : Terminal) → slice_get [] number ≡ Some terminal → ServesTransaction terminal.standing
+none-serve : (number : ℕ) (terminal : Terminal) → slice_get [] number ≡ Some terminal → IsRepliable terminal.standing
 none-serve number terminal found = absurd (let n : None ≡ Some terminal = found in cc)
 
 opening-within : (setup : Setup) (file : List ℕ) (scene : Scene) → AreWithin (opening setup file (records_of scene)).calls
@@ -339,54 +460,54 @@ opening-within setup file scene = (tt, by-size (nat_le (length file) 1))
 
 -- each turn
 turn-framed : (v : View) (turn : Turn) → Framed v → Framed (after_turn v turn)
-turn-framed v (Start setup) f = record { transactions = new-serve setup; calls = opening-within setup v.scene.outside.file v.scene }
-turn-framed v OpenFailed f = record { transactions = none-serve; calls = tt }
-turn-framed v (Polled moment) f = record { transactions = f.transactions; calls = tt }
-turn-framed v (Opened till) f = record { transactions = f.transactions; calls = tt }
-turn-framed v (HeardTill till bytes) f = record { transactions = f.transactions; calls = tt }
-turn-framed v (Closed till) f = record { transactions = f.transactions; calls = tt }
-turn-framed v (HeardPt pt bytes) f = record { transactions = f.transactions; calls = tt }
-turn-framed v (Lost pt) f = record { transactions = f.transactions; calls = tt }
-turn-framed v Stopped f = record { transactions = f.transactions; calls = tt }
+turn-framed v (Start setup) f = record { repliable = new-serve setup; calls = opening-within setup v.scene.outside.file v.scene }
+turn-framed v OpenFailed f = record { repliable = none-serve; calls = tt }
+turn-framed v (Polled moment) f = record { repliable = f.repliable; calls = tt }
+turn-framed v (Opened till) f = record { repliable = f.repliable; calls = tt }
+turn-framed v (HeardTill till bytes) f = record { repliable = f.repliable; calls = tt }
+turn-framed v (Closed till) f = record { repliable = f.repliable; calls = tt }
+turn-framed v (HeardPt pt bytes) f = record { repliable = f.repliable; calls = tt }
+turn-framed v (Lost pt) f = record { repliable = f.repliable; calls = tt }
+turn-framed v Stopped f = record { repliable = f.repliable; calls = tt }
 turn-framed v (Linked pt) f =
-    let own : LeavesWithin (link_made_at v.scene pt) = link-within v.scene (λ known. link_made known pt) f.transactions (λ setup. made-within (known_in v.scene setup) f.transactions pt) in
-    record { transactions = own.transactions; calls = within-both (link_made_at v.scene pt).calls (later v.calls) own.calls (within-later v.calls f.calls) }
+    let own : LeavesWithin (link_made_at v.scene pt) = link-within v.scene (λ known. link_made known pt) f.repliable (λ setup. made-within (known_in v.scene setup) f.repliable pt) in
+    record { repliable = own.repliable; calls = within-both (link_made_at v.scene pt).calls (later v.calls) own.calls (within-later v.calls f.calls) }
 turn-framed v (LinkFailed pt) f =
-    let own : LeavesWithin (link_lost_at v.scene pt) = link-within v.scene (λ known. link_lost known pt) f.transactions (λ setup. lost-within (known_in v.scene setup) f.transactions pt) in
-    record { transactions = own.transactions; calls = within-both (link_lost_at v.scene pt).calls [] own.calls tt }
-turn-framed v (SentTill till bytes true) f = record { transactions = f.transactions; calls = within-later v.calls f.calls }
-turn-framed v (SentTill till bytes false) f = record { transactions = f.transactions; calls = (tt, tt) }
-turn-framed v (SentPt pt bytes true) f = record { transactions = f.transactions; calls = within-later v.calls f.calls }
-turn-framed v (SentPt pt bytes false) f = record { transactions = f.transactions; calls = (tt, tt) }
-turn-framed v (CutTill till) f = record { transactions = without-serve v.scene.core till f.transactions; calls = within-later v.calls f.calls }
+    let own : LeavesWithin (link_lost_at v.scene pt) = link-within v.scene (λ known. link_lost known pt) f.repliable (λ setup. lost-within (known_in v.scene setup) f.repliable pt) in
+    record { repliable = own.repliable; calls = within-both (link_lost_at v.scene pt).calls [] own.calls tt }
+turn-framed v (SentTill till bytes true) f = record { repliable = f.repliable; calls = within-later v.calls f.calls }
+turn-framed v (SentTill till bytes false) f = record { repliable = f.repliable; calls = (tt, tt) }
+turn-framed v (SentPt pt bytes true) f = record { repliable = f.repliable; calls = within-later v.calls f.calls }
+turn-framed v (SentPt pt bytes false) f = record { repliable = f.repliable; calls = (tt, tt) }
+turn-framed v (CutTill till) f = record { repliable = without-serve v.scene.core till f.repliable; calls = within-later v.calls f.calls }
 turn-framed v (CutPt pt) f =
-    let own : LeavesWithin (link_lost_at v.scene pt) = link-within v.scene (λ known. link_lost known pt) f.transactions (λ setup. lost-within (known_in v.scene setup) f.transactions pt) in
-    record { transactions = own.transactions; calls = within-both (link_lost_at v.scene pt).calls (later v.calls) own.calls (within-later v.calls f.calls) }
-turn-framed v (Wrote offset bytes) f = record { transactions = f.transactions; calls = within-later v.calls f.calls }
-turn-framed v Synced f = record { transactions = f.transactions; calls = within-later v.calls f.calls }
-turn-framed v DiskFailed f = record { transactions = f.transactions; calls = tt }
-turn-framed v (Crash file) f = record { transactions = none-serve; calls = tt }
+    let own : LeavesWithin (link_lost_at v.scene pt) = link-within v.scene (λ known. link_lost known pt) f.repliable (λ setup. lost-within (known_in v.scene setup) f.repliable pt) in
+    record { repliable = own.repliable; calls = within-both (link_lost_at v.scene pt).calls (later v.calls) own.calls (within-later v.calls f.calls) }
+turn-framed v (Wrote offset bytes) f = record { repliable = f.repliable; calls = within-later v.calls f.calls }
+turn-framed v Synced f = record { repliable = f.repliable; calls = within-later v.calls f.calls }
+turn-framed v DiskFailed f = record { repliable = f.repliable; calls = tt }
+turn-framed v (Crash file) f = record { repliable = none-serve; calls = tt }
 
 module _ (orders : OrderLaws) (laws : LedgerLaws) where
   -- all bytes that are sent along the moves are framed
-  moves-frame : (log : List Turn) (v : View) (moves : List Move) (before rest : List Turn) (till : ℕ) (bytes : List ℕ) → Ordered log v → Framed v → IsCourse v moves
+  moves-frame : (log : List Turn) (v : View) (moves : List Move) (before rest : List Turn) (till : ℕ) (bytes : List ℕ) → Stands log v → Ordered log v → Framed v → IsCourse v moves
       → turns_of moves ≡ before ++ SentTill till bytes true ∷ rest → (reply : ReplyValue) × IsFramed bytes (reply_value_tree reply)
-  moves-frame log v [] [] rest till bytes o f c e = absurd (let n : [] ≡ SentTill till bytes true ∷ rest = e in cc)
-  moves-frame log v [] (turn ∷ before) rest till bytes o f c e = absurd (let n : [] ≡ turn ∷ (before ++ SentTill till bytes true ∷ rest) = e in cc)
-  moves-frame log v (Begin ∷ moves) before rest till bytes o f c e =
-      moves-frame log (after v Begin) moves before rest till bytes (begin-ordered orders log v o c.0) (begin-framed laws log v o c.0 f) c.1 e
-  moves-frame log v (Read as_read ∷ moves) before rest till bytes o f c e =
-      moves-frame log (after v (Read as_read)) moves before rest till bytes (read-ordered log v as_read o c.0) (record { transactions = f.transactions; calls = tt }) c.1 e
-  moves-frame log v (Make turn ∷ moves) [] rest till bytes o f c e =
+  moves-frame log v [] [] rest till bytes s o f c e = absurd (let n : [] ≡ SentTill till bytes true ∷ rest = e in cc)
+  moves-frame log v [] (turn ∷ before) rest till bytes s o f c e = absurd (let n : [] ≡ turn ∷ (before ++ SentTill till bytes true ∷ rest) = e in cc)
+  moves-frame log v (Begin ∷ moves) before rest till bytes s o f c e =
+      moves-frame log (after v Begin) moves before rest till bytes (stands-begun log v s c.0) (begin-ordered orders log v o c.0) (begin-framed laws log v s o c.0 f) c.1 e
+  moves-frame log v (Read as_read ∷ moves) before rest till bytes s o f c e =
+      moves-frame log (after v (Read as_read)) moves before rest till bytes (stands-read log v as_read s c.0) (read-ordered log v as_read o c.0) (record { repliable = f.repliable; calls = tt }) c.1 e
+  moves-frame log v (Make turn ∷ moves) [] rest till bytes s o f c e =
       let same : turn ≡ SentTill till bytes true = (let n : turn ∷ turns_of moves ≡ SentTill till bytes true ∷ rest = e in cc) in
       let made : IsCourse v (Make (SentTill till bytes true) ∷ moves) = subst (λ (one : Turn). IsCourse v (Make one ∷ moves)) same c in
       let reply : ReplyValue = made.0.0 in
       let within : IsReplyWithin reply = within-first v.calls (SendTill till reply) made.0.1 f.calls in
       (reply, subst (λ (all : List ℕ). IsFramed all (reply_value_tree reply)) (sym made.0.2) (own-frame reply within))
-  moves-frame log v (Make turn ∷ moves) (first ∷ before) rest till bytes o f c e =
+  moves-frame log v (Make turn ∷ moves) (first ∷ before) rest till bytes s o f c e =
       let tails : turns_of moves ≡ before ++ SentTill till bytes true ∷ rest = (let n : turn ∷ turns_of moves ≡ first ∷ (before ++ SentTill till bytes true ∷ rest) = e in cc) in
-      moves-frame (log ++ turn ∷ []) (after_turn v turn) moves before rest till bytes (turn-ordered orders log v turn o c.0) (turn-framed v turn f) c.1 tails
+      moves-frame (log ++ turn ∷ []) (after_turn v turn) moves before rest till bytes (stands-more log v (Make turn ∷ []) s (c.0, tt)) (turn-ordered orders log v turn o c.0) (turn-framed v turn f) c.1 tails
 
   pub each-sent-is-framed : EachSentIsFramed
   each-sent-is-framed before rest till bytes (v, s) =
-      moves-frame [] at_first s.course before rest till bytes first-ordered (record { transactions = none-serve; calls = tt }) s.lawful s.log_is
+      moves-frame [] at_first s.course before rest till bytes first-stands first-ordered (record { repliable = none-serve; calls = tt }) s.lawful s.log_is

@@ -1,9 +1,9 @@
 -- What the reply to a request says is true of the records.
 use Rattle.std.proofs.Common.{◌≡◌, ℕ, Bool, true, false, List, [], ◌∷◌, refl, sym, ◌∙◌, ap, subst}
-use Rattle.std.proofs.lemmas.Bool.{false_from_ne_true, or_from}
+use Rattle.std.proofs.lemmas.Bool.{and_parts, false_from_ne_true, or_from}
 use Rattle.std.proofs.lemmas.Option.{same_Some}
 use Rattle.std.proofs.lemmas.Slice.Eq.{bytes_eq-Decides}
-use Rattle.std.specs.Prelude.{map, pos, bytes_eq, codes, if◌then◌else◌, Option, Some, None, option_and_then, option_map, option_to_list, unwrap_or}
+use Rattle.std.specs.Prelude.{◌||◌, pos, bytes_eq, codes, is_some, not, if◌then◌else◌, Option, Some, None, option_and_then, option_map, option_to_list, unwrap_or}
 use Rattle.std.specs.List.{list_any}
 use Rattle.gw_base.specs.declared.condition.Condition.{Condition}
 use Rattle.gw_base.specs.declared.condition.Condition.TheVariants.{Busy, InProgress, MessageFormat, NotAllowed, NotFound, UnavailableDevice, UnavailableService}
@@ -21,45 +21,52 @@ use Rattle.sale_values.specs.declared.request.SaleRequest.TheVariants as request
 use Rattle.sale_msg.specs.Grammar.{IsRequest, IsSaleFault}
 use Rattle.sale_msg.specs.declared.category.Category.TheVariants as categories
 use Rattle.sale_reply.specs.declared.reply.Detail.TheVariants as details
+use Rattle.sale_reply.specs.declared.reply.Shown.{Shown}
 use Rattle.sale_reply.specs.declared.reply.Told.{Told as ResultBody}
 use Rattle.jrn_record.specs.declared.records.Record.{Record}
 use Rattle.gw_ledger.specs.declared.entry.Entry.{Entry as TheEntry}
 use Rattle.gw_ledger.specs.declared.entry.Found.{Found}
 use Rattle.gw_ledger.specs.declared.entry.Found.TheVariants.{Entry}
 use Rattle.gw_ledger.specs.Fold.{AreFolded, found_of, last_entry}
-use Rattle.gw_ledger.specs.Keys.{intent_key}
+use Rattle.gw_ledger.specs.Keys.{intent_key, same_key}
 use Rattle.xlate.specs.Reply.{header_of, result_body_of}
 use Rattle.gw_owes.specs.Content.{has_same_content}
+use Rattle.gw_owes.specs.Core.{Core}
+use Rattle.gw_owes.specs.Days.{asks_day, asks_day_served, is_day_again, is_day_key, is_day_served, is_key_of_day, named_serves_day}
+use Rattle.gw_owes.specs.Displays.{display_result, reply_of_display}
 use Rattle.gw_owes.specs.Diagnosis.{NamedTerminal, diagnosis_reply, named_terminal}
-use Rattle.gw_owes.specs.KeptReplies.{found_by_status, found_for, is_open_key, own_key, repeated_reply, status_reply}
+use Rattle.gw_owes.specs.KeptReplies.{found_by_status, found_for, is_open_key, own_key, repeated_reply, status_reply, status_reply_at}
 use Rattle.gw_owes.specs.ReadAs.{ReadAs, Request, Silent, NoMessage, NoJson}
 use Rattle.gw_owes.specs.RecordLaws.{IsInOrder, IsReadFromTill}
 use Rattle.gw_owes.specs.Reply.{ReplyValue, Finished, Display, Print, Reject}
-use Rattle.gw_owes.specs.Replies.{display_refusal, failure, failure_reply, header_of_reply, is_response_required, output_refused, reject_event, reply_to_fault, reply_to_malformed}
-use Rattle.gw_owes.specs.Requests.{abort_reply, reply_at, reply_to, unserved_for}
+use Rattle.gw_owes.specs.Replies.{display_reply, failure, failure_reply, header_of_reply, refused_results, reject_event, reply_to_fault, reply_to_malformed}
+use Rattle.gw_owes.specs.Requests.{abort_reply, reply_at, reply_to}
 use Rattle.gw_owes.specs.Row.{Known}
+use Rattle.gw_owes.specs.Sessions.{is_one_too_many, is_session}
+use Rattle.gw_owes.specs.SessionRows.{success_reply}
 use Rattle.gw_owes.specs.Steps.{StepResult, KeptReply, Fails, Begins, RequestStep, first_result, reply_of_result, service_reply, steps}
 use Rattle.gw_owes.proofs.HeardLemmas.{of-both}
 use Rattle.gw_owes.proofs.LimitLemmas.{service-there}
 use Rattle.gw_owes.proofs.RecordLemmas.{LedgerLaws}
 use Rattle.gw_owes.proofs.StepLemmas.{each-on-record-is-replied}
-use Rattle.gw_books.specs.Past.{Occasion, OfRequest, OfNothing, occasion_read}
+use Rattle.gw_books.specs.Past.{Occasion, OfRequest, OfNothing, occasion_read, waiting_keys}
 use Rattle.gw_books.specs.Said.{Said}
 use Rattle.gw_books.specs.SaidLaws.{display_said, finished_said, header_key, plain_said}
 use Rattle.gw_books.specs.Agrees.{is_accepted, key_about, key_asked}
-use Rattle.gw_books.proofs.Holding.{IsReplyTrue, IsSaidTrue}
+use Rattle.gw_books.proofs.Holding.{IsNoTransaction, IsReplyTrue, IsSaidTrue}
 use Rattle.gw_books.proofs.ListLemmas.{In, bytes-are}
 use Rattle.gw_books.proofs.RecordMoreLemmas.{unknown-accepted}
-use Rattle.gw_books.proofs.ReplyTruthLemmas.{IsFoundUnder, IsIdle, IsNoTransaction, alone-true, both-true, display-true, finished-true, found-under, kind-is, last-under, malformed-true, not-found-true, open-key, open-true, other-content-true, other-kind-true, succeeded-true, unknown-true}
+use Rattle.gw_books.proofs.ReplyTruthLemmas.{IsFoundUnder, IsIdle, alone-true, both-true, display-true, finished-true, found-under, kind-is, last-under, malformed-true, not-found-true, open-key, open-true, other-content-true, other-kind-true, reply-true-more, succeeded-true, unknown-true, waits-true}
+use Rattle.gw_books.proofs.WaitingLemmas.{day-waits, single-true}
 
 -- ---- replies by their kinds
 
 -- the reply that there is
-reply-is : (records : List Record) (occasion : Occasion) (one reply : ReplyValue) → IsReplyTrue records occasion one → Some one ≡ Some reply → IsReplyTrue records occasion reply
-reply-is records occasion one reply holds same = subst (IsReplyTrue records occasion) (same_Some one reply same) holds
+reply-is : (records : List Record) (occasion : Occasion) (one reply : ReplyValue) → IsReplyTrue records [] occasion one → Some one ≡ Some reply → IsReplyTrue records [] occasion reply
+reply-is records occasion one reply holds same = subst (IsReplyTrue records [] occasion) (same_Some one reply same) holds
 
-failure-true : (records : List Record) (occasion : Occasion) (header : Header) (condition : Condition) → IsSaidTrue records occasion (plain_said (header_of_reply header) (Some condition))
-    → IsReplyTrue records occasion (failure_reply header condition)
+pub failure-true : (records : List Record) (occasion : Occasion) (header : Header) (condition : Condition) → IsSaidTrue records [] occasion (plain_said (header_of_reply header) (Some condition))
+    → IsReplyTrue records [] occasion (failure_reply header condition)
 failure-true records occasion header condition holds = λ said there. alone-true records occasion (plain_said (header_of_reply header) (Some condition)) said holds there
 
 -- ---- no message
@@ -77,19 +84,19 @@ of-tested P true one other first second = first refl
 of-tested P false one other first second = second
 
 -- a body of another form
-malformed-reply-true : (records : List Record) (occasion : Occasion) (moment : ℕ) (header : Header) (path : List ℕ) → IsReplyTrue records occasion (reply_to_malformed moment header path)
+malformed-reply-true : (records : List Record) (occasion : Occasion) (moment : ℕ) (header : Header) (path : List ℕ) → IsReplyTrue records [] occasion (reply_to_malformed moment header path)
 malformed-reply-true records occasion moment header path =
-    of-both (IsReplyTrue records occasion) (bytes_eq header.category (codes "Abort")) _ _ (λ said none. absurd none)
-    (of-tested (IsReplyTrue records occasion) (bytes_eq header.category (codes "Display")) _ _
+    of-both (IsReplyTrue records [] occasion) (bytes_eq header.category (codes "Abort")) _ _ (λ said none. absurd none)
+    (of-tested (IsReplyTrue records [] occasion) (bytes_eq header.category (codes "Display")) _ _
     (λ is said there.
     alone-true records occasion (display_said (header_of_reply header)) said
     (display-true records occasion (header_of_reply header) (kind-is header (codes "Display") (bytes-are header.category (codes "Display") is) refl)) there)
-    (of-both (IsReplyTrue records occasion) (bytes_eq header.category (codes "Print")) _ _ plain plain))
+    (of-both (IsReplyTrue records [] occasion) (bytes_eq header.category (codes "Print")) _ _ plain plain))
   where
-    plain : (said : Said) → In said (plain_said (header_of_reply header) (Some MessageFormat) ∷ []) → IsSaidTrue records occasion said
+    plain : (said : Said) → In said (plain_said (header_of_reply header) (Some MessageFormat) ∷ []) → IsSaidTrue records [] occasion said
     plain said there = alone-true records occasion (plain_said (header_of_reply header) (Some MessageFormat)) said (malformed-true records occasion (header_of_reply header)) there
 
-fault-true : (records : List Record) (name : List ℕ) (moment : ℕ) (message : Tree) (fault : SaleFault) → IsSaleFault message fault → IsReplyTrue records OfNothing (reply_to_fault name moment fault)
+fault-true : (records : List Record) (name : List ℕ) (moment : ℕ) (message : Tree) (fault : SaleFault) → IsSaleFault message fault → IsReplyTrue records [] OfNothing (reply_to_fault name moment fault)
 fault-true records name moment message (NoHeader path) faulty = λ said none. absurd none
 fault-true records name moment message (Missing header path) faulty = malformed-reply-true records OfNothing moment header path
 fault-true records name moment message (Wrong header path) faulty = malformed-reply-true records OfNothing moment header path
@@ -118,18 +125,28 @@ first-idle otherwise (step ∷ steps) last idle = by-test step.applies refl (fir
     by-test true is later = idle.0 is
     by-test false is later = later
 
--- where the key isn't on record
-none-idle : (known : Known) (header : Header) (request : SaleRequest) (named : Option NamedTerminal) → IsIdleResult (first_result (Fails Busy) (steps known header request None named))
-none-idle known header request named = first-idle (Fails Busy) (steps known header request None named) refl (
+-- where the key isn't on record, and isn't that of an end of day that is asked for again
+none-idle : (known : Known) (header : Header) (request : SaleRequest) (named : Option NamedTerminal) → is_day_again header request named ≡ false → IsIdleResult (first_result (Fails Busy) (steps known header request None named))
+none-idle known header request named new = first-idle (Fails Busy) (steps known header request None named) refl (
   λ applies. absurd cc,
   (
     λ applies. absurd cc,
     (
       λ applies. absurd cc,
-      (λ applies. refl, (λ applies. refl, (λ applies. refl, (λ applies. refl, (λ applies. refl, (λ applies. refl, (λ applies. refl, (λ applies. refl, (λ applies. tt, tt))))))))),
+      (
+        λ applies. absurd (let clash : true ≡ false = sym applies ∙ new in cc),
+        (
+          λ applies. refl,
+          (λ applies. refl, (λ applies. refl, (λ applies. refl, (λ applies. refl, (λ applies. refl, (λ applies. refl, (λ applies. refl, (λ applies. refl, (λ applies. tt, (λ applies. refl, (λ applies. tt, tt))))))))))),
+        ),
+      ),
     ),
   ),
 )
+
+-- where it is, that is in progress
+again-fails : (known : Known) (header : Header) (request : SaleRequest) (named : Option NamedTerminal) → is_day_again header request named ≡ true → first_result (Fails Busy) (steps known header request None named) ≡ Fails InProgress
+again-fails known header request named is = rw is refl
 
 -- the key of a header with a ServiceID
 own-key-is : (header : Header) (service : List ℕ) → header.service ≡ Some service → own_key header ≡ Some (header_key header)
@@ -142,14 +159,24 @@ own-key-is header service = by-service header.service
     by-service (Some text) is = refl
 
 module _ (laws : LedgerLaws) (known : Known) (folded : AreFolded known.kept) (header : Header) (request : SaleRequest) (about : (own : Key) → key_about known.kept own header request ≡ Some own)
-    (service : List ℕ) (service_is : header.service ≡ Some service) (named : Option NamedTerminal) (reply : ReplyValue)
+    (service : List ℕ) (service_is : header.service ≡ Some service) (named : Option NamedTerminal) (named_is : named_terminal known.core header.poi ≡ named) (reply : ReplyValue)
   where
+    abbrev waiting : List Key
+    waiting = waiting_keys known.core
+
+    -- the end of day that is asked for again is served, and so its key waits
+    again-waits : is_day_again header request named ≡ true → list_any (same_key (header_key header)) waiting ≡ true
+    again-waits is =
+        let day : is_key_of_day (own_key header) named ≡ true = (and_parts (is_day_key header named) (asks_day request) is).0 in
+        let serves : is_key_of_day (Some (header_key header)) named ≡ true = subst (λ (key : Option Key). is_key_of_day key named ≡ true) (own-key-is header service service_is) day in
+        day-waits known.core (header_key header) (ap (named_serves_day (header_key header)) named_is ∙ serves)
+
     found-is : found_for known.kept header ≡ found_of known.kept (header_key header)
     found-is = ap (option_and_then (found_of known.kept)) (own-key-is header service service_is)
 
     -- a result that doesn't say that the key is in progress
     idle-reply : found_of known.kept (header_key header) ≡ None → (result : StepResult) → IsIdleResult result → reply_of_result known.kept header result ≡ Some reply
-        → IsReplyTrue known.kept (OfRequest header request) reply
+        → IsReplyTrue known.kept [] (OfRequest header request) reply
     idle-reply none KeptReply idle is = absurd idle
     idle-reply none (Fails condition) idle is = reply-is known.kept (OfRequest header request) (failure_reply header condition) reply
         (failure-true known.kept (OfRequest header request) header condition
@@ -157,10 +184,10 @@ module _ (laws : LedgerLaws) (known : Known) (folded : AreFolded known.kept) (he
     idle-reply none Begins idle is = absurd cc
 
     -- the key is on record
-    on-record : (found : Found) → found_of known.kept (header_key header) ≡ Some found → service_reply known header request named ≡ Some reply → IsReplyTrue known.kept (OfRequest header request) reply
+    on-record : (found : Found) → found_of known.kept (header_key header) ≡ Some found → service_reply known header request named ≡ Some reply → IsReplyTrue known.kept [] (OfRequest header request) reply
     on-record found there is = by-content (has_same_content known.kept request found) (result_body_of found) refl refl
       where
-        by-content : (same : Bool) (kept : Option ResultBody) → has_same_content known.kept request found ≡ same → result_body_of found ≡ kept → IsReplyTrue known.kept (OfRequest header request) reply
+        by-content : (same : Bool) (kept : Option ResultBody) → has_same_content known.kept request found ≡ same → result_body_of found ≡ kept → IsReplyTrue known.kept [] (OfRequest header request) reply
         by-content true (Some body) content kept =
             reply-is known.kept (OfRequest header request) (Finished (header_of found) body) reply
             (λ said said_is. alone-true known.kept (OfRequest header request) (finished_said (header_of found) body) said
@@ -177,14 +204,29 @@ module _ (laws : LedgerLaws) (known : Known) (folded : AreFolded known.kept) (he
             (failure-true known.kept (OfRequest header request) header NotAllowed (other-content-true known.kept header (header_of_reply header) request found there content))
             (sym ((each-on-record-is-replied known header request named found (found-is ∙ there)).other_content content) ∙ is)
 
+    -- the key isn't on record
+    off-record : found_of known.kept (header_key header) ≡ None → reply_of_result known.kept header (first_result (Fails Busy) (steps known header request None named)) ≡ Some reply
+        → IsReplyTrue known.kept waiting (OfRequest header request) reply
+    off-record none is = by-again (is_day_again header request named) refl
+      where
+        by-again : (again : Bool) → is_day_again header request named ≡ again → IsReplyTrue known.kept waiting (OfRequest header request) reply
+        by-again true same =
+            subst (IsReplyTrue known.kept waiting (OfRequest header request))
+            (same_Some (failure_reply header InProgress) reply (sym (ap (reply_of_result known.kept header) (again-fails known header request named same)) ∙ is))
+            (λ said there. single-true known.kept waiting (OfRequest header request) (plain_said (header_of_reply header) (Some InProgress)) said
+            (waits-true known.kept waiting (OfRequest header request) (header_of_reply header) (header_key header) (about (header_key header)) (again-waits same)) there)
+        by-again false other =
+            reply-true-more known.kept waiting (OfRequest header request) reply
+            (idle-reply none (first_result (Fails Busy) (steps known header request None named)) (none-idle known header request named other) is)
+
     -- a Payment, a Reversal or a Reconciliation
-    service-true : service_reply known header request named ≡ Some reply → IsReplyTrue known.kept (OfRequest header request) reply
+    service-true : service_reply known header request named ≡ Some reply → IsReplyTrue known.kept waiting (OfRequest header request) reply
     service-true is = by-found (found_of known.kept (header_key header)) refl
       where
-        by-found : (there : Option Found) → found_of known.kept (header_key header) ≡ there → IsReplyTrue known.kept (OfRequest header request) reply
-        by-found None none = idle-reply none (first_result (Fails Busy) (steps known header request None named)) (none-idle known header request named)
+        by-found : (there : Option Found) → found_of known.kept (header_key header) ≡ there → IsReplyTrue known.kept waiting (OfRequest header request) reply
+        by-found None none = off-record none
             (sym (ap (λ (there : Option Found). reply_of_result known.kept header (first_result (Fails Busy) (steps known header request there named))) (found-is ∙ none)) ∙ is)
-        by-found (Some found) there = on-record found there is
+        by-found (Some found) there = reply-true-more known.kept waiting (OfRequest header request) reply (on-record found there is)
 
 -- ---- a TransactionStatus
 
@@ -217,7 +259,7 @@ module _ (laws : LedgerLaws) (kept : List Record) (folded : AreFolded kept) (hea
       }
 
   found-true : (reference : Option Reference) (found : Found) → IsAsked kept header reference found → (body : Option ResultBody) → result_body_of found ≡ body
-      → IsReplyTrue kept (OfRequest header (requests.Status reference)) (repeated_reply header found body)
+      → IsReplyTrue kept [] (OfRequest header (requests.Status reference)) (repeated_reply header found body)
   found-true reference found asked None none = failure-true kept (OfRequest header (requests.Status reference)) header InProgress
       (open-true kept (OfRequest header (requests.Status reference)) (header_of_reply header) asked.key asked.key_is (open-key laws kept folded asked.key found asked.under none))
   found-true reference found asked (Some body) is =
@@ -225,43 +267,79 @@ module _ (laws : LedgerLaws) (kept : List Record) (folded : AreFolded kept) (hea
       (succeeded-true kept (OfRequest header (requests.Status reference)) (header_of_reply header) apart)
       (finished-true laws kept folded (OfRequest header (requests.Status reference)) asked.key found body asked.under is) there
 
-  status-true : (reference : Option Reference) → IsReplyTrue kept (OfRequest header (requests.Status reference)) (status_reply header (found_by_status kept header reference))
+  status-true : (reference : Option Reference) → IsReplyTrue kept [] (OfRequest header (requests.Status reference)) (status_reply header (found_by_status kept header reference))
   status-true reference = by-found (found_by_status kept header reference) refl
     where
-      by-found : (there : Option Found) → found_by_status kept header reference ≡ there → IsReplyTrue kept (OfRequest header (requests.Status reference)) (status_reply header there)
+      by-found : (there : Option Found) → found_by_status kept header reference ≡ there → IsReplyTrue kept [] (OfRequest header (requests.Status reference)) (status_reply header there)
       by-found None none = failure-true kept (OfRequest header (requests.Status reference)) header NotFound
           (not-found-true kept (OfRequest header (requests.Status reference)) (header_of_reply header) apart (none-asked reference none))
       by-found (Some found) is = found-true reference found (asked-under reference found is) (result_body_of found) refl
 
+  -- the same where an end of day may be served
+  status-at-true : (core : Core) (reference : Option Reference)
+      → IsReplyTrue kept (waiting_keys core) (OfRequest header (requests.Status reference)) (status_reply_at header (found_by_status kept header reference) (asks_day_served core header reference))
+  status-at-true core reference = by-found (found_by_status kept header reference) refl
+    where
+      served : (asked : Option Reference) → asks_day_served core header asked ≡ true → IsReplyTrue kept (waiting_keys core) (OfRequest header (requests.Status asked)) (failure_reply header InProgress)
+      served None serves = absurd cc
+      served (Some one) serves =
+          λ said there. single-true kept (waiting_keys core) (OfRequest header (requests.Status (Some one))) (plain_said (header_of_reply header) (Some InProgress)) said
+          (waits-true kept (waiting_keys core) (OfRequest header (requests.Status (Some one))) (header_of_reply header) (key_of header one) refl (day-waits core (key_of header one) serves)) there
+
+      by-served : (b : Bool) → asks_day_served core header reference ≡ b → found_by_status kept header reference ≡ None
+          → IsReplyTrue kept (waiting_keys core) (OfRequest header (requests.Status reference)) (status_reply_at header None b)
+      by-served true serves none = served reference serves
+      by-served false apart_from none =
+          reply-true-more kept (waiting_keys core) (OfRequest header (requests.Status reference)) (status_reply header None)
+          (subst (λ (there : Option Found). IsReplyTrue kept [] (OfRequest header (requests.Status reference)) (status_reply header there)) none (status-true reference))
+
+      by-found : (there : Option Found) → found_by_status kept header reference ≡ there
+          → IsReplyTrue kept (waiting_keys core) (OfRequest header (requests.Status reference)) (status_reply_at header there (asks_day_served core header reference))
+      by-found None none = by-served (asks_day_served core header reference) refl none
+      by-found (Some found) is =
+          reply-true-more kept (waiting_keys core) (OfRequest header (requests.Status reference)) (status_reply header (Some found))
+          (subst (λ (there : Option Found). IsReplyTrue kept [] (OfRequest header (requests.Status reference)) (status_reply header there)) is (status-true reference))
+
 -- ---- requests that aren't served
 
-unserved-idle : (named : Option NamedTerminal) → IsIdle (unserved_for named)
-unserved-idle None = (refl, refl)
-unserved-idle (Some named) = (refl, refl)
-
 module _ (records : List Record) (occasion : Occasion) (header : Header) (apart : IsNoTransaction header) where
-  unserved-true : (condition : Condition) → IsIdle condition → IsReplyTrue records occasion (failure_reply header condition)
+  unserved-true : (condition : Condition) → IsIdle condition → IsReplyTrue records [] occasion (failure_reply header condition)
   unserved-true condition idle = failure-true records occasion header condition (other-kind-true records occasion (header_of_reply header) condition idle apart)
 
-  diagnosis-true : (named : Option NamedTerminal) → IsReplyTrue records occasion (diagnosis_reply header named)
+  diagnosis-true : (named : Option NamedTerminal) → IsReplyTrue records [] occasion (diagnosis_reply header named)
   diagnosis-true None = unserved-true UnavailableDevice (refl, refl)
   diagnosis-true (Some named) = λ said there. alone-true records occasion (plain_said (header_of_reply header) None) said (succeeded-true records occasion (header_of_reply header) apart) there
 
-  print-true : (qualifier : List ℕ) → IsReplyTrue records occasion (Print (header_of_reply header) qualifier (failure UnavailableDevice))
+  print-true : (qualifier : List ℕ) → IsReplyTrue records [] occasion (Print (header_of_reply header) qualifier (failure UnavailableDevice))
   print-true qualifier = λ said there. alone-true records occasion (plain_said (header_of_reply header) (Some UnavailableDevice)) said
       (other-kind-true records occasion (header_of_reply header) UnavailableDevice (refl, refl) apart) there
 
-display-reply-true : (records : List Record) (occasion : Occasion) (header : Header) (condition : Condition) (outputs : List Output) (reply : ReplyValue) → IsNoTransaction header
-    → display_refusal condition header outputs ≡ Some reply → IsReplyTrue records occasion reply
-display-reply-true records occasion header condition outputs reply apart = by-test (is_response_required outputs)
-  where
-    by-test : (required : Bool) → ◌≡◌ {A = Option ReplyValue} (if required then Some (Display (header_of_reply header) (map (output_refused condition) outputs)) else None) (Some reply)
-        → IsReplyTrue records occasion reply
-    by-test true is = reply-is records occasion (Display (header_of_reply header) (map (output_refused condition) outputs)) reply
-        (λ said there. alone-true records occasion (display_said (header_of_reply header)) said (display-true records occasion (header_of_reply header) apart) there) is
-    by-test false is = absurd cc
+  -- it succeeds
+  success-true : IsReplyTrue records [] occasion (success_reply header)
+  success-true = λ said there. alone-true records occasion (plain_said (header_of_reply header) None) said (succeeded-true records occasion (header_of_reply header) apart) there
 
-abort-true : (records : List Record) (occasion : Occasion) (opened : Bool) (known : Known) (header : Header) (reply : ReplyValue) → abort_reply opened known header ≡ Some reply → IsReplyTrue records occasion reply
+  -- a Login or a Logout that is refused
+  refused-true : (unnamed one_too_many : Bool) (reply : ReplyValue) → reply_of_result records header (if unnamed then Fails UnavailableDevice else (if one_too_many then Fails UnavailableService else Begins)) ≡ Some reply
+      → IsReplyTrue records [] occasion reply
+  refused-true true one_too_many reply is = reply-is records occasion (failure_reply header UnavailableDevice) reply (unserved-true UnavailableDevice (refl, refl)) is
+  refused-true false true reply is = reply-is records occasion (failure_reply header UnavailableService) reply (unserved-true UnavailableService (refl, refl)) is
+  refused-true false false reply is = absurd cc
+
+-- the reply to a Display with these results, where there are any
+pub display-results-true : (records : List Record) (occasion : Occasion) (header : Header) (results : Option (List Shown)) (reply : ReplyValue) → IsNoTransaction header → display_reply header results ≡ Some reply
+    → IsReplyTrue records [] occasion reply
+display-results-true records occasion header None reply apart is = absurd cc
+display-results-true records occasion header (Some results) reply apart is = reply-is records occasion (Display (header_of_reply header) results) reply
+    (λ said there. alone-true records occasion (display_said (header_of_reply header)) said (display-true records occasion (header_of_reply header) apart) there) is
+
+-- the reply to a Display that doesn't begin
+display-reply-true : (records : List Record) (occasion : Occasion) (header : Header) (outputs : List Output) (result : StepResult) (reply : ReplyValue) → IsNoTransaction header
+    → reply_of_display header outputs result ≡ Some reply → IsReplyTrue records [] occasion reply
+display-reply-true records occasion header outputs KeptReply reply apart is = absurd cc
+display-reply-true records occasion header outputs (Fails condition) reply apart is = display-results-true records occasion header (refused_results condition outputs) reply apart is
+display-reply-true records occasion header outputs Begins reply apart is = absurd cc
+
+abort-true : (records : List Record) (occasion : Occasion) (opened : Bool) (known : Known) (header : Header) (reply : ReplyValue) → abort_reply opened known header ≡ Some reply → IsReplyTrue records [] occasion reply
 abort-true records occasion true known header reply is = absurd cc
 abort-true records occasion false known header reply is =
     reply-is records occasion (Reject header.sale header.poi (pos known.moment) details.Abort) reply (λ said none. absurd none) is
@@ -269,46 +347,75 @@ abort-true records occasion false known header reply is =
 -- ---- each request
 
 request-true : (laws : LedgerLaws) (known : Known) (message body : Tree) (header : Header) (request : SaleRequest) (named : Option NamedTerminal) (reply : ReplyValue)
-    → AreFolded known.kept → IsRequest message body header request → reply_at named known header request ≡ Some reply → IsReplyTrue known.kept (OfRequest header request) reply
-request-true laws known message body header requests.Login named reply folded asks is =
-    reply-is known.kept (OfRequest header requests.Login) (failure_reply header (unserved_for named)) reply
-    (unserved-true known.kept (OfRequest header requests.Login) header (kind-is header (codes "Login") (sym asks.category) refl) (unserved_for named) (unserved-idle named)) is
-request-true laws known message body header requests.Logout named reply folded asks is =
-    reply-is known.kept (OfRequest header requests.Logout) (failure_reply header (unserved_for named)) reply
-    (unserved-true known.kept (OfRequest header requests.Logout) header (kind-is header (codes "Logout") (sym asks.category) refl) (unserved_for named) (unserved-idle named)) is
-request-true laws known message body header (requests.Payment ask) named reply folded asks is =
+    → named_terminal known.core header.poi ≡ named
+    → AreFolded known.kept → IsRequest message body header request → reply_at named known header request ≡ Some reply → IsReplyTrue known.kept (waiting_keys known.core) (OfRequest header request) reply
+request-true laws known message body header requests.Login named reply named_is folded asks is =
+    reply-true-more known.kept (waiting_keys known.core) (OfRequest header requests.Login) reply
+    (refused-true known.kept (OfRequest header requests.Login) header (kind-is header (codes "Login") (sym asks.category) refl) (not (is_some named)) (is_one_too_many known.core header requests.Login) reply is)
+request-true laws known message body header requests.Logout named reply named_is folded asks is =
+    reply-true-more known.kept (waiting_keys known.core) (OfRequest header requests.Logout) reply
+    (refused-true known.kept (OfRequest header requests.Logout) header (kind-is header (codes "Logout") (sym asks.category) refl) (not (is_some named)) (is_one_too_many known.core header requests.Logout) reply is)
+request-true laws known message body header (requests.Payment ask) named reply named_is folded asks is =
     let service = service-there body asks.members.members.0 in
-    service-true laws known folded header (requests.Payment ask) (λ own. refl) service.text (sym asks.request_of.header_is.values.service ∙ service.is) named reply is
-request-true laws known message body header (requests.Reversal ask) named reply folded asks is =
+    service-true laws known folded header (requests.Payment ask) (λ own. refl) service.text (sym asks.request_of.header_is.values.service ∙ service.is) named named_is reply is
+request-true laws known message body header (requests.Reversal ask) named reply named_is folded asks is =
     let service = service-there body asks.members.members.0 in
-    service-true laws known folded header (requests.Reversal ask) (λ own. refl) service.text (sym asks.request_of.header_is.values.service ∙ service.is) named reply is
-request-true laws known message body header (requests.Abort reference) named reply folded asks is =
-    abort-true known.kept (OfRequest header (requests.Abort reference)) (is_open_key known.kept header reference) known header reply is
-request-true laws known message body header (requests.Status reference) named reply folded asks is =
-    reply-is known.kept (OfRequest header (requests.Status reference)) (status_reply header (found_by_status known.kept header reference)) reply
-    (status-true laws known.kept folded header (kind-is header (codes "TransactionStatus") (sym asks.category) refl) reference) is
-request-true laws known message body header (requests.Reconciliation period) named reply folded asks is =
+    service-true laws known folded header (requests.Reversal ask) (λ own. refl) service.text (sym asks.request_of.header_is.values.service ∙ service.is) named named_is reply is
+request-true laws known message body header (requests.Abort reference) named reply named_is folded asks is =
+    reply-true-more known.kept (waiting_keys known.core) (OfRequest header (requests.Abort reference)) reply
+    (abort-true known.kept (OfRequest header (requests.Abort reference)) (is_open_key known.kept header reference || is_day_served known.core (key_of header reference)) known header reply is)
+request-true laws known message body header (requests.Status reference) named reply named_is folded asks is =
+    subst (IsReplyTrue known.kept (waiting_keys known.core) (OfRequest header (requests.Status reference)))
+    (same_Some (status_reply_at header (found_by_status known.kept header reference) (asks_day_served known.core header reference)) reply is)
+    (status-at-true laws known.kept folded header (kind-is header (codes "TransactionStatus") (sym asks.category) refl) known.core reference)
+request-true laws known message body header (requests.Reconciliation period) named reply named_is folded asks is =
     let service = service-there body asks.members.members.0 in
-    service-true laws known folded header (requests.Reconciliation period) (λ own. refl) service.text (sym asks.request_of.header_is.values.service ∙ service.is) named reply is
-request-true laws known message body header (requests.Display outputs) named reply folded asks is =
-    display-reply-true known.kept (OfRequest header (requests.Display outputs)) header (unserved_for named) outputs reply (kind-is header (codes "Display") (sym asks.category) refl) is
-request-true laws known message body header (requests.Print qualifier) named reply folded asks is =
-    reply-is known.kept (OfRequest header (requests.Print qualifier)) (Print (header_of_reply header) qualifier (failure UnavailableDevice)) reply
-    (print-true known.kept (OfRequest header (requests.Print qualifier)) header (kind-is header (codes "Print") (sym asks.category) refl) qualifier) is
-request-true laws known message body header requests.Diagnosis named reply folded asks is =
-    reply-is known.kept (OfRequest header requests.Diagnosis) (diagnosis_reply header named) reply
-    (diagnosis-true known.kept (OfRequest header requests.Diagnosis) header (kind-is header (codes "Diagnosis") (sym asks.category) refl) named) is
+    service-true laws known folded header (requests.Reconciliation period) (λ own. refl) service.text (sym asks.request_of.header_is.values.service ∙ service.is) named named_is reply is
+request-true laws known message body header (requests.Display outputs) named reply named_is folded asks is =
+    reply-true-more known.kept (waiting_keys known.core) (OfRequest header (requests.Display outputs)) reply
+    (display-reply-true known.kept (OfRequest header (requests.Display outputs)) header outputs (display_result outputs named) reply (kind-is header (codes "Display") (sym asks.category) refl) is)
+request-true laws known message body header (requests.Print qualifier) named reply named_is folded asks is =
+    reply-true-more known.kept (waiting_keys known.core) (OfRequest header (requests.Print qualifier)) reply
+    (reply-is known.kept (OfRequest header (requests.Print qualifier)) (Print (header_of_reply header) qualifier (failure UnavailableDevice)) reply
+    (print-true known.kept (OfRequest header (requests.Print qualifier)) header (kind-is header (codes "Print") (sym asks.category) refl) qualifier) is)
+request-true laws known message body header requests.Diagnosis named reply named_is folded asks is =
+    reply-true-more known.kept (waiting_keys known.core) (OfRequest header requests.Diagnosis) reply
+    (reply-is known.kept (OfRequest header requests.Diagnosis) (diagnosis_reply header named) reply
+    (diagnosis-true known.kept (OfRequest header requests.Diagnosis) header (kind-is header (codes "Diagnosis") (sym asks.category) refl) named) is)
 
 -- the reply to a till's message is true of the records
 pub asked-true : (laws : LedgerLaws) (known : Known) (as_read : ReadAs) (reply : ReplyValue) → IsInOrder known → IsReadFromTill as_read → reply_to known as_read ≡ Some reply
-    → IsReplyTrue known.kept (occasion_read as_read) reply
+    → IsReplyTrue known.kept (waiting_keys known.core) (occasion_read as_read) reply
 asked-true laws known (Request header request) reply order read is =
     let message = read.1 in
     let asked = message.read in
-    request-true laws known message.tree asked.0 header request (named_terminal known.core header.poi) reply order.folded asked.1 is
+    request-true laws known message.tree asked.0 header request (named_terminal known.core header.poi) reply refl order.folded asked.1 is
 asked-true laws known Silent reply order read is = absurd cc
 asked-true laws known (NoMessage fault) reply order read is =
     let message = read.1 in
-    reply-is known.kept OfNothing (reply_to_fault known.setup.name known.moment fault) reply (fault-true known.kept known.setup.name known.moment message.tree fault message.faulty) is
+    reply-true-more known.kept (waiting_keys known.core) OfNothing reply
+    (reply-is known.kept OfNothing (reply_to_fault known.setup.name known.moment fault) reply (fault-true known.kept known.setup.name known.moment message.tree fault message.faulty) is)
 asked-true laws known (NoJson fault) reply order read is =
-    reply-is known.kept OfNothing (reject_event known.setup.name known.moment (details.Json fault)) reply (λ said none. absurd none) is
+    reply-true-more known.kept (waiting_keys known.core) OfNothing reply
+    (reply-is known.kept OfNothing (reject_event known.setup.name known.moment (details.Json fault)) reply (λ said none. absurd none) is)
+
+-- ---- a Login or a Logout succeeds
+
+session-asked : (records : List Record) (message body : Tree) (header : Header) (request : SaleRequest) → is_session request ≡ true → IsRequest message body header request → IsReplyTrue records [] (OfRequest header request) (success_reply header)
+session-asked records message body header requests.Login is asks = success-true records (OfRequest header requests.Login) header (kind-is header (codes "Login") (sym asks.category) refl)
+session-asked records message body header requests.Logout is asks = success-true records (OfRequest header requests.Logout) header (kind-is header (codes "Logout") (sym asks.category) refl)
+session-asked records message body header (requests.Payment ask) is asks = absurd cc
+session-asked records message body header (requests.Reversal ask) is asks = absurd cc
+session-asked records message body header (requests.Abort reference) is asks = absurd cc
+session-asked records message body header (requests.Status reference) is asks = absurd cc
+session-asked records message body header (requests.Reconciliation period) is asks = absurd cc
+session-asked records message body header (requests.Display outputs) is asks = absurd cc
+session-asked records message body header (requests.Print qualifier) is asks = absurd cc
+session-asked records message body header requests.Diagnosis is asks = absurd cc
+
+-- its reply is true of the records
+pub session-true : (records : List Record) (header : Header) (request : SaleRequest) → is_session request ≡ true → IsReadFromTill (Request header request) → IsReplyTrue records [] (OfRequest header request) (success_reply header)
+session-true records header request is read =
+    let message = read.1 in
+    let asked = message.read in
+    session-asked records message.tree asked.0 header request is asked.1

@@ -21,7 +21,7 @@ use Rattle.gw_books.specs.Books.{BookedEntry, Honest}
 use Rattle.gw_books.specs.Said.{Said, all_said, IsFramed}
 use Rattle.gw_books.specs.Agrees.{EachSaid, entry_key, is_transaction, is_success, is_failure, is_approved_entry, is_entry_said, is_of_category, names_entry, success_agrees, refusal_agrees}
 use Rattle.gw_books.specs.Headline.{HasPast, HonestAgrees}
-use Rattle.gw_books.specs.Example.{success_reply, paid_course, paid_past, paid_entry, refusal_reply, refused_course, refused_past}
+use Rattle.gw_books.specs.Example.{paid_reply, paid_course, paid_past, paid_entry, refusal_reply, refused_course, refused_past}
 use Rattle.gw_books.specs.TillLaws.{IsSaidTo, IsBooked, SuccessIsBooked, RefusedIsNeverCharged, paid_said, PaidIsSaid, refused_said, declined_entry, RefusedIsSaid}
 use Rattle.gw_books.proofs.ListLemmas.{In, all-in, any-in, any-from, bytes-are}
 use Rattle.gw_books.proofs.SaidLemmas.{each-reply-says}
@@ -206,13 +206,13 @@ unfolding digits transaction_text money_text
 paid-reply-says = record {
   before = take 31 (turns_of paid_course);
   after = drop 32 (turns_of paid_course);
-  bytes = reply_value_bytes success_reply;
+  bytes = reply_value_bytes paid_reply;
   sent = true;
   log_is = refl;
-  message = reply_value_tree success_reply;
+  message = reply_value_tree paid_reply;
   framed = success-framed;
   at = 0;
-  says = ap (λ (list : List Said). slice_get list 0) (each-reply-says success_reply);
+  says = ap (λ (list : List Said). slice_get list 0) (each-reply-says paid_reply);
 }
 
 paid-booked : IsBooked paid_past (paid_entry ∷ []) (take 31 (turns_of paid_course)) paid_said

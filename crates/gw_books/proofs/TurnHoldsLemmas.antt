@@ -46,7 +46,7 @@ use Rattle.gw_rules.proofs.TranscriptLogLemmas.{image-there, there-image}
 use Rattle.gw_books.specs.Past.{Occasion, OfNothing, SentCommand, MadeLink, HeardEnd, MadePoll, Past, poi_of_number}
 use Rattle.gw_books.specs.Books.{BookedEntry}
 use Rattle.gw_books.specs.Agrees.{is_accepted, is_report, is_report_on, is_resolved_on, report_resolves, is_inside}
-use Rattle.gw_books.proofs.Holding.{AreOutcomesTrue, AreFalling, AreKeyed, IsFirstOf, AreCallsSound, charges_terminal, charge_owed, is_deed, deed_owed, IsServingSound, ServesTransaction, ServeTransactions, is_report_after, IsResolvedOn, IsLinkSound, is_handle, Holds, TurnHolds}
+use Rattle.gw_books.proofs.Holding.{AreOutcomesTrue, AreFalling, AreKeyed, IsFirstOf, AreCallsSound, charges_terminal, charge_owed, is_deed, deed_owed, IsServingSound, IsRepliable, AreRepliable, is_report_after, IsResolvedOn, IsLinkSound, is_handle, Holds, TurnHolds}
 use Rattle.gw_books.proofs.ListLemmas.{In, all-from, any-from, any-in, filter-in}
 use Rattle.gw_books.proofs.RecordMoreLemmas.{accepted-more, asked-first, first-itself, first-of-first, outcomes-of-first, outcomes-later}
 
@@ -288,7 +288,7 @@ goes-on v w past occasion heard lasting polls deeds book h l = record {
   serving = λ clear number terminal found no_charge no_cut.
       subst (λ records. IsServingSound records past.commands terminal.pt.poi terminal.standing) (sym l.coming)
       (h.serving (l.clear clear) number terminal (there number terminal found) (sym (l.charge_free number) ∙ no_charge) (sym (l.cut_free number) ∙ no_cut));
-  transactions = λ number terminal found. h.transactions number terminal (there number terminal found);
+  repliable = λ number terminal found. h.repliable number terminal (there number terminal found);
   dialogues = λ clear number terminal found no_cut. h.dialogues (l.clear clear) number terminal (there number terminal found) (sym (l.cut_free number) ∙ no_cut);
   inside = l.inside;
   deeds = l.deeds_inside;
@@ -502,7 +502,7 @@ record Drops (v w : View) (past : Past) (occasion : Occasion) (lasting : List Ma
   first : records_coming v ≡ records_coming w ++ more
   calls : AreCallsSound (records_coming w) w.scene.core past.commands occasion w.calls
   serving : is_broken w.scene.stage ≡ false → (number : ℕ) (terminal : Terminal) → slice_get w.scene.core.terminals number ≡ Some terminal → IsServingSound (records_coming w) past.commands terminal.pt.poi terminal.standing
-  transactions : ServeTransactions w.scene.core
+  repliable : AreRepliable w.scene.core
   dialogues : is_broken w.scene.stage ≡ false → (number : ℕ) (terminal : Terminal) → slice_get w.scene.core.terminals number ≡ Some terminal → HasItsDialogue terminal
   ended : is_round w.scene.stage ≡ false
   items : w.items ≡ []
@@ -518,7 +518,7 @@ drops-hold v w past occasion lasting book h d = record {
       (outcomes-of-first past.commands book past.place (records_coming w) d.more (subst (λ records. AreOutcomesTrue past.commands book past.place records) d.first h.outcomes));
   calls = d.calls;
   serving = λ clear number terminal found no_charge no_cut. d.serving clear number terminal found;
-  transactions = d.transactions;
+  repliable = d.repliable;
   dialogues = λ clear number terminal found no_cut. d.dialogues clear number terminal found;
   inside = λ round deed. no-true (sym d.ended ∙ round);
   deeds = h.deeds;
@@ -549,7 +549,7 @@ nobody-drops v w past kept kept_first more first none items nobody ended = recor
   first = first;
   calls = subst (λ calls. AreCallsSound (records_coming w) w.scene.core past.commands OfNothing calls) (sym none) tt;
   serving = λ clear number terminal found. no-terminal number terminal (there number terminal found);
-  transactions = λ number terminal found. no-terminal number terminal (there number terminal found);
+  repliable = λ number terminal found. no-terminal number terminal (there number terminal found);
   dialogues = λ clear number terminal found. no-terminal number terminal (there number terminal found);
   ended = ended;
   items = items;
@@ -582,7 +582,7 @@ start-holds setup log v past book o ok h = drops-hold v w past OfNothing [] book
       first = first-file v w.calls none;
       calls = opens-all (λ calls. AreCallsSound (records_coming w) w.scene.core past.commands OfNothing calls) (tt, tt) (tt, (tt, (tt, tt))) setup v.scene.outside.file (records_of v.scene);
       serving = λ clear. new-terminals (λ (t : Terminal). IsServingSound (records_coming w) past.commands t.pt.poi t.standing) (λ pt. tt) setup;
-      transactions = new-terminals (λ (t : Terminal). ServesTransaction t.standing) (λ pt. tt) setup;
+      repliable = new-terminals (λ (t : Terminal). IsRepliable t.standing) (λ pt. tt) setup;
       dialogues = λ clear. new-has setup;
       ended = refl;
       items = refl;
@@ -638,7 +638,7 @@ disk-failed-holds log v past book o ok h = drops-hold v w past past.occasion pas
       first = first-file v [] refl;
       calls = tt;
       serving = λ clear. no-true (sym clear);
-      transactions = h.transactions;
+      repliable = h.repliable;
       dialogues = λ clear. no-true (sym clear);
       ended = refl;
       items = refl;

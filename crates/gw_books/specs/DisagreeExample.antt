@@ -25,7 +25,7 @@ use Rattle.gw_books.specs.Past.{Ending, Declined, Reported, SentReply, MadePoll,
 use Rattle.gw_books.specs.Books.{BookedEntry, Honest}
 use Rattle.gw_books.specs.Agrees.{are_distinct_keys, entry_key, EachSaid, success_agrees, unaccepted_agrees, in_progress_agrees, report_resolves, Agrees}
 use Rattle.gw_books.specs.SaidLaws.{said_by_reply}
-use Rattle.gw_books.specs.Example.{opened_moves, payment_key, payment_occasion, progress_reply, refused_past, asked_past, paying_header, payment_ask, authorise, asked_course, approved_mark, paid_result_body, paid_course, success_reply, refusal_reply, paid_past, paid_entry, later_entry}
+use Rattle.gw_books.specs.Example.{opened_moves, payment_key, payment_occasion, progress_reply, refused_past, asked_past, paying_header, payment_ask, authorise, asked_course, approved_mark, paid_result_body, paid_course, paid_reply, refusal_reply, paid_past, paid_entry, later_entry}
 
 -- the book is honest for what has happened along the course, and doesn't agree with it
 pub record BreaksAgreement (course : List Move) (book : List BookedEntry) : Type 0 where
@@ -69,12 +69,12 @@ entry_in_time = record paid_entry { place = 23 }
 
 -- a success has no entry, one of another terminal that is older than the log, one that comes after the reply, one that is declined, one of another amount, or one with another receipt number
 pub record UnbookedDisagrees : Type 0 where
-  pub none : BreaksAgreement (course_sent success_reply) []
-  pub older : BreaksAgreement (course_sent success_reply) (record paid_entry { poi = codes "T2"; place = 0; cause = None } ∷ [])
-  pub later : BreaksAgreement (course_sent success_reply) (paid_entry ∷ [])
-  pub declined : BreaksAgreement (course_sent success_reply) (record entry_in_time { approved = false } ∷ [])
-  pub amount : BreaksAgreement (course_sent success_reply) (record entry_in_time { amount = 1000 } ∷ [])
-  pub receipt : BreaksAgreement (course_sent success_reply) (record entry_in_time { receipt = 18 } ∷ [])
+  pub none : BreaksAgreement (course_sent paid_reply) []
+  pub older : BreaksAgreement (course_sent paid_reply) (record paid_entry { poi = codes "T2"; place = 0; cause = None } ∷ [])
+  pub later : BreaksAgreement (course_sent paid_reply) (paid_entry ∷ [])
+  pub declined : BreaksAgreement (course_sent paid_reply) (record entry_in_time { approved = false } ∷ [])
+  pub amount : BreaksAgreement (course_sent paid_reply) (record entry_in_time { amount = 1000 } ∷ [])
+  pub receipt : BreaksAgreement (course_sent paid_reply) (record entry_in_time { receipt = 18 } ∷ [])
 
 -- the command of a refusal is approved after the log's end
 abbrev pub LaterEntryDisagrees : Type 0

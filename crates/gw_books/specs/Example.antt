@@ -162,8 +162,8 @@ abbrev pub paid_result_body : ResultBody
 paid_result_body = PaymentApproved (codes "X1") (codes "2026-11-27T12:00:00Z") approved_mark 1099 (record { minor = 1099; currency = Eur })
 
 -- its reply
-abbrev pub success_reply : ReplyValue
-success_reply = Finished (header_of_reply paying_header) paid_result_body
+abbrev pub paid_reply : ReplyValue
+paid_reply = Finished (header_of_reply paying_header) paid_result_body
 
 -- its Outcome
 abbrev pub kept_approval : TheOutcome
@@ -172,7 +172,7 @@ kept_approval = record { approved = true; slot = 0; number = 123; receipt = 17; 
 -- the terminal approves, the Outcome is kept, and the till gets its reply
 abbrev pub paid_moves : List Move
 paid_moves = Make (Polled (pos 5)) ∷ Make (HeardPt 0 (ack ++ approved_status ++ completion)) ∷ (items_begin 4 ++ Make (SentPt 0 ack true) ∷ (items_begin 3 ++ Make (SentPt 0 ack true) ∷ Begin
-    ∷ (keeping_moves 1 (Outcome kept_approval) ++ Make (SentTill 1 (reply_value_bytes success_reply) true) ∷ items_begin 3)))
+    ∷ (keeping_moves 1 (Outcome kept_approval) ++ Make (SentTill 1 (reply_value_bytes paid_reply) true) ∷ items_begin 3)))
 
 -- the whole course, with one poll more
 abbrev pub paid_course : List Move
@@ -180,7 +180,7 @@ paid_course = asked_course ++ paid_moves ++ Make (Polled (pos 6)) ∷ []
 
 -- the reply, at place 31
 abbrev pub sent_success : SentReply
-sent_success = record { place = 31; bytes = reply_value_bytes success_reply; occasion = OfMessage 0 Completion; kept = Intent paying_intent ∷ Outcome kept_approval ∷ []; waiting = [] }
+sent_success = record { place = 31; bytes = reply_value_bytes paid_reply; occasion = OfMessage 0 Completion; kept = Intent paying_intent ∷ Outcome kept_approval ∷ []; waiting = [] }
 
 -- what has happened along it: the approval was heard at place 24, the Outcome was written, and its gate, and the till has its reply
 abbrev pub paid_past : Past
@@ -326,7 +326,7 @@ completed_course = asked_course ++ completing_moves
 
 -- the Completion is handled: the Outcome is kept, and the till gets its reply; then the next poll may come
 abbrev pub replying_moves : List Move
-replying_moves = Begin ∷ (keeping_moves 1 (Outcome kept_approval) ++ Make (SentTill 1 (reply_value_bytes success_reply) true) ∷ items_begin 3)
+replying_moves = Begin ∷ (keeping_moves 1 (Outcome kept_approval) ++ Make (SentTill 1 (reply_value_bytes paid_reply) true) ∷ items_begin 3)
 
 -- the Completion comes next there, and means that the payment of slot 0 is approved, with a trace number above the one before
 pub record PaidRoundIsSaid : Type 0 where

@@ -1,6 +1,7 @@
 -- The headline: the books of the terminals, and what was done and said along a lawful log.
 pub mod Agrees
 pub mod Books
+pub mod DayExample
 pub mod DisagreeExample
 pub mod Example
 pub mod Headline

@@ -23,6 +23,7 @@ use Rattle.gw_owes.specs.declared.terminal.Service.TheVariants.{Transaction, End
 use Rattle.gw_owes.specs.declared.terminal.Standing.{Standing}
 use Rattle.gw_owes.specs.declared.terminal.Standing.TheVariants.{Unlinked, Registering, Enquiring, Ready, Serving, Aside}
 use Rattle.gw_owes.specs.declared.terminal.Terminal.{Terminal}
+use Rattle.gw_owes.specs.Days.{day_served}
 use Rattle.gw_owes.specs.Core.{Wait, Core}
 use Rattle.gw_owes.specs.Handling.{meaning_at}
 use Rattle.gw_owes.specs.Items.{RoundItem, Crowded, Message, Asked, Unframed, Gone, Greet, Handle, Serve, NextWaiting, Oversized, LinkLost, Late, Overdue, Due}
@@ -237,15 +238,13 @@ with_sent_command scene poi bytes past =
     let command : SentCommand = record { place = past.place; poi = poi; reversal = is_of_instruction 0x30 bytes; whole = nat_lt 0 (length (decode_apdus bytes).apdus); key = open_key scene.kept poi } in
     record past { commands = command ∷ past.commands; deeds = past.occasion ∷ past.deeds }
 
--- the key of an end of day that is served
-abbrev pub end_of_day_key : Service → Option Key
-end_of_day_key (Transaction slot) = None
-end_of_day_key (EndOfDay header period) = own_key header
-end_of_day_key (Display header outputs) = None
+-- the key of the end of day that a terminal serves
+abbrev pub day_key_of : Terminal → Option Key
+day_key_of terminal = option_and_then own_key (day_served terminal.standing)
 
 -- the keys that wait, and those of ends of day that are served
 abbrev pub waiting_keys : Core → List Key
-waiting_keys core = map (λ (wait : Wait). wait.key) core.waits ++ flat_map (λ (terminal : Terminal). option_to_list (option_and_then end_of_day_key (served_in terminal.standing))) core.terminals
+waiting_keys core = map (λ (wait : Wait). wait.key) core.waits ++ flat_map (λ (terminal : Terminal). option_to_list (day_key_of terminal)) core.terminals
 
 -- a till is sent bytes
 abbrev pub with_reply : Scene → List ℕ → Past → Past

@@ -2,7 +2,6 @@
 use Rattle.std.specs.Prelude.{◌≡◌, ◌<◌, ◌≤◌, ℕ, Bool, true, false, ◌&&◌, ◌==◌, not, if◌then◌else◌, List, slice_get, Some}
 use Rattle.std.specs.List.{list_any}
 use Rattle.gw_base.specs.Transaction.{transaction_text}
-use Rattle.gw_base.specs.declared.key.Key.{Key}
 use Rattle.gw_base.specs.declared.setup.Setup.{Setup}
 use Rattle.gw_site.specs.declared.turn.Turn.{Turn}
 use Rattle.json_text.specs.Tree.{Tree}
@@ -16,7 +15,7 @@ use Rattle.gw_ledger.specs.declared.entry.Entry.{Entry as TheEntry}
 use Rattle.gw_ledger.specs.declared.entry.Found.TheVariants.{Entry}
 use Rattle.gw_ledger.specs.Fold.{found_of}
 use Rattle.gw_ledger.specs.Keys.{intent_key}
-use Rattle.gw_ledger.specs.Slots.{intent_at}
+use Rattle.gw_ledger.specs.Slots.{asks_payment, intent_at}
 use Rattle.gw_owes.specs.declared.terminal.Standing.TheVariants.{Aside}
 use Rattle.gw_owes.specs.declared.terminal.Terminal.{Terminal}
 use Rattle.gw_owes.specs.Items.{Handle}
@@ -46,25 +45,30 @@ pub record IsReportedAt (past : Past) (poll : MadePoll) (link : MadeLink) (slot 
   pub poi_is : intent.poi ≡ link.poi
   pub before : slot < link.records
 
--- the entry is approved, for this key, with the numbers and the amount of the Outcome
-abbrev pub is_entry_of : Past → Key → TheOutcome → BookedEntry → Bool
-is_entry_of past key outcome entry = is_approved_entry past key entry && (entry.number == outcome.number && (entry.receipt == outcome.receipt && entry.amount == outcome.amount))
+-- the entry is a payment or a reversal, as the Intent asks
+abbrev pub is_as_asked : TheIntent → BookedEntry → Bool
+is_as_asked intent entry = if asks_payment intent.what then not entry.reversal else entry.reversal
 
--- the Outcome of the key is the terminal's: an approval has its entry, and a decline has no approved entry in the whole book, and so never will have one
-abbrev pub agrees_outcome : Past → List BookedEntry → Key → TheOutcome → Bool
-agrees_outcome past book key outcome = if outcome.approved then list_any (is_entry_of past key outcome) book else not (list_any (is_approved_entry past key) book)
+-- the entry is approved, for the key of the Intent, of its kind, and with the numbers and the amount of the Outcome
+abbrev pub is_entry_of : Past → TheIntent → TheOutcome → BookedEntry → Bool
+is_entry_of past intent outcome entry =
+    is_approved_entry past (intent_key intent) entry && (is_as_asked intent entry && (entry.number == outcome.number && (entry.receipt == outcome.receipt && entry.amount == outcome.amount)))
+
+-- the Outcome of the Intent is the terminal's: an approval has its entry, and a decline has no approved entry of its key in the whole book, and so never will have one
+abbrev pub agrees_outcome : Past → List BookedEntry → TheIntent → TheOutcome → Bool
+agrees_outcome past book intent outcome = if outcome.approved then list_any (is_entry_of past intent outcome) book else not (list_any (is_approved_entry past (intent_key intent)) book)
 
 -- the key of the Intent has an Outcome on record, which is the terminal's
 pub record HasTrueOutcome (past : Past) (book : List BookedEntry) (kept : List Record) (slot : ℕ) (intent : TheIntent) : Type 0 where
   pub outcome : TheOutcome
   pub found : found_of kept (intent_key intent) ≡ Some (Entry (record { slot = slot; intent = intent; result = Some outcome }))
-  pub true_outcome : agrees_outcome past book (intent_key intent) outcome ≡ true
+  pub true_outcome : agrees_outcome past book intent outcome ≡ true
 
 -- each Outcome that is on record at a poll, in whatever run, is the terminal's
 abbrev pub EachOutcomeIsTrue : Type 0
 EachOutcomeIsTrue =
     (log : List Turn) (past : Past) (book : List BookedEntry) (polled : ℕ) (poll : MadePoll) (at : ℕ) (outcome : TheOutcome) (intent : TheIntent) → HasPast log past → Honest past book → slice_get past.polls polled ≡ Some poll
-    → slice_get poll.kept at ≡ Some (Outcome outcome) → intent_at poll.kept outcome.slot ≡ Some intent → agrees_outcome past book (intent_key intent) outcome ≡ true
+    → slice_get poll.kept at ≡ Some (Outcome outcome) → intent_at poll.kept outcome.slot ≡ Some intent → agrees_outcome past book intent outcome ≡ true
 
 -- after any power failures, at whatever places and with whatever images: once the terminal has reported on the enquiry of a link that lasts, what was kept before the link has its Outcome
 abbrev pub ReportedIsResolved : Type 0

@@ -13,7 +13,7 @@ use Rattle.gw_ledger.specs.Slots.{intent_at}
 use Rattle.gw_owes.specs.KeptReplies.{is_finished, kept_reply}
 use Rattle.gw_owes.specs.Reply.{ReplyValue}
 use Rattle.gw_owes.specs.Serving.{reply_to_outcome}
-use Rattle.gw_books.specs.Example.{paying_intent, kept_approval, success_reply}
+use Rattle.gw_books.specs.Example.{paying_intent, kept_approval, paid_reply}
 
 -- whatever records come later, what is finished under a key stays, and with it its kept reply
 abbrev pub FinishedStays : Type 0
@@ -52,8 +52,8 @@ later_intent = record paying_intent { service = codes "8"; before = 123; moment 
 pub record PaidStays : Type 0 where
   pub folded : AreFolded paid_records
   pub asked : intent_at asked_records kept_approval.slot ≡ Some paying_intent
-  pub sent : reply_to_outcome asked_records kept_approval.slot kept_approval ≡ Some success_reply
-  pub kept : option_and_then kept_reply (found_of paid_records (intent_key paying_intent)) ≡ Some success_reply
+  pub sent : reply_to_outcome asked_records kept_approval.slot kept_approval ≡ Some paid_reply
+  pub kept : option_and_then kept_reply (found_of paid_records (intent_key paying_intent)) ≡ Some paid_reply
   pub later : AreFolded (paid_records ++ Intent later_intent ∷ [])
   pub found : found_of paid_records (intent_key paying_intent) ≡ Some paid_found
   pub finished : is_finished paid_found ≡ true

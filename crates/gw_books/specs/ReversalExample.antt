@@ -41,7 +41,7 @@ use Rattle.gw_rules.specs.View.{Move, Begin, Read, Make, view_from, at_first}
 use Rattle.gw_books.specs.Past.{Occasion, OfRequest, OfMessage, Approved, SentCommand, SentReply, Past}
 use Rattle.gw_books.specs.Books.{BookedEntry}
 use Rattle.gw_books.specs.DisagreeExample.{BreaksAgreement, entry_in_time}
-use Rattle.gw_books.specs.Example.{IsHonestAndAgrees, asked_course, kept_approval, keeping_moves, opened_moves, paid_course, paid_entry, paid_past, paying_header, paying_intent, payment_read, payment_text, polled_linked, success_reply}
+use Rattle.gw_books.specs.Example.{IsHonestAndAgrees, asked_course, kept_approval, keeping_moves, opened_moves, paid_course, paid_entry, paid_past, paying_header, paying_intent, payment_read, payment_text, polled_linked, paid_reply}
 use Rattle.gw_books.specs.Headline.{HasPast}
 use Rattle.gw_books.specs.ReversalLaws.{IsBookedReversal, IsOfPaid, kept_after}
 use Rattle.gw_books.specs.RoundLaws.{ComesNext, EndsRound}
@@ -213,7 +213,7 @@ misasked_course = opened_moves ++ Make (Polled (pos 4)) ∷ Make (HeardTill 1 (f
 
 -- a success of the payment doesn't agree with the approved entry of that command, which is a reversal
 abbrev pub ReversalIsNoPayment : Type 0
-ReversalIsNoPayment = BreaksAgreement (misasked_course ++ Make (SentTill 1 (reply_value_bytes success_reply) true) ∷ []) (record entry_in_time { reversal = true } ∷ [])
+ReversalIsNoPayment = BreaksAgreement (misasked_course ++ Make (SentTill 1 (reply_value_bytes paid_reply) true) ∷ []) (record entry_in_time { reversal = true } ∷ [])
 
 -- ---- a stop
 

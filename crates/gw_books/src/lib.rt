@@ -2,6 +2,7 @@
 #![tactic(auto)]
 
 ghost use Rattle.gw_books.specs.Example.{AskedHasPast, LostAgrees, LostHasPast, PaidAgrees, PaidHasPast, PaidRoundIsAsked, PaidRoundIsSaid, RefusedAgrees, RefusedHasPast, RefusedRoundIsSaid};
+ghost use Rattle.gw_books.specs.DayExample.{SettledAgrees, SettledHasPast};
 ghost use Rattle.gw_books.specs.DisagreeExample.{DisorderedBooks, EntriesOfOneKey, KeylessDisagrees, LaterEntryDisagrees, LinksEnd, NotLawful, NotFoundDisagrees, OtherContentAgrees, OtherRepeatDisagrees, OutsideDisagrees, ProgressDisagrees, RepeatAgrees, ReportedBooks, SameContentDisagrees, TwiceDisagrees, UnacceptedDisagrees, UnbookedDisagrees, UncausedBooks, UnreportedMayBeOpen, UnresolvedDisagrees, UntrueBooks, WaitingIsInProgress};
 ghost use Rattle.gw_books.specs.Headline.{HonestAgrees};
 ghost use Rattle.gw_books.specs.PastLaws.{EachHasOnePast, EachLogAgrees, HonestForPrefix};
@@ -15,15 +16,16 @@ ghost use Rattle.gw_books.specs.SaidLaws.{EachReplyIsFramed, EachReplySays, Each
 ghost use Rattle.gw_books.specs.TillLaws.{PaidIsSaid, RefusedIsNeverCharged, RefusedIsSaid, SuccessIsBooked};
 
 /// Examples of what the headline says, each along a course of a gateway with one terminal. The logs of a payment that is approved, of
-/// one that is declined, and of one whose link is lost before its end are lawful; what has happened along each is as it is written
-/// out; and the book with the approved entry, the empty book, and either of them, is honest for it and agrees. What doesn't agree with
-/// a book that is honest for it: a command that is sent twice, also with an entry for each, and one without a key; a success without
-/// its entry, or with one that comes later, is declined, or has another amount or receipt number, also where it is repeated; a refusal
-/// whose command is approved later; a key that has its Outcome said to be in progress, not accepted, or not allowed with the content
-/// that was accepted; a payment that was accepted said not to be found; a write for bytes outside the grammars; a key that is open
-/// since before its link at a poll after an enquiry has reported, while the link lasts. What isn't honest: an entry without its command,
-/// or after its link was replaced; numbers and places that fall, and two entries of one command; an end of a dialogue that isn't true of
-/// the book.
+/// one that is declined, of one whose link is lost before its end, and of an end of day that is asked for again while it is served, with
+/// a device request on its way and a display after it, are lawful; what has happened along each is as it is written out; and the book
+/// with the approved entry, the empty book, and either of them, is honest for it and agrees, for the last the empty one. What doesn't
+/// agree with a book that is honest for it: a command that is sent twice, also with an entry for each, and one without a key; a success
+/// without its entry, or with one that comes later, is declined, or has another amount or receipt number, also where it is repeated; a
+/// refusal whose command is approved later; a key that has its Outcome said to be in progress, not accepted, or not allowed with the
+/// content that was accepted; a payment that was accepted said not to be found; a write for bytes outside the grammars; a key that is
+/// open since before its link at a poll after an enquiry has reported, while the link lasts. What isn't honest: an entry without its
+/// command, or after its link was replaced; numbers and places that fall, and two entries of one command; an end of a dialogue that isn't
+/// true of the book.
 pub fn law_examples()
     ensures asked { AskedHasPast }
     ensures paid { PaidHasPast }
@@ -32,6 +34,8 @@ pub fn law_examples()
     ensures declined_agrees { RefusedAgrees }
     ensures lost { LostHasPast }
     ensures lost_agrees { LostAgrees }
+    ensures day { SettledHasPast }
+    ensures day_agrees { SettledAgrees }
     ensures twice { TwiceDisagrees }
     ensures one_key { EntriesOfOneKey }
     ensures keyless { KeylessDisagrees }
@@ -170,7 +174,7 @@ pub fn law_tills()
 
 /// What those who operate a gateway may rely on, wherever the books of the terminals are honest. After any number of power failures, at
 /// whatever places and with whatever images: at each poll while a link lasts on whose enquiry its terminal has reported, each key of its
-/// POIID that was kept before the link has its Outcome. Each Outcome on record at a poll is the terminal's: an approval has its entry,
+/// POIID that was kept before the link has its Outcome. Each Outcome on record at a poll is the terminal's: an approval has its entry, of its kind,
 /// and a decline has none that is approved, now or ever. It stays so with whatever is kept later, and with it the kept reply. Each
 /// success that is said of a key with an Outcome by a report, in any run, also where a TransactionStatus repeats it, has the numbers and
 /// the amount of that one Outcome, and each failure with the mark of a transaction is of its decline. No terminal is set aside. Whatever
@@ -206,9 +210,9 @@ pub fn law_recovery()
 /// entries are of one key; a success is an approved entry of its key, a payment or a reversal as it says, with its numbers and its amount,
 /// which was booked before it was said; of the key of a refusal with the mark of a transaction no entry is approved, and none ever will be; what is said not to be
 /// accepted, but with `MessageFormat` or with `NotAllowed` to other content, has no Intent, and neither has what is said not to be found;
-/// what is said to be in progress is unresolved; at a poll, where a terminal's link lasts whose enquiry has reported, no key is open that
-/// was open as the link was made; and what is outside the grammars changes no book. So it is of each prefix of the log. A course along
-/// which an honest book doesn't agree is the lean course of no log.
+/// what is said to be in progress is unresolved, or an end of day that a terminal serves; at a poll, where a terminal's link lasts whose
+/// enquiry has reported, no key is open that was open as the link was made; and what is outside the grammars changes no book. So it is of
+/// each prefix of the log. A course along which an honest book doesn't agree is the lean course of no log.
 pub fn law_headline()
     ensures headline { HonestAgrees }
     ensures throughout { EachLogAgrees }

@@ -1,22 +1,25 @@
--- What a request of a till begins: a service at the terminal that is named, or a stop at the one that serves the key of an Abort.
+-- What a request of a till begins: a session or a service at the terminal that is named, or a stop at the one that serves the key of an Abort.
 use Rattle.std.proofs.Common.{◌≡◌, ℕ, List, [], ◌∷◌, refl, ap}
 use Rattle.std.specs.Prelude.{Bool, true, false, if◌then◌else◌, Option, Some, None}
 use Rattle.jrn_record.specs.declared.records.Record.{Record}
 use Rattle.sale_values.specs.Key.{key_of}
 use Rattle.sale_values.specs.declared.header.Header.{Header}
+use Rattle.sale_values.specs.declared.request.Output.{Output}
 use Rattle.sale_values.specs.declared.request.Reference.{Reference}
 use Rattle.sale_values.specs.declared.request.SaleRequest.{SaleRequest}
 use Rattle.sale_values.specs.declared.request.SaleRequest.TheVariants as requests
 use Rattle.gw_owes.specs.Diagnosis.{NamedTerminal, named_terminal}
+use Rattle.gw_owes.specs.Displays.{display_items, display_result}
 use Rattle.gw_owes.specs.Items.{Serve}
 use Rattle.gw_owes.specs.ReadAs.{Request}
 use Rattle.gw_owes.specs.Requests.{begun_by}
 use Rattle.gw_owes.specs.Row.{Known}
+use Rattle.gw_owes.specs.SessionRows.{session_items, session_result}
 use Rattle.gw_owes.specs.Steps.{StepResult, KeptReply, Fails, Begins, step_result, items_of_result}
 use Rattle.gw_owes.specs.Stops.{serves_key, stop_items_at}
 use Rattle.gw_owes.specs.declared.terminal.Terminal.{Terminal}
 
--- what a service begins is its request, at the terminal that is named
+-- what a session or a service begins is its request, at the terminal that is named
 pub record ServesNamed (header own : Header) (request begun : SaleRequest) (pt : ℕ) (named : Option NamedTerminal) (result : StepResult) : Type 0 where
   pub same_header : own ≡ header
   pub same_request : request ≡ begun
@@ -76,9 +79,21 @@ same-service known till pt header own request begun is =
     let serves = serves-named till pt header own request begun (named_terminal known.core own.poi) (step_result known own request (named_terminal known.core own.poi)) is in
     record { header_is = serves.same_header; request_is = serves.same_request }
 
+same-session : (known : Known) (till pt : ℕ) (header own : Header) (request begun : SaleRequest) → session_items known till own request (named_terminal known.core own.poi) ≡ Serve pt till header begun ∷ []
+    → IsSameRequest header own request begun
+same-session known till pt header own request begun is =
+    let serves = serves-named till pt header own request begun (named_terminal known.core own.poi) (session_result known own request (named_terminal known.core own.poi)) is in
+    record { header_is = serves.same_header; request_is = serves.same_request }
+
+same-display : (known : Known) (till pt : ℕ) (header own : Header) (outputs : List Output) (begun : SaleRequest) → display_items till own outputs (named_terminal known.core own.poi) ≡ Serve pt till header begun ∷ []
+    → IsSameRequest header own (requests.Display outputs) begun
+same-display known till pt header own outputs begun is =
+    let serves = serves-named till pt header own (requests.Display outputs) begun (named_terminal known.core own.poi) (display_result outputs (named_terminal known.core own.poi)) is in
+    record { header_is = serves.same_header; request_is = serves.same_request }
+
 pub same-begun : (known : Known) (till pt : ℕ) (header own : Header) (request begun : SaleRequest) → begun_by known till (Request own request) ≡ Serve pt till header begun ∷ [] → IsSameRequest header own request begun
-same-begun known till pt header own requests.Login begun is = absurd cc
-same-begun known till pt header own requests.Logout begun is = absurd cc
+same-begun known till pt header own requests.Login begun is = same-session known till pt header own requests.Login begun is
+same-begun known till pt header own requests.Logout begun is = same-session known till pt header own requests.Logout begun is
 same-begun known till pt header own (requests.Payment ask) begun is = same-service known till pt header own (requests.Payment ask) begun is
 same-begun known till pt header own (requests.Reversal ask) begun is = same-service known till pt header own (requests.Reversal ask) begun is
 same-begun known till pt header own (requests.Abort reference) begun is =
@@ -86,6 +101,6 @@ same-begun known till pt header own (requests.Abort reference) begun is =
     record { header_is = stops.same_header; request_is = stops.same_request }
 same-begun known till pt header own (requests.Status reference) begun is = absurd cc
 same-begun known till pt header own (requests.Reconciliation period) begun is = same-service known till pt header own (requests.Reconciliation period) begun is
-same-begun known till pt header own (requests.Display outputs) begun is = absurd cc
+same-begun known till pt header own (requests.Display outputs) begun is = same-display known till pt header own outputs begun is
 same-begun known till pt header own (requests.Print qualifier) begun is = absurd cc
 same-begun known till pt header own requests.Diagnosis begun is = absurd cc

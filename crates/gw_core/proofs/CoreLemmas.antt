@@ -1,11 +1,12 @@
 -- What the core remembers of its terminals: their settings, their links, and their tills.
-use Rattle.std.proofs.Common.{ℤ, append-nil, ◌≡◌, ◌≤◌, ◌<◌, ◌+◌, ◌^◌, ◌++◌, ℕ, zero, suc, List, [], ◌∷◌, refl, sym, ◌∙◌, ap, subst, inl, inr, ◌⊎◌, arith}
+use Rattle.std.proofs.Common.{ℤ, append-nil, ◌≡◌, ◌≤◌, ◌<◌, ◌^◌, ◌++◌, ℕ, zero, suc, List, [], ◌∷◌, refl, sym, ◌∙◌, ap, subst, inl, inr, ◌⊎◌, arith}
+use Rattle.std.proofs.lemmas.Int.{ints}
 use Rattle.std.proofs.Math.Nat.{min-eq_left}
 use Rattle.std.proofs.lemmas.List.{take_all, drop_all}
-use Rattle.std.specs.Prelude.{pos, All, set, map, slice_get, get_or, take, drop, length, IfSome, Option, Some, None}
+use Rattle.std.specs.Prelude.{pos, All, set, map, slice_get, get_or, take, drop, length, Some}
 use Rattle.std.proofs.lemmas.Option.{slice_get_read}
 use Rattle.gw_base.specs.Currency.{currency_number}
-use Rattle.gw_base.specs.Moment.{moment_of}
+use Rattle.gw_base.specs.Moment.{IsMoment, last_moment, moment_of}
 use Rattle.gw_base.specs.Setup.{IsPt}
 use Rattle.gw_base.specs.declared.currency.Currency.{Currency}
 use Rattle.gw_base.specs.declared.currency.Currency.TheVariants.{Eur, Chf, Gbp, Usd, Dkk, Sek, Nok, Pln, Czk}
@@ -15,22 +16,35 @@ use Rattle.zvt_msg.specs.CommandGrammar.{HasCommandDigits}
 use Rattle.zvt_msg.specs.declared.command.Command.{Command}
 use Rattle.jrn_record.specs.declared.records.Record.{Record}
 use Rattle.gw_owes.specs.Core.{Core as CoreValue, new_terminal}
+use Rattle.gw_owes.specs.DeviceRequests.{greatest_device_number}
 use Rattle.gw_owes.specs.Links.{LinkIsLost, LinkIsMade, link_row}
 use Rattle.gw_owes.specs.Row.{Known}
-use Rattle.gw_owes.specs.Terminals.{after_command, asker_of_lost, forgets_till, registration, reply_calls_to, reply_to_lost, with_terminal}
-use Rattle.gw_owes.specs.declared.terminal.Service.TheVariants.{Transaction, EndOfDay, Display}
-use Rattle.gw_owes.specs.declared.terminal.Standing.{Standing}
-use Rattle.gw_owes.specs.declared.terminal.Standing.TheVariants.{Unlinked, Registering, Enquiring, Ready, Serving, Aside}
+use Rattle.gw_owes.specs.Terminals.{after_command, forgets_till, registration, unlinks, with_terminal}
+use Rattle.gw_owes.specs.declared.terminal.Standing.TheVariants.{Registering}
 use Rattle.gw_owes.specs.declared.terminal.Terminal.{Terminal}
 use Rattle.gw_core.specs.declared.act.Act.{Act}
 use Rattle.gw_core.specs.declared.act.Act.TheVariants as act
-use Rattle.gw_core.specs.IsRow.{HaveSettings, IsRow, ServesNoOther, alone}
+use Rattle.gw_core.specs.declared.act.Acts.{Acts}
+use Rattle.gw_core.specs.IsRow.{HaveSettings, IsRow, alone}
 
 -- ---- moments
 
 -- a number of seconds that was taken into the range of moments has the moment that it had
 pub moment-stays : (seconds now : ℤ) → now ≡ pos (moment_of seconds) → moment_of now ≡ moment_of seconds
 moment-stays seconds now is = ap moment_of is ∙ min-eq_left (moment_of_bound seconds)
+
+-- and each moment lies in the range of moments
+pub moment-in-range : (seconds : ℤ) → IsMoment (pos (moment_of seconds))
+moment-in-range seconds = within (moment_of seconds) (moment_of_bound seconds)
+  where
+    within : (moment : ℕ) → moment ≤ last_moment → IsMoment (pos moment)
+    within moment at = (omega (arith, ints), omega (arith, ints))
+
+-- ---- device requests
+
+-- as a run begins the next device request has the number 0
+pub zero-least : 0 ≤ greatest_device_number
+zero-least = omega arith
 
 -- ---- settings
 
@@ -84,18 +98,6 @@ pub found-at : (items : List Terminal) (held : CoreValue) (pt at : ℕ) (termina
 found-at items held pt at terminal held_is within at_is is =
     slice_get_read items (length items) pt terminal refl (subst (λ (all : List Terminal). pt < length all) held_is within) (subst (λ n. terminal ≡ get_or items n terminal) at_is is)
 
--- a terminal that is there serves a payment or a reversal, or nothing, where this is said of it
-pub serves-at : (items : List Terminal) (held : CoreValue) (pt : ℕ) (terminal : Terminal) → held.terminals ≡ items → slice_get items pt ≡ Some terminal
-    → IfSome (slice_get held.terminals pt) (λ (one : Terminal). ServesNoOther one.standing) → ServesNoOther terminal.standing
-serves-at items held pt terminal held_is found serves =
-    subst (λ (o : Option Terminal). IfSome o (λ (one : Terminal). ServesNoOther one.standing)) (ap (λ (all : List Terminal). slice_get all pt) held_is ∙ found) serves
-
--- so does one that takes another's place
-pub new-serves : (items : List Terminal) (pt : ℕ) (new : Terminal) → ServesNoOther new.standing → IfSome (slice_get (set items pt new) pt) (λ (one : Terminal). ServesNoOther one.standing)
-new-serves [] pt new serves = tt
-new-serves (first ∷ rest) zero new serves = serves
-new-serves (first ∷ rest) (suc pt) new serves = new-serves rest pt new serves
-
 -- ---- a link
 
 -- a terminal whose link is made registers, whatever the records
@@ -105,38 +107,10 @@ pub made-row : (known : Known) (kept : List Record) (pt : ℕ) (old new : Termin
 made-row known kept pt old new command wanted found is becomes wants =
     rw (found, wants, becomes, is) (record { core_is = refl; calls_are = refl; items_are = refl })
 
--- a terminal that serves a payment or a reversal, or nothing, and whose link isn't there, owes nothing
-pub lost-row : (known : Known) (kept : List Record) (pt : ℕ) (old : Terminal) → slice_get known.core.terminals pt ≡ Some old → ServesNoOther old.standing
-    → IsRow kept (link_row known pt LinkIsLost) (with_terminal known.core pt (record old { standing = Unlinked (Some (known.moment + 5)); talk = None; awaited = 0 })) (alone None)
-lost-row known kept pt old found serves = rw found (record {
-  core_is = ap (λ asker. with_terminal known.core pt (record old { standing = Unlinked (Some (known.moment + 5)); talk = None; awaited = 0; asker = asker })) (sym (same-asker old.asker old.standing serves));
-  calls_are = no-reply old.asker old.standing serves;
-  items_are = refl;
-})
-  where
-    same-asker : (asker : Option ℕ) (standing : Standing) → ServesNoOther standing → asker_of_lost asker standing ≡ asker
-    same-asker asker (Unlinked due) serves = refl
-    same-asker asker Registering serves = refl
-    same-asker asker Enquiring serves = refl
-    same-asker asker (Ready last) serves = refl
-    same-asker asker (Serving (Transaction slot) last) serves = refl
-    same-asker asker (Serving (EndOfDay header period) last) serves = absurd serves
-    same-asker asker (Serving (Display header outputs) last) serves = absurd serves
-    same-asker asker (Aside before reported) serves = refl
-
-    none-to : (asker : Option ℕ) → reply_calls_to asker None ≡ []
-    none-to None = refl
-    none-to (Some till) = refl
-
-    no-reply : (asker : Option ℕ) (standing : Standing) → ServesNoOther standing → reply_calls_to asker (reply_to_lost standing) ≡ []
-    no-reply asker (Unlinked due) serves = none-to asker
-    no-reply asker Registering serves = none-to asker
-    no-reply asker Enquiring serves = none-to asker
-    no-reply asker (Ready last) serves = none-to asker
-    no-reply asker (Serving (Transaction slot) last) serves = none-to asker
-    no-reply asker (Serving (EndOfDay header period) last) serves = absurd serves
-    no-reply asker (Serving (Display header outputs) last) serves = absurd serves
-    no-reply asker (Aside before reported) serves = none-to asker
+-- one whose link isn't there is unlinked
+pub lost-row : (known : Known) (kept : List Record) (pt : ℕ) (old new : Terminal) (acts : Acts) → slice_get known.core.terminals pt ≡ Some old
+    → IsRow kept (unlinks known pt old) (with_terminal known.core pt new) acts → IsRow kept (link_row known pt LinkIsLost) (with_terminal known.core pt new) acts
+lost-row known kept pt old new acts found row = rw found row
 
 -- ---- a till that is gone
 

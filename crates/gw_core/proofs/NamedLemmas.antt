@@ -5,11 +5,9 @@ use Rattle.std.proofs.lemmas.Option.{same_Some}
 use Rattle.std.proofs.lemmas.Slice.Eq.{bytes_eq-Decides}
 use Rattle.std.specs.Prelude.{slice_get, get_or, drop, length, bytes_eq, if◌then◌else◌, Bool, true, false, IfSome, Option, Some, None}
 use Rattle.std.specs.Option.{option_map}
-use Rattle.gw_base.specs.declared.condition.Condition.TheVariants.{UnavailableService}
 use Rattle.sale_reply.specs.declared.reply.GlobalStatus.{GlobalStatus}
 use Rattle.gw_owes.specs.Core.{Core as CoreValue}
 use Rattle.gw_owes.specs.Diagnosis.{NamedTerminal, named_from, named_terminal, status_of_standing}
-use Rattle.gw_owes.specs.Requests.{unserved_for}
 use Rattle.gw_owes.specs.declared.terminal.Terminal.{Terminal}
 
 -- ---- the search
@@ -47,11 +45,6 @@ none-named (Some one) is = absurd cc
 pub one-named : (named : Option NamedTerminal) (number : ℕ) → Some number ≡ number_of named → (terminal : Terminal) × (named ≡ Some (record { number = number; terminal = terminal }))
 one-named None number is = absurd cc
 one-named (Some one) number is = let e : number ≡ one.number = cc in (one.terminal, ap (λ n. Some (record { number = n; terminal = one.terminal })) (sym e))
-
--- so that the service isn't there yet, whichever terminal it is
-pub one-unserved : (named : Option NamedTerminal) (number : ℕ) → Some number ≡ number_of named → UnavailableService ≡ unserved_for named
-one-unserved None number is = absurd cc
-one-unserved (Some one) number is = refl
 
 -- a terminal that is named is there
 named-from-there : (terminals : List Terminal) (first : ℕ) (poi : List ℕ) (one : NamedTerminal) → named_from first poi terminals ≡ Some one → (k : ℕ) × (one.number ≡ first + k) × (slice_get terminals k ≡ Some one.terminal)

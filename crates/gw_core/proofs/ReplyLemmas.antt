@@ -72,7 +72,8 @@ asked gateway kept core moment till message wanted is = record {
 pub begins-there : (gateway : Gateway) (kept : List Record) (core : CoreValue) (moment : ℕ) (message : List ℕ) (wanted : Given) → IsReplyTo gateway kept core moment message wanted → IsGivenToBegin gateway kept core moment wanted
 begins-there gateway kept core moment message given.Nothing is = tt
 begins-there gateway kept core moment message (given.Reply reply) is = tt
-begins-there gateway kept core moment message (given.Begins pt header request) is = by_read is.as_read is.read (λ known at till. (is.replied known at).begun till)
+begins-there gateway kept core moment message (given.Begins pt header request results) is =
+    (by_read is.as_read is.read (λ known at till. (is.replied known at).begun till), (is.replied alone at_alone).prepared)
   where
     alone : Known
     alone = known_alone gateway kept core moment

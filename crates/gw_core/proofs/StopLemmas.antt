@@ -1,5 +1,5 @@
 -- The stop of what a terminal serves: at which terminal it begins, and what a wish of it leaves and owes.
-use Rattle.std.proofs.Common.{◌≡◌, ℕ, Bool, true, false, ◌&&◌, List, [], ◌∷◌, is_some, not, refl, sym, ◌∙◌, ap, subst}
+use Rattle.std.proofs.Common.{◌≡◌, ℕ, Bool, true, false, ◌&&◌, ◌||◌, List, [], ◌∷◌, is_some, not, refl, sym, ◌∙◌, ap, subst}
 use Rattle.std.specs.Prelude.{slice_get, Option, Some, None, option_map, if◌then◌else◌}
 use Rattle.gw_base.specs.declared.key.Key.{Key}
 use Rattle.jrn_record.specs.declared.records.Outcome.{Outcome}
@@ -13,6 +13,7 @@ use Rattle.sale_values.specs.declared.request.Reference.{Reference}
 use Rattle.sale_values.specs.declared.request.SaleRequest.TheVariants as requests
 use Rattle.xlate.specs.Reply.{result_body_of}
 use Rattle.gw_owes.specs.Core.{Core as CoreValue}
+use Rattle.gw_owes.specs.Days.{named_serves_day, serves_day}
 use Rattle.gw_owes.specs.Diagnosis.{NamedTerminal, named_terminal}
 use Rattle.gw_owes.specs.Items.{Serve}
 use Rattle.gw_owes.specs.KeptReplies.{is_open_found}
@@ -61,7 +62,7 @@ pub stop-not-begun : (known : Known) (till : ℕ) (header : Header) (reference :
 stop-not-begun known till header reference None served = refl
 stop-not-begun known till header reference (Some named) served = ap (λ (test : Bool). if test then Serve named.number till header (requests.Abort reference) ∷ [] else []) served
 
--- a key that is served is open, so that the Abort gets no reply
+-- a key that is served is open, or is that of an end of day, so that the Abort gets no reply
 found-open : (standing : Standing) (found : Option Found) → serves_any standing found ≡ true → is_open_found found ≡ true
 found-open standing None serves = absurd cc
 found-open standing (Some (Entry entry)) serves = by-result entry.result serves
@@ -71,19 +72,44 @@ found-open standing (Some (Entry entry)) serves = by-result entry.result serves
     by-result (Some outcome) serves = absurd cc
 found-open standing (Some (Closed closed)) serves = absurd cc
 
-pub served-open : (kept : List Record) (key : Key) (named : Option NamedTerminal) (pt : ℕ) → IsServedBy kept key named (Some pt) → is_open_found (found_of kept key) ≡ true
+found-or-day : (any is_day : Bool) (standing : Standing) (found : Option Found) → serves_any standing found ≡ any → (any || is_day) ≡ true → (is_open_found found || is_day) ≡ true
+found-or-day true is_day standing found any_is serves = ap (λ (b : Bool). b || is_day) (found-open standing found any_is)
+found-or-day false true standing found any_is serves = or-true (is_open_found found)
+  where
+    or-true : (b : Bool) → (b || true) ≡ true
+    or-true true = refl
+    or-true false = refl
+found-or-day false false standing found any_is serves = absurd cc
+
+pub served-open : (kept : List Record) (key : Key) (named : Option NamedTerminal) (pt : ℕ) → IsServedBy kept key named (Some pt) → (is_open_found (found_of kept key) || named_serves_day key named) ≡ true
 served-open kept key None pt served = absurd served
-served-open kept key (Some named) pt served = found-open named.terminal.standing (found_of kept key) served.1
+served-open kept key (Some named) pt served =
+    found-or-day (serves_any named.terminal.standing (found_of kept key)) (serves_day key named.terminal.standing) named.terminal.standing (found_of kept key) refl served.1
+
+-- where no terminal serves the key, none serves an end of day of it
+no-day : (any is_day : Bool) → (any || is_day) ≡ false → is_day ≡ false
+no-day true is_day none = absurd cc
+no-day false is_day none = none
+
+pub no-day-served : (kept : List Record) (key : Key) (named : Option NamedTerminal) → IsServedBy kept key named None → named_serves_day key named ≡ false
+no-day-served kept key None served = refl
+no-day-served kept key (Some named) served = no-day (serves_any named.terminal.standing (found_of kept key)) (serves_day key named.terminal.standing) served
+
+-- so that the reply to an Abort of it is that of an open key or of another
+pub open-alone : (is_open is_day : Bool) → is_day ≡ false → (is_open || is_day) ≡ is_open
+open-alone true is_day none = refl
+open-alone false is_day none = none
 
 -- so an Abort of a key that a terminal serves is given to that
 pub given-stop : (known : Known) (kept : List Record) (core : CoreValue) (header : Header) (reference : Reference) (key : Key) (pt : ℕ) → known.kept ≡ kept → known.core ≡ core → key ≡ key_of header reference
-    → IsServedBy kept key (named_terminal core key.poi) (Some pt) → IsGivenFor known (Request header (requests.Abort reference)) (given.Begins pt header (requests.Abort reference))
+    → IsServedBy kept key (named_terminal core key.poi) (Some pt) → IsGivenFor known (Request header (requests.Abort reference)) (given.Begins pt header (requests.Abort reference) None)
 given-stop known kept core header reference key pt kept_is core_is key_is served =
     let own : IsServedBy known.kept (key_of header reference) (named_terminal known.core (key_of header reference).poi) (Some pt) =
     served-of known kept core header reference key (Some pt) kept_is core_is key_is served in
     record {
       reply = subst (λ (test : Bool). AreSameReplies None (abort_reply test known header)) (sym (served-open known.kept (key_of header reference) (named_terminal known.core (key_of header reference).poi) pt own)) tt;
       begun = λ till. stop-begun known till header reference (named_terminal known.core (key_of header reference).poi) pt own;
+      prepared = tt;
     }
 
 -- ---- the wish

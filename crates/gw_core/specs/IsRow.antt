@@ -1,26 +1,27 @@
 -- What the core wants done, beside what a row says.
-use Rattle.std.specs.Prelude.{◌≡◌, ℕ, Bool, true, false, IsTrue, List, [], ◌∷◌, ◌++◌, length, slice_get, Option, Some, None}
+use Rattle.std.specs.Prelude.{◌≡◌, ℕ, Bool, true, false, IsTrue, List, [], ◌∷◌, ◌++◌, ◌≤◌, length, slice_get, sum_by, Option, Some, None}
 use Rattle.gw_base.specs.Setup.{IsPt}
 use Rattle.gw_base.specs.declared.setup.Setup.{Setup}
 use Rattle.jrn_record.specs.Limits.{IsRecord}
 use Rattle.jrn_record.specs.declared.records.Record.{Record}
 use Rattle.gw_ledger.specs.Fold.{fits}
-use Rattle.sale_reply.specs.Limits.{IsWithinLimits}
+use Rattle.sale_reply.specs.Limits.{IsHeaderWithinLimits, IsWithinLimits}
 use Rattle.zvt_msg.specs.CommandGrammar.{HasCommandDigits}
-use Rattle.gw_owes.specs.declared.terminal.Service.{Service}
-use Rattle.gw_owes.specs.declared.terminal.Service.TheVariants.{Transaction, EndOfDay, Display}
-use Rattle.gw_owes.specs.declared.terminal.Standing.{Standing}
+use Rattle.zvt_msg.specs.Message.{MessageValue, Line, Block}
+use Rattle.zvt_msg.specs.PrintedLines.{printed_lines}
 use Rattle.gw_owes.specs.declared.terminal.Terminal.{Terminal}
-use Rattle.gw_owes.specs.declared.terminal.Standing.TheVariants.{Unlinked, Registering, Enquiring, Ready, Serving, Aside}
 use Rattle.gw_owes.specs.Calls.{Ask, Acknowledge, Refuse, OwedCall, SendTill, SendPt, CutPt, LinkPt, keep_calls}
 use Rattle.gw_owes.specs.Core.{Core as CoreValue}
 use Rattle.gw_owes.specs.Deadlines.{due_row, late_row}
 use Rattle.gw_owes.specs.Links.{LinkEvent, LinkIsMade, LinkIsLost}
-use Rattle.gw_owes.specs.Reply.{ReplyValue}
+use Rattle.gw_owes.specs.Reply.{ReplyValue, PrintRequest}
 use Rattle.gw_owes.specs.Row.{Known, Row}
+use Rattle.gw_owes.specs.Terminals.{with_terminal}
 use Rattle.gw_core.specs.declared.act.Act.{Act}
 use Rattle.gw_core.specs.declared.act.Act.TheVariants as act
 use Rattle.gw_core.specs.declared.act.Acts.{Acts}
+use Rattle.gw_core.specs.declared.act.Printed.{Printed}
+use Rattle.gw_core.specs.declared.act.Printed.TheVariants as printed
 use Rattle.gw_core.specs.declared.terminals.Timer.{Timer}
 use Rattle.gw_core.specs.declared.terminals.Timer.TheVariants as timers
 use Rattle.gw_core.specs.ReplyOf.{IsSameReply}
@@ -32,6 +33,15 @@ abbrev pub keeping_calls : ℕ → Option Record → List OwedCall
 keeping_calls slot None = []
 keeping_calls slot (Some the_record) = keep_calls slot the_record
 
+-- the message that is printed
+abbrev pub message_printed : Printed → MessageValue
+message_printed (printed.Line text) = Line text.now
+message_printed (printed.Block objects) = Block objects.now
+
+-- the lines that are printed
+abbrev pub lines_printed : Printed → List (List ℕ)
+lines_printed lines = printed_lines (message_printed lines)
+
 -- the calls are these, and then that of the act: a till is sent a reply with the tree of the one that is owed
 abbrev pub AreCallsThen : List OwedCall → Act → List OwedCall → Type 0
 AreCallsThen before (act.SendPt pt command) calls = calls ≡ before ++ SendPt pt (Ask command) ∷ []
@@ -39,6 +49,7 @@ AreCallsThen before (act.Ack pt) calls = calls ≡ before ++ SendPt pt Acknowled
 AreCallsThen before (act.Refuse pt) calls = calls ≡ before ++ SendPt pt Refuse ∷ []
 AreCallsThen before (act.CutPt pt) calls = calls ≡ before ++ CutPt pt ∷ []
 AreCallsThen before (act.Link pt) calls = calls ≡ before ++ LinkPt pt ∷ []
+AreCallsThen before (act.Print till header lines) calls = calls ≡ before ++ SendTill till (PrintRequest header (lines_printed lines)) ∷ []
 AreCallsThen before (act.SendTill till given) calls = (reply : ReplyValue) × IsSameReply given reply × (calls ≡ before ++ SendTill till reply ∷ [])
 
 -- the calls are these, and then that of the act, where there is one
@@ -64,6 +75,10 @@ pub record IsRow (kept : List Record) (row : Row) (core : CoreValue) (acts : Act
   pub calls_are : IsActs (length kept) acts row.calls
   pub items_are : row.items ≡ []
 
+-- Inner: the terminal of this number becomes this one, and the next device request has this number
+abbrev pub with_numbered : CoreValue → ℕ → Terminal → ℕ → CoreValue
+with_numbered core number terminal next = record (with_terminal core number terminal) { device_requests = next }
+
 -- what became of a link: it is made, or it isn't there
 abbrev pub link_event_of : Bool → LinkEvent
 link_event_of true = LinkIsMade
@@ -81,21 +96,6 @@ pt_of_timer (timers.Link pt) = pt
 
 -- ---- what makes it possible
 
--- a payment or a reversal is served
-abbrev pub IsPaymentOrReversal : Service → Type 0
-IsPaymentOrReversal (Transaction slot) = Unit {0}
-IsPaymentOrReversal (EndOfDay header period) = ⊥
-IsPaymentOrReversal (Display header outputs) = ⊥
-
--- the terminal serves a payment or a reversal, or nothing: when its link is lost no reply is owed, and its till stays
-abbrev pub ServesNoOther : Standing → Type 0
-ServesNoOther (Unlinked due) = Unit {0}
-ServesNoOther Registering = Unit {0}
-ServesNoOther Enquiring = Unit {0}
-ServesNoOther (Ready last) = Unit {0}
-ServesNoOther (Serving service last) = IsPaymentOrReversal service
-ServesNoOther (Aside before reported) = Unit {0}
-
 -- the act is about this terminal, or sends a till something
 abbrev pub IsAbout : ℕ → Act → Type 0
 IsAbout number (act.SendPt pt command) = pt ≡ number
@@ -104,8 +104,17 @@ IsAbout number (act.Refuse pt) = pt ≡ number
 IsAbout number (act.CutPt pt) = pt ≡ number
 IsAbout number (act.Link pt) = pt ≡ number
 IsAbout number (act.SendTill till given) = Unit {0}
+IsAbout number (act.Print till header lines) = Unit {0}
 
--- a command or a reply that is to be sent can be written
+-- they are few enough that a device request can print them
+abbrev pub AreFewLines : List (List ℕ) → Type 0
+AreFewLines lines = (length lines ≤ 400) × (sum_by (λ line. length line) lines ≤ 12000)
+
+-- what the message prints can be printed
+abbrev pub HasFewLines : MessageValue → Type 0
+HasFewLines message = AreFewLines (printed_lines message)
+
+-- a command, a reply or a device request that is to be sent can be written
 abbrev pub IsWritable : Act → Type 0
 IsWritable (act.SendPt pt command) = HasCommandDigits command
 IsWritable (act.Ack pt) = Unit {0}
@@ -113,6 +122,7 @@ IsWritable (act.Refuse pt) = Unit {0}
 IsWritable (act.CutPt pt) = Unit {0}
 IsWritable (act.Link pt) = Unit {0}
 IsWritable (act.SendTill till given) = IsWithinLimits given
+IsWritable (act.Print till header lines) = IsHeaderWithinLimits header × AreFewLines (lines_printed lines)
 
 -- what is wanted is wanted of this terminal or of a till, and can be written
 pub record IsWantedAt (pt : ℕ) (wanted : Act) : Type 0 where

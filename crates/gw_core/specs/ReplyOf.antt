@@ -1,14 +1,16 @@
 -- What the code gives to a till's message, beside what is owed: its reply, or a request that begins.
 use Rattle.std.specs.Prelude.{◌≡◌, ◌≤◌, ℕ, true, false, List, [], ◌∷◌, length, Option, Some, None, IfSome, Result, Ok, Err}
 use Rattle.gw_base.specs.declared.condition.Condition.{Condition}
-use Rattle.gw_base.specs.declared.condition.Condition.TheVariants.{Busy}
+use Rattle.gw_base.specs.declared.condition.Condition.TheVariants.{Busy, UnavailableDevice}
 use Rattle.gw_base.specs.declared.key.Key.{Key}
 use Rattle.jrn_record.specs.declared.records.Record.{Record}
 use Rattle.gw_ledger.specs.declared.entry.Found.{Found}
 use Rattle.sale_values.specs.declared.header.Header.{Header}
+use Rattle.sale_values.specs.declared.request.Output.{Output}
 use Rattle.sale_values.specs.declared.request.SaleRequest.{SaleRequest}
 use Rattle.sale_values.specs.declared.request.SaleRequest.TheVariants.{Login, Logout, Payment, Reversal, Abort, Status, Reconciliation, Display, Print, Diagnosis}
 use Rattle.sale_reply.specs.declared.reply.SaleReply.{SaleReply}
+use Rattle.sale_reply.specs.declared.reply.Shown.{Shown}
 use Rattle.sale_reply.specs.Limits.{HasUnlimitedParts, IsWithinLimits}
 use Rattle.sale_reply.specs.Reply.{tree_of}
 use Rattle.gw_owes.specs.Calls.{OwedCall, SendTill}
@@ -17,11 +19,14 @@ use Rattle.gw_owes.specs.ReadAs.{ReadAs, IsReadAs, Request}
 use Rattle.gw_owes.specs.Core.{Core as CoreValue}
 use Rattle.gw_owes.specs.declared.terminal.Terminal.{Terminal}
 use Rattle.gw_owes.specs.Diagnosis.{NamedTerminal}
+use Rattle.gw_owes.specs.Displays.{display_items, display_reply_at}
 use Rattle.gw_owes.specs.Items.{RoundItem, Serve}
 use Rattle.gw_owes.specs.RecordLaws.{IsReadFromTill}
 use Rattle.gw_owes.specs.Row.{Known, Row}
 use Rattle.gw_owes.specs.Rows.{asked_row}
+use Rattle.gw_owes.specs.Replies.{refused_results}
 use Rattle.gw_owes.specs.Requests.{reply_to, begun_by}
+use Rattle.gw_owes.specs.SessionRows.{session_items, session_reply}
 use Rattle.gw_owes.specs.Steps.{StepResult, Fails, Begins, first_result, service_items, service_reply, steps}
 use Rattle.gw_owes.specs.Stops.{serves_key}
 use Rattle.gw_core.specs.declared.gateway.Gateway.{Gateway}
@@ -55,18 +60,38 @@ pub record IsKnownAt (gateway : Gateway) (kept : List Record) (core : CoreValue)
 abbrev pub reply_given : Given → Option SaleReply
 reply_given given.Nothing = None
 reply_given (given.Reply reply) = Some reply
-reply_given (given.Begins pt header request) = None
+reply_given (given.Begins pt header request results) = None
 
 -- what a round handles next for what is given to this till: where a request begins, its terminal begins to serve it
 abbrev pub items_given : ℕ → Given → List RoundItem
 items_given till given.Nothing = []
 items_given till (given.Reply reply) = []
-items_given till (given.Begins pt header request) = Serve pt till header request ∷ []
+items_given till (given.Begins pt header request results) = Serve pt till header request ∷ []
+
+-- the results of a Display are prepared: no output is shown yet
+abbrev pub ArePrepared : SaleRequest → Option (List Shown) → Type 0
+ArePrepared Login results = Unit {0}
+ArePrepared Logout results = Unit {0}
+ArePrepared (Payment ask) results = Unit {0}
+ArePrepared (Reversal ask) results = Unit {0}
+ArePrepared (Abort reference) results = Unit {0}
+ArePrepared (Status reference) results = Unit {0}
+ArePrepared (Reconciliation period) results = Unit {0}
+ArePrepared (Display outputs) results = results ≡ refused_results UnavailableDevice outputs
+ArePrepared (Print qualifier) results = Unit {0}
+ArePrepared Diagnosis results = Unit {0}
+
+-- so they are of what begins
+abbrev pub IsGivenPrepared : Given → Type 0
+IsGivenPrepared given.Nothing = Unit {0}
+IsGivenPrepared (given.Reply reply) = Unit {0}
+IsGivenPrepared (given.Begins pt header request results) = ArePrepared request results
 
 -- what is given is the reply to what was read, or else what that begins
 pub record IsGivenFor (known : Known) (as_read : ReadAs) (wanted : Given) : Type 0 where
   pub reply : AreSameReplies (reply_given wanted) (reply_to known as_read)
   pub begun : (till : ℕ) → begun_by known till as_read ≡ items_given till wanted
+  pub prepared : IsGivenPrepared wanted
 
 -- so it is whatever else is in the setup of such a gateway
 abbrev pub IsGivenToRead : Gateway → List Record → CoreValue → ℕ → ReadAs → Given → Type 0
@@ -104,11 +129,11 @@ pub record BeginsAt (gateway : Gateway) (kept : List Record) (core : CoreValue) 
   pub read : IsReadFromTill (Request header request)
   pub begins : (known : Known) → IsKnownAt gateway kept core moment known → (till : ℕ) → begun_by known till (Request header request) ≡ Serve pt till header request ∷ []
 
--- where it is given that a request begins, it does
+-- where it is given that a request begins, it does, and its results are prepared
 abbrev pub IsGivenToBegin : Gateway → List Record → CoreValue → ℕ → Given → Type 0
 IsGivenToBegin gateway kept core moment given.Nothing = Unit {0}
 IsGivenToBegin gateway kept core moment (given.Reply reply) = Unit {0}
-IsGivenToBegin gateway kept core moment (given.Begins pt header request) = BeginsAt gateway kept core moment pt header request
+IsGivenToBegin gateway kept core moment (given.Begins pt header request results) = BeginsAt gateway kept core moment pt header request × ArePrepared request results
 
 -- ---- inner
 
@@ -126,7 +151,7 @@ abbrev pub IsBegunOrRefused : Option NamedTerminal → StepResult → Result ℕ
 IsBegunOrRefused named result (Ok pt) = ((terminal : Terminal) × (named ≡ Some (record { number = pt; terminal = terminal }))) × (result ≡ Begins)
 IsBegunOrRefused named result (Err condition) = result ≡ Fails condition
 
--- Inner: the terminal of this number is the one that is named, and serves the payment or the reversal of this key; or none that is named does
+-- Inner: the terminal of this number is the one that is named, and serves the payment, the reversal or the end of day of this key; or none that is named does
 abbrev pub IsServedBy : List Record → Key → Option NamedTerminal → Option ℕ → Type 0
 IsServedBy kept key None None = Unit {0}
 IsServedBy kept key None (Some pt) = ⊥
@@ -137,6 +162,19 @@ IsServedBy kept key (Some named) (Some pt) = (named.number ≡ pt) × (serves_ke
 pub record IsGivenByService (known : Known) (header : Header) (request : SaleRequest) (named : Option NamedTerminal) (wanted : Given) : Type 0 where
   pub reply : AreSameReplies (reply_given wanted) (service_reply known header request named)
   pub begun : (till : ℕ) → service_items known till header request named ≡ items_given till wanted
+  pub prepared : IsGivenPrepared wanted
+
+-- Inner: what is given is the reply to a Login or a Logout, or else what that begins
+pub record IsGivenToSession (known : Known) (header : Header) (request : SaleRequest) (named : Option NamedTerminal) (wanted : Given) : Type 0 where
+  pub reply : AreSameReplies (reply_given wanted) (session_reply known header request named)
+  pub begun : (till : ℕ) → session_items known till header request named ≡ items_given till wanted
+  pub prepared : IsGivenPrepared wanted
+
+-- Inner: what is given is the reply to a Display, or else what that begins
+pub record IsGivenToDisplay (header : Header) (outputs : List Output) (named : Option NamedTerminal) (wanted : Given) : Type 0 where
+  pub reply : AreSameReplies (reply_given wanted) (display_reply_at header outputs named)
+  pub begun : (till : ℕ) → display_items till header outputs named ≡ items_given till wanted
+  pub prepared : IsGivenPrepared wanted
 
 -- Inner: a Display has at most 16 outputs
 abbrev pub HasFewOutputs : SaleRequest → Type 0

@@ -1,6 +1,6 @@
-//! A request begins at its terminal: the Intent of a payment or a reversal is kept, and then the terminal is asked; at an Abort it is to stop
-//! what it serves.
-ghost use Rattle.std.specs.Prelude.{◌≡◌, ◌<◌, ◌^◌, true, IfSome, Some, slice_get};
+//! A request begins at its terminal: the Intent of a payment or a reversal is kept, and then the terminal is asked; a reconciliation of
+//! the till's own is settled, and an end of day and a display are asked of the terminal; at an Abort it is to stop what it serves.
+ghost use Rattle.std.specs.Prelude.{◌≡◌, true, IfSome, Some, slice_get};
 ghost use Rattle.std.specs.Option.{option_copied};
 ghost use Rattle.gw_base.specs.Moment.{IsMoment, moment_of};
 ghost use Rattle.gw_base.specs.Setup.{IsPt};
@@ -13,10 +13,13 @@ ghost use Rattle.gw_owes.specs.Payments.{beginning_row, begins_in, payment_inten
 ghost use Rattle.gw_owes.specs.Steps.{is_ready_standing};
 ghost use Rattle.gw_owes.specs.Terminals.{with_terminal};
 ghost use Rattle.gw_core.specs.Beginning.{MayBegin, MayPay, MayReverse, begun_row};
-ghost use Rattle.gw_core.specs.IsRow.{IsRow, IsWantedAt, MayBeKept, ServesNoOther, known_with};
+ghost use Rattle.gw_core.specs.IsRow.{IsRow, IsWantedAt, MayBeKept, known_with};
+ghost use Rattle.gw_core.specs.ReplyOf.{ArePrepared};
 
 use crate::act::Acts;
+use crate::displays::begin_display;
 use crate::handling::ask;
+use crate::reconciliations::begin_reconciliation;
 use crate::reversals::{original_of, reversal_intent};
 use crate::stops::wish_stop;
 use gw_base::Currency;
@@ -24,10 +27,11 @@ use gw_ledger::{Entry, Ledger, law_named, law_within};
 use gw_owes::{Service, Standing, Terminal};
 use jrn_record::{Deal, Intent, Record};
 use sale_msg::{Header, PaymentAsk, ReversalAsk, SaleRequest};
+use sale_reply::OutputResults;
 use xlate::{command_of, law_commands};
 
 /// The last trace number of a terminal that is ready.
-fn last_number(standing: &Standing) -> u32
+pub(crate) fn last_number(standing: &Standing) -> u32
     requires { is_ready_standing standing.now ≡ true }
     ensures { standing.now ≡ Standing.Ready result }
 {
@@ -78,9 +82,8 @@ fn begin_asking(
     intent: Intent,
     original: Option<&Entry>,
     now: i64,
-) -> Acts
+) -> Acts<'static>
     requires moment { IsMoment now }
-    requires few { terminal.old.awaited < 2 ^ 31 }
     requires settings { IsPt terminal.old.pt }
     requires kept { MayBeKept ledger.now.records (Record.Intent intent) }
     requires original { HasItsOriginal intent.what intent.original (option_copied original) }
@@ -90,7 +93,6 @@ fn begin_asking(
     ensures kept { IfSome result.keep (MayBeKept ledger.now.records) }
     ensures wanted { IfSome result.act (IsWantedAt pt) }
     ensures settings { terminal.new.pt ≡ terminal.old.pt }
-    ensures others { ServesNoOther terminal.new.standing }
 {
     law_commands();
     let command = command_of(&intent, original, &terminal.pt);
@@ -121,9 +123,8 @@ fn begin_payment(
     header: &Header,
     payment: &PaymentAsk,
     now: i64,
-) -> Acts
+) -> Acts<'static>
     requires moment { IsMoment now }
-    requires few { terminal.old.awaited < 2 ^ 31 }
     requires settings { IsPt terminal.old.pt }
     requires begins { MayPay ledger.now.records (moment_of now) header.now payment.now terminal.old }
     ensures row { (setup : Setup) (core : CoreValue)
@@ -131,7 +132,6 @@ fn begin_payment(
     ensures kept { IfSome result.keep (MayBeKept ledger.now.records) }
     ensures wanted { IfSome result.act (IsWantedAt pt) }
     ensures settings { terminal.new.pt ≡ terminal.old.pt }
-    ensures others { ServesNoOther terminal.new.standing }
 {
     let last = last_number(&terminal.standing);
     let intent = payment_intent(header, payment, terminal.pt.currency, last, now);
@@ -147,9 +147,8 @@ fn begin_reversal(
     header: &Header,
     reversal: &ReversalAsk,
     now: i64,
-) -> Acts
+) -> Acts<'static>
     requires moment { IsMoment now }
-    requires few { terminal.old.awaited < 2 ^ 31 }
     requires settings { IsPt terminal.old.pt }
     requires begins { MayReverse ledger.now.records (moment_of now) header.now reversal.now terminal.old }
     ensures row { (setup : Setup) (core : CoreValue)
@@ -157,7 +156,6 @@ fn begin_reversal(
     ensures kept { IfSome result.keep (MayBeKept ledger.now.records) }
     ensures wanted { IfSome result.act (IsWantedAt pt) }
     ensures settings { terminal.new.pt ≡ terminal.old.pt }
-    ensures others { ServesNoOther terminal.new.standing }
 {
     ledger.law_folded();
     law_named();
@@ -180,19 +178,18 @@ pub(crate) fn begin_request(
     till: u64,
     header: &Header,
     request: &SaleRequest,
+    results: Option<OutputResults>,
     now: i64,
-) -> Acts
+) -> Acts<'static>
     requires moment { IsMoment now }
-    requires few { terminal.old.awaited < 2 ^ 31 }
     requires settings { IsPt terminal.old.pt }
-    requires others { ServesNoOther terminal.old.standing }
+    requires prepared { ArePrepared request.now results }
     requires begins { MayBegin ledger.now.records (moment_of now) header.now request.now terminal.old }
     ensures row { (setup : Setup) (core : CoreValue) → slice_get core.terminals pt ≡ Some terminal.old
         → IsRow ledger.now.records (begun_row (known_with setup ledger.now.records core (moment_of now)) pt till header.now terminal.old request.now) (with_terminal core pt terminal.new) result }
     ensures kept { IfSome result.keep (MayBeKept ledger.now.records) }
     ensures wanted { IfSome result.act (IsWantedAt pt) }
     ensures settings { terminal.new.pt ≡ terminal.old.pt }
-    ensures others { ServesNoOther terminal.new.standing }
 {
     match request {
         SaleRequest::Payment(payment) => {
@@ -200,6 +197,12 @@ pub(crate) fn begin_request(
         }
         SaleRequest::Reversal(reversal) => {
             begin_reversal(terminal, ledger, pt, till, header, reversal, now)
+        }
+        SaleRequest::Reconciliation(period) => {
+            begin_reconciliation(terminal, ledger, pt, till, header, *period, now)
+        }
+        SaleRequest::Display(outputs) => {
+            begin_display(terminal, pt, till, header, outputs, results, now)
         }
         SaleRequest::Abort(_) => Acts {
             keep: None,

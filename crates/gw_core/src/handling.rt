@@ -1,5 +1,5 @@
 //! What a message of a terminal means in each of its standings, and what follows from it.
-ghost use Rattle.std.specs.Prelude.{◌≡◌, ◌≢◌, ◌<◌, ◌^◌, pos, true, List, IfSome, IsTrue, Some, option_map, slice_get};
+ghost use Rattle.std.specs.Prelude.{◌≡◌, ◌≢◌, ◌≤◌, pos, true, List, IfSome, IsTrue, Some, option_map, slice_get};
 ghost use Rattle.gw_base.specs.Moment.{IsMoment, moment_of};
 ghost use Rattle.gw_base.specs.Setup.{IsPt};
 ghost use Rattle.gw_base.specs.declared.setup.Setup.{Setup};
@@ -13,16 +13,21 @@ ghost use Rattle.gw_owes.specs.Row.{owing_where};
 ghost use Rattle.gw_owes.specs.declared.terminal.Standing.{Standing};
 ghost use Rattle.gw_owes.specs.Core.{Core as CoreValue};
 ghost use Rattle.gw_owes.specs.Terminals.{after_command, with_terminal};
+ghost use Rattle.gw_owes.specs.DeviceRequests.{greatest_device_number};
 ghost use Rattle.gw_owes.specs.Dialogues.{HasItsDialogue};
 ghost use Rattle.gw_owes.specs.Links.{is_linked};
 ghost use Rattle.gw_owes.specs.Handling.{awaited_after, consequence, enquiring, enquiry_command, handle_message, meaning_at, meaning_for, registering, taken_as, taking};
 ghost use Rattle.gw_owes.specs.HeardLaws.{FitsRecord};
 ghost use Rattle.gw_owes.specs.RecordLaws.{AreRecordsOf, IsTalkRead, IsTerminalInOrder};
-ghost use Rattle.gw_core.specs.IsRow.{IsRow, IsWantedAt, MayBeKept, ServesNoOther, alone, known_with};
+ghost use Rattle.gw_core.specs.IsRow.{HasFewLines, IsRow, IsWantedAt, MayBeKept, alone, known_with, with_numbered};
 
 use crate::act::{Act, Acts};
+use crate::awaited::{one_less, one_more};
+use crate::device_requests::{device_request, next_device_number};
+use crate::displays::serving_display;
+use crate::reconciliations::serving_day;
 use crate::reports::report;
-use crate::serving::{serving_other, serving_transaction};
+use crate::serving::serving_transaction;
 use gw_base::Pt;
 use gw_ledger::Ledger;
 use gw_owes::{Service, Standing, Terminal, law_meanings};
@@ -51,7 +56,7 @@ fn awaited_after(awaited: u32, message: &PtMessage<'_>) -> u32
     ensures { result ≡ awaited_after (value_of message.now) awaited }
 {
     match message {
-        PtMessage::Ack | PtMessage::Nack(_) => awaited.saturating_sub(1),
+        PtMessage::Ack | PtMessage::Nack(_) => one_less(awaited),
         _ => awaited,
     }
 }
@@ -99,9 +104,8 @@ pub(crate) fn ask(
     command: Command,
     standing: Standing,
     now: i64,
-) -> Act
+) -> Act<'static>
     requires moment { IsMoment now }
-    requires few { terminal.old.awaited < 2 ^ 31 }
     requires not_stop { command ≢ Command.Stop }
     ensures asked { terminal.new ≡ after_command terminal.old command standing (moment_of now) }
     ensures act { result ≡ Act.SendPt pt command }
@@ -114,21 +118,19 @@ pub(crate) fn ask(
         terminal.pt.command,
         now,
     ));
-    terminal.awaited += 1;
+    terminal.awaited = one_more(terminal.awaited);
     terminal.standing = standing;
     Act::SendPt(pt, command)
 }
 
 /// What follows in a registration.
-fn registering(terminal: &mut Terminal, pt: u16, heard: Heard, now: i64) -> Option<Act>
+fn registering(terminal: &mut Terminal, pt: u16, heard: Heard, now: i64) -> Option<Act<'static>>
     requires moment { IsMoment now }
-    requires few { terminal.old.awaited < 2 ^ 31 }
     requires settings { IsPt terminal.old.pt }
     ensures row { (setup : Setup) (kept : List Record) (core : CoreValue)
         → IsRow kept (registering (known_with setup kept core (moment_of now)) pt terminal.old heard) (with_terminal core pt terminal.new) (alone result) }
     ensures wanted { IfSome result (IsWantedAt pt) }
     ensures settings { terminal.new.pt ≡ terminal.old.pt }
-    ensures others { ServesNoOther terminal.old.standing → ServesNoOther terminal.new.standing }
 {
     match heard {
         Heard::Done => {
@@ -149,7 +151,13 @@ fn registering(terminal: &mut Terminal, pt: u16, heard: Heard, now: i64) -> Opti
 }
 
 /// What follows in an enquiry.
-fn enquiring(terminal: &mut Terminal, ledger: &Ledger, pt: u16, heard: Heard, now: i64) -> Acts
+fn enquiring(
+    terminal: &mut Terminal,
+    ledger: &Ledger,
+    pt: u16,
+    heard: Heard,
+    now: i64,
+) -> Acts<'static>
     requires moment { IsMoment now }
     requires numbers { FitsRecord heard }
     ensures row { (setup : Setup) (core : CoreValue)
@@ -157,7 +165,6 @@ fn enquiring(terminal: &mut Terminal, ledger: &Ledger, pt: u16, heard: Heard, no
     ensures kept { IfSome result.keep (MayBeKept ledger.now.records) }
     ensures wanted { IfSome result.act (IsWantedAt pt) }
     ensures settings { terminal.new.pt ≡ terminal.old.pt }
-    ensures others { ServesNoOther terminal.old.standing → ServesNoOther terminal.new.standing }
 {
     match heard {
         Heard::Told {
@@ -178,12 +185,16 @@ fn enquiring(terminal: &mut Terminal, ledger: &Ledger, pt: u16, heard: Heard, no
 }
 
 /// What follows from a message that a terminal which is linked has taken.
-fn follow(terminal: &mut Terminal, ledger: &Ledger, pt: u16, heard: Heard, now: i64) -> Acts
+fn follow(
+    terminal: &mut Terminal,
+    ledger: &Ledger,
+    pt: u16,
+    heard: Heard,
+    now: i64,
+) -> Acts<'static>
     requires moment { IsMoment now }
-    requires few { terminal.old.awaited < 2 ^ 31 }
     requires linked { is_linked terminal.old.standing ≡ true }
     requires settings { IsPt terminal.old.pt }
-    requires others { ServesNoOther terminal.old.standing }
     requires records { AreRecordsOf ledger.now.records terminal.old.pt.poi terminal.old.standing }
     requires numbers { FitsRecord heard }
     ensures row { (setup : Setup) (core : CoreValue)
@@ -191,7 +202,6 @@ fn follow(terminal: &mut Terminal, ledger: &Ledger, pt: u16, heard: Heard, now: 
     ensures kept { IfSome result.keep (MayBeKept ledger.now.records) }
     ensures wanted { IfSome result.act (IsWantedAt pt) }
     ensures settings { terminal.new.pt ≡ terminal.old.pt }
-    ensures others { ServesNoOther terminal.new.standing }
 {
     match terminal.standing {
         Standing::Registering => Acts {
@@ -203,9 +213,16 @@ fn follow(terminal: &mut Terminal, ledger: &Ledger, pt: u16, heard: Heard, now: 
             service: Service::Transaction { slot },
             last,
         } => serving_transaction(terminal, ledger, pt, slot, last, heard, now),
-        Standing::Serving { .. } => Acts {
+        Standing::Serving {
+            service: Service::EndOfDay { header, .. },
+            last,
+        } => serving_day(terminal, ledger, pt, header, last, heard, now),
+        Standing::Serving {
+            service: Service::Display { header, .. },
+            last,
+        } => Acts {
             keep: None,
-            act: serving_other(terminal, pt, heard),
+            act: serving_display(terminal, pt, header, last, heard),
         },
         Standing::Unlinked { .. } | Standing::Ready { .. } | Standing::Aside { .. } => Acts::none(),
     }
@@ -218,25 +235,28 @@ fn is_taken(message: &PtMessage<'_>) -> bool
     !matches!(message, PtMessage::Other)
 }
 
-/// A terminal handles a message that was acknowledged or refused, where it is linked.
-pub(crate) fn handle(
+/// A terminal handles a message that was acknowledged or refused, where it is linked. The next device request has this number.
+pub(crate) fn handle<'a>(
     terminal: &mut Terminal,
+    number: &mut u64,
     ledger: &Ledger,
     pt: u16,
-    message: &PtMessage<'_>,
+    message: &PtMessage<'a>,
     now: i64,
-) -> Acts
+) -> Acts<'a>
     requires moment { IsMoment now }
     requires dialogue { HasItsDialogue terminal.old }
     requires order { IsTerminalInOrder ledger.now.records terminal.old }
     requires settings { IsPt terminal.old.pt }
-    ensures row { (setup : Setup) (core : CoreValue) → slice_get core.terminals pt ≡ Some terminal.old
+    requires number { number.old ≤ greatest_device_number }
+    requires printed { HasFewLines (value_of message.now) }
+    ensures row { (setup : Setup) (core : CoreValue) → slice_get core.terminals pt ≡ Some terminal.old → core.device_requests ≡ number.old
         → IsRow ledger.now.records (owing_where (is_linked terminal.old.standing) (known_with setup ledger.now.records core (moment_of now))
-        (handle_message (known_with setup ledger.now.records core (moment_of now)) pt terminal.old (value_of message.now))) (with_terminal core pt terminal.new) result }
+        (handle_message (known_with setup ledger.now.records core (moment_of now)) pt terminal.old (value_of message.now))) (with_numbered core pt terminal.new number.new) result }
+    ensures number { number.new ≤ greatest_device_number }
     ensures kept { IfSome result.keep (MayBeKept ledger.now.records) }
     ensures wanted { IfSome result.act (IsWantedAt pt) }
     ensures settings { terminal.new.pt ≡ terminal.old.pt }
-    ensures others { ServesNoOther terminal.new.standing }
 {
     if !is_linked(&terminal.standing) {
         return Acts::none();
@@ -244,7 +264,21 @@ pub(crate) fn handle(
     if !is_taken(message) {
         return Acts::none();
     }
-    ledger.law_few();
     let heard = take(terminal, message, now);
+    let request = device_request(
+        terminal.asker,
+        &terminal.standing,
+        ledger,
+        *number,
+        heard,
+        message,
+    );
+    if let Some(act) = request {
+        *number = next_device_number(*number);
+        return Acts {
+            keep: None,
+            act: Some(act),
+        };
+    }
     follow(terminal, ledger, pt, heard, now)
 }

@@ -1,10 +1,11 @@
 //! What the records have under a key: the kept reply, or a request that is still open.
-ghost use Rattle.std.specs.Prelude.{◌≡◌, IfSome, Some};
+ghost use Rattle.std.specs.Prelude.{◌≡◌, IfSome, None, Some};
 ghost use Rattle.sale_reply.specs.Limits.{IsHeaderWithinLimits};
 ghost use Rattle.gw_ledger.specs.Fold.{found_of};
 ghost use Rattle.gw_ledger.specs.Laws.{IsFoundWithin};
 ghost use Rattle.xlate.specs.Reply.{result_body_of};
-ghost use Rattle.gw_owes.specs.KeptReplies.{found_by_status, found_for, is_finished, is_open_key, kept_reply, repeated_reply, status_reply};
+ghost use Rattle.gw_owes.specs.Replies.{failure_reply};
+ghost use Rattle.gw_owes.specs.KeptReplies.{found_by_status, found_for, is_finished, is_open_key, kept_reply, own_key, repeated_reply, status_reply_at};
 ghost use Rattle.gw_core.specs.ReplyOf.{AreSameReplies, IsSameReply};
 
 use crate::refusal::{refused, reply_header};
@@ -24,21 +25,28 @@ pub(crate) fn find(ledger: &Ledger, key: &Key) -> Option<Found>
     ledger.find(key)
 }
 
-/// What the records have under the key of a request; one without a ServiceID has none.
+/// The key of a request with this header; one without a ServiceID has none.
+pub(crate) fn own_key(header: &Header) -> Option<Key>
+    ensures { result ≡ own_key header.now }
+{
+    match header.service {
+        None => None,
+        Some(service) => Some(Key {
+            sale: header.sale,
+            poi: header.poi,
+            service,
+        }),
+    }
+}
+
+/// What the records have under the key of a request.
 pub(crate) fn found_for(ledger: &Ledger, header: &Header) -> Option<Found>
     ensures found { result ≡ found_for ledger.now.records header.now }
     ensures within { IfSome result IsFoundWithin }
 {
-    match header.service {
+    match own_key(header) {
         None => None,
-        Some(service) => find(
-            ledger,
-            &Key {
-                sale: header.sale,
-                poi: header.poi,
-                service,
-            },
-        ),
+        Some(key) => find(ledger, &key),
     }
 }
 
@@ -94,7 +102,7 @@ pub(crate) fn kept_reply(found: &Found) -> Option<SaleReply<'static>>
 }
 
 /// A header's texts lie within their limits.
-fn law_header(header: &Header)
+pub(crate) fn law_header(header: &Header)
     ensures { IsHeaderWithinLimits header.now }
 {
     // The proof takes the limits of an identifier from these calls.
@@ -130,13 +138,28 @@ fn repeated_reply(header: &Header, found: &Found) -> SaleReply<'static>
     }
 }
 
-/// The reply to a TransactionStatus, by what was found.
-pub(crate) fn status_reply(header: &Header, found: &Option<Found>) -> SaleReply<'static>
+/// Why there is nothing to repeat where nothing was found: the end of day of the key may be served.
+fn missing(day_served: bool) -> Condition
+    ensures { (header : Header) → status_reply_at header None day_served ≡ failure_reply header result }
+{
+    if day_served {
+        Condition::InProgress
+    } else {
+        Condition::NotFound
+    }
+}
+
+/// The reply to a TransactionStatus, by what was found, and whether the end of day of its key is served.
+pub(crate) fn status_reply(
+    header: &Header,
+    found: &Option<Found>,
+    day_served: bool,
+) -> SaleReply<'static>
     requires { IfSome found.now IsFoundWithin }
-    ensures { IsSameReply result (status_reply header.now found.now) }
+    ensures { IsSameReply result (status_reply_at header.now found.now day_served) }
 {
     match found {
-        None => refused(header, Condition::NotFound),
+        None => refused(header, missing(day_served)),
         Some(found) => repeated_reply(header, found),
     }
 }

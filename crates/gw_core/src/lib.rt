@@ -2,21 +2,28 @@
 #![tactic(auto)]
 
 mod act;
+mod awaited;
 mod beginning;
 mod content;
+mod days;
+mod device_requests;
+mod displays;
 mod gateway;
 mod handling;
 mod kept_replies;
+mod links;
+mod reconciliations;
 mod refusal;
 mod reports;
 mod reversals;
 mod serving;
+mod sessions;
 mod steps;
 mod stops;
 mod terminals;
 mod till;
 
-pub use act::{Act, Acts};
+pub use act::{Act, Acts, Printed};
 pub use gateway::Gateway;
 pub use terminals::{Core, Timer};
 pub use till::Given;

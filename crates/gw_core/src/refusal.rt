@@ -3,7 +3,7 @@ ghost use Rattle.std.specs.Prelude.{◌≡◌, ◌≤◌, [], ◌∷◌, length,
 ghost use Rattle.gw_base.specs.Moment.{moment_of};
 ghost use Rattle.gw_owes.specs.Reply.{Display as DisplayValue, Print as PrintValue, Reject};
 ghost use Rattle.gw_core.specs.ReplyOf.{IsSameReply, AreSameReplies};
-ghost use Rattle.gw_owes.specs.Replies.{has_device_class, header_of_reply, failure, format_failure, failure_reply, is_response_required, output_refused, display_refusal, reply_to_malformed, reject_event, malformed_output};
+ghost use Rattle.gw_owes.specs.Replies.{has_device_class, header_of_reply, failure, success, format_failure, failure_reply, is_response_required, output_refused, display_refusal, display_reply, refused_results, reply_to_malformed, reject_event, malformed_output};
 
 use gw_base::{Condition, Ident, to_moment};
 use sale_reply::{Detail, OutputResults, SaleReply, Shown, Verdict};
@@ -43,6 +43,16 @@ pub(crate) fn refusal(condition: Condition) -> Verdict
 {
     Verdict {
         condition: Some(condition),
+        path: None,
+    }
+}
+
+/// A Success.
+pub(crate) fn success() -> Verdict
+    ensures { result ≡ success }
+{
+    Verdict {
+        condition: None,
         path: None,
     }
 }
@@ -128,6 +138,38 @@ fn refused_outputs(
     Ok(shown)
 }
 
+/// The results of a Display in which no output is shown, for this reason; `None` where no output asks for a response.
+pub(crate) fn refused_results(
+    alloc: Global,
+    condition: Condition,
+    outputs: &[Output],
+) -> Result<Option<OutputResults>, AllocError>
+    requires { length outputs.now ≤ 16 }
+    ensures { IfOk result (λ results. results ≡ refused_results condition outputs.now) }
+{
+    if !asks_response(outputs) {
+        return Ok(None);
+    }
+    let results = refused_outputs(alloc, condition, outputs)?;
+    Ok(Some(OutputResults::new(results)))
+}
+
+/// The reply to a Display with these results, where there are any.
+pub(crate) fn display_reply(
+    header: &Header,
+    results: Option<OutputResults>,
+) -> Option<SaleReply<'static>>
+    ensures { AreSameReplies result (display_reply header.now results) }
+{
+    match results {
+        None => None,
+        Some(outputs) => Some(SaleReply::Display {
+            header: reply_header(header),
+            outputs,
+        }),
+    }
+}
+
 /// The reply to a Display that is refused, where an output asks for a response.
 pub(crate) fn refused_display(
     alloc: Global,
@@ -138,13 +180,8 @@ pub(crate) fn refused_display(
     requires { length outputs.now ≤ 16 }
     ensures { IfOk result (λ given. AreSameReplies given (display_refusal condition header.now outputs.now)) }
 {
-    if !asks_response(outputs) {
-        return Ok(None);
-    }
-    Ok(Some(SaleReply::Display {
-        header: reply_header(header),
-        outputs: OutputResults::new(refused_outputs(alloc, condition, outputs)?),
-    }))
+    let results = refused_results(alloc, condition, outputs)?;
+    Ok(display_reply(header, results))
 }
 
 /// The reply to a Print.

@@ -9,7 +9,7 @@ ghost use Rattle.gw_owes.specs.Core.{Core as CoreValue};
 ghost use Rattle.gw_owes.specs.HeardLaws.{IsReportFit};
 ghost use Rattle.gw_owes.specs.Reports.{on_record, outcome_as_last, outcome_reported, report_of_open, report_row, standing_reported};
 ghost use Rattle.gw_owes.specs.Terminals.{with_terminal};
-ghost use Rattle.gw_core.specs.IsRow.{IsRow, IsWantedAt, MayBeKept, ServesNoOther, known_with};
+ghost use Rattle.gw_core.specs.IsRow.{IsRow, IsWantedAt, MayBeKept, known_with};
 
 use crate::act::Acts;
 use crate::serving::{approved_outcome, declined_outcome, refused_outcome, resolve, rest};
@@ -77,7 +77,7 @@ fn report_of_open(
     approved: Option<Figures>,
     result_code: u8,
     now: i64,
-) -> Acts
+) -> Acts<'static>
     requires moment { IsMoment now }
     requires fit { IsReportFit trace approved }
     requires opened { open_entry ledger.now.records terminal.old.pt.poi ≡ Some entry.now }
@@ -87,7 +87,6 @@ fn report_of_open(
     ensures kept { IfSome result.keep (MayBeKept ledger.now.records) }
     ensures wanted { (pt : ℕ) → IfSome result.act (IsWantedAt pt) }
     ensures settings { terminal.new.pt ≡ terminal.old.pt }
-    ensures others { ServesNoOther terminal.new.standing }
 {
     ledger.law_folded();
     law_fits();
@@ -109,7 +108,7 @@ pub(crate) fn report(
     approved: Option<Figures>,
     result_code: u8,
     now: i64,
-) -> Acts
+) -> Acts<'static>
     requires moment { IsMoment now }
     requires fit { IsReportFit trace approved }
     ensures row { (setup : Setup) (core : CoreValue) (pt : ℕ)
@@ -118,7 +117,6 @@ pub(crate) fn report(
     ensures kept { IfSome result.keep (MayBeKept ledger.now.records) }
     ensures wanted { (pt : ℕ) → IfSome result.act (IsWantedAt pt) }
     ensures settings { terminal.new.pt ≡ terminal.old.pt }
-    ensures others { ServesNoOther terminal.new.standing }
 {
     match ledger.open_at(&terminal.pt.poi) {
         Some(entry) => report_of_open(terminal, ledger, &entry, trace, approved, result_code, now),

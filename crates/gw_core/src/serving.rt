@@ -1,23 +1,26 @@
 //! What a message means for a payment or a reversal that a terminal serves: its end is kept, and then its till gets the reply.
-ghost use Rattle.std.specs.Prelude.{◌≡◌, ◌<◌, ◌≤◌, ◌^◌, ◌++◌, ℕ, List, IfSome, IsTrue};
+ghost use Rattle.std.specs.Prelude.{◌≡◌, ◌≤◌, ◌++◌, ℕ, List, Option, IfSome, IsTrue};
 ghost use Rattle.gw_base.specs.Moment.{IsMoment, moment_of};
 ghost use Rattle.gw_base.specs.declared.setup.Setup.{Setup};
 ghost use Rattle.jrn_record.specs.Limits.{IsOutcome, reason_code};
-ghost use Rattle.sale_reply.specs.Limits.{IsWithinLimits};
+ghost use Rattle.sale_reply.specs.Limits.{HasUnlimitedParts, IsWithinLimits};
+ghost use Rattle.sale_reply.specs.declared.reply.SaleReply.{SaleReply as TheReply};
 ghost use Rattle.jrn_record.specs.declared.records.Record.{Record as TheRecord};
 ghost use Rattle.gw_ledger.specs.Fold.{fits};
 ghost use Rattle.zvt_talk.specs.Limits.{FiguresFitRecord};
-ghost use Rattle.gw_owes.specs.Calls.{keep_calls};
+ghost use Rattle.gw_owes.specs.Calls.{OwedCall, keep_calls};
 ghost use Rattle.gw_owes.specs.Core.{Core as CoreValue};
-ghost use Rattle.gw_owes.specs.Handling.{serving_other};
 ghost use Rattle.gw_owes.specs.HeardLaws.{FitsRecord};
 ghost use Rattle.gw_owes.specs.RecordLaws.{IsServedOpen};
-ghost use Rattle.gw_owes.specs.Serving.{approved_outcome, approved_row, at_rest, declined_outcome, declined_row, last_after_decline, refused_outcome, reply_to_outcome, resolves, serving_transaction, stops, was_stopped};
+ghost use Rattle.gw_owes.specs.Reply.{ReplyValue};
+ghost use Rattle.gw_owes.specs.Serving.{approved_outcome, approved_row, at_rest, declined_outcome, declined_row, done_with, last_after_decline, refused_outcome, reply_to_outcome, resolves, serving_transaction, stops, was_stopped};
 ghost use Rattle.gw_owes.specs.Terminals.{reply_calls_to, with_terminal};
-ghost use Rattle.gw_core.specs.IsRow.{AreCallsWith, IsRow, IsWantedAt, MayBeKept, ServesNoOther, alone, known_with};
+ghost use Rattle.gw_core.specs.IsRow.{AreCallsWith, IsRow, IsWantedAt, MayBeKept, alone, known_with};
 ghost use Rattle.gw_core.specs.ReplyOf.{AreSameReplies};
 
 use crate::act::{Act, Acts};
+use crate::awaited::one_more;
+use crate::till::lies_within;
 use gw_base::{Condition, Figures};
 use gw_ledger::{Entry, Found, Ledger, law_fits, law_within};
 use gw_owes::{Standing, Terminal};
@@ -33,6 +36,29 @@ pub(crate) fn rest(terminal: &mut Terminal, standing: Standing)
 {
     terminal.standing = standing;
     terminal.talk = None;
+}
+
+/// The dialogue is over, and no till waits for its end any more: the terminal has this standing.
+pub(crate) fn done(terminal: &mut Terminal, standing: Standing)
+    ensures { terminal.new ≡ done_with terminal.old standing }
+{
+    rest(terminal, standing);
+    terminal.asker = None;
+}
+
+/// The till is sent the reply, where there are both.
+pub(crate) fn send_to(asker: Option<u64>, reply: Option<SaleReply<'static>>) -> Option<Act<'static>>
+    requires { IfSome reply (λ (given : TheReply). HasUnlimitedParts given → IsWithinLimits given) }
+    ensures calls { (before : List OwedCall) (owed : Option ReplyValue) → AreSameReplies reply.entry owed → AreCallsWith before result (before ++ reply_calls_to asker owed) }
+    ensures wanted { (pt : ℕ) → IfSome result (IsWantedAt pt) }
+{
+    match (asker, reply) {
+        (Some(till), Some(reply)) => {
+            lies_within(&reply);
+            Some(Act::SendTill(till, reply))
+        }
+        _ => None,
+    }
 }
 
 /// An approval with these figures.
@@ -54,7 +80,7 @@ pub(crate) fn approved_outcome(slot: u32, figures: Figures, now: i64) -> Outcome
 }
 
 /// Whether `06 B0` was sent in the dialogue.
-fn was_stopped(talk: &Option<Talk>) -> bool
+pub(crate) fn was_stopped(talk: &Option<Talk>) -> bool
     ensures { result ≡ was_stopped talk.now }
 {
     match talk {
@@ -109,7 +135,7 @@ fn reply_to_outcome(ledger: &Ledger, outcome: &Outcome) -> Option<SaleReply<'sta
 }
 
 /// The till is sent the reply to the Outcome, where it is there.
-fn reply_to_asker(asker: Option<u64>, ledger: &Ledger, outcome: &Outcome) -> Option<Act>
+fn reply_to_asker(asker: Option<u64>, ledger: &Ledger, outcome: &Outcome) -> Option<Act<'static>>
     requires { IsOutcome outcome.now }
     ensures calls { (slot : ℕ) → AreCallsWith (keep_calls slot (Record.Outcome outcome.now)) result
         (keep_calls slot (Record.Outcome outcome.now) ++ reply_calls_to asker (reply_to_outcome ledger.now.records outcome.now.slot outcome.now)) }
@@ -130,7 +156,7 @@ pub(crate) fn resolve(
     ledger: &Ledger,
     standing: Standing,
     outcome: Outcome,
-) -> Acts
+) -> Acts<'static>
     requires within { IsOutcome outcome }
     requires fitting { IsTrue (fits ledger.now.records (Record.Outcome outcome)) }
     ensures row { (setup : Setup) (core : CoreValue) (moment pt : ℕ)
@@ -141,8 +167,7 @@ pub(crate) fn resolve(
     ensures standing { terminal.new.standing ≡ standing }
 {
     let act = reply_to_asker(terminal.asker, ledger, &outcome);
-    rest(terminal, standing);
-    terminal.asker = None;
+    done(terminal, standing);
     Acts {
         keep: Some(Record::Outcome(outcome)),
         act,
@@ -157,7 +182,7 @@ fn approved(
     last: u32,
     figures: Figures,
     now: i64,
-) -> Acts
+) -> Acts<'static>
     requires moment { IsMoment now }
     requires figures { FiguresFitRecord figures }
     requires open { IsServedOpen ledger.now.records terminal.old.pt.poi last slot }
@@ -166,7 +191,6 @@ fn approved(
     ensures kept { IfSome result.keep (MayBeKept ledger.now.records) }
     ensures wanted { (pt : ℕ) → IfSome result.act (IsWantedAt pt) }
     ensures settings { terminal.new.pt ≡ terminal.old.pt }
-    ensures others { ServesNoOther terminal.new.standing }
 {
     ledger.law_folded();
     law_fits();
@@ -206,7 +230,7 @@ fn declined(
     result_code: u8,
     reported: Option<u32>,
     now: i64,
-) -> Acts
+) -> Acts<'static>
     requires moment { IsMoment now }
     requires open { IsServedOpen ledger.now.records terminal.old.pt.poi last slot }
     ensures row { (setup : Setup) (core : CoreValue) (pt : ℕ)
@@ -214,7 +238,6 @@ fn declined(
     ensures kept { IfSome result.keep (MayBeKept ledger.now.records) }
     ensures wanted { (pt : ℕ) → IfSome result.act (IsWantedAt pt) }
     ensures settings { terminal.new.pt ≡ terminal.old.pt }
-    ensures others { ServesNoOther terminal.new.standing }
 {
     ledger.law_folded();
     law_fits();
@@ -226,15 +249,14 @@ fn declined(
 }
 
 /// A stop that was wished is sent, and the dialogue goes on.
-pub(crate) fn stop(terminal: &mut Terminal, pt: u16) -> Option<Act>
-    requires few { terminal.old.awaited < 2 ^ 31 }
+pub(crate) fn stop(terminal: &mut Terminal, pt: u16) -> Option<Act<'static>>
     ensures row { (setup : Setup) (kept : List TheRecord) (core : CoreValue) (moment : ℕ)
         → IsRow kept (stops (known_with setup kept core moment) pt terminal.old) (with_terminal core pt terminal.new) (alone result) }
     ensures wanted { IfSome result (IsWantedAt pt) }
     ensures settings { terminal.new.pt ≡ terminal.old.pt }
     ensures standing { terminal.new.standing ≡ terminal.old.standing }
 {
-    terminal.awaited += 1;
+    terminal.awaited = one_more(terminal.awaited);
     Some(Act::SendPt(pt, Command::Stop))
 }
 
@@ -247,10 +269,8 @@ pub(crate) fn serving_transaction(
     last: u32,
     heard: Heard,
     now: i64,
-) -> Acts
+) -> Acts<'static>
     requires moment { IsMoment now }
-    requires few { terminal.old.awaited < 2 ^ 31 }
-    requires others { ServesNoOther terminal.old.standing }
     requires open { IsServedOpen ledger.now.records terminal.old.pt.poi last slot }
     requires numbers { FitsRecord heard }
     ensures row { (setup : Setup) (core : CoreValue)
@@ -258,7 +278,6 @@ pub(crate) fn serving_transaction(
     ensures kept { IfSome result.keep (MayBeKept ledger.now.records) }
     ensures wanted { IfSome result.act (IsWantedAt pt) }
     ensures settings { terminal.new.pt ≡ terminal.old.pt }
-    ensures others { ServesNoOther terminal.new.standing }
 {
     match heard {
         Heard::Approved(figures) => approved(terminal, ledger, slot, last, figures, now),
@@ -278,30 +297,5 @@ pub(crate) fn serving_transaction(
         | Heard::Done
         | Heard::Told { .. }
         | Heard::Stray => Acts::none(),
-    }
-}
-
-/// What follows in an end of day or a display, of which none is begun yet.
-pub(crate) fn serving_other(terminal: &mut Terminal, pt: u16, heard: Heard) -> Option<Act>
-    requires few { terminal.old.awaited < 2 ^ 31 }
-    ensures row { (setup : Setup) (kept : List TheRecord) (core : CoreValue) (moment : ℕ)
-        → IsRow kept (serving_other (known_with setup kept core moment) pt terminal.old heard) (with_terminal core pt terminal.new) (alone result) }
-    ensures wanted { IfSome result (IsWantedAt pt) }
-    ensures settings { terminal.new.pt ≡ terminal.old.pt }
-    ensures standing { terminal.new.standing ≡ terminal.old.standing }
-{
-    match heard {
-        Heard::Begun { stop: true } => stop(terminal, pt),
-        Heard::Unclear => Some(Act::CutPt(pt)),
-        Heard::Begun { stop: false }
-        | Heard::Note(_)
-        | Heard::Line
-        | Heard::Block
-        | Heard::Seen
-        | Heard::Approved(_)
-        | Heard::Done
-        | Heard::Told { .. }
-        | Heard::Declined { .. }
-        | Heard::Stray => None,
     }
 }

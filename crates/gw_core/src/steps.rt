@@ -1,13 +1,14 @@
 //! The steps of a Payment, a Reversal and a Reconciliation: the first that applies replies.
-ghost use Rattle.std.specs.Prelude.{◌≡◌, ℕ, false, None, Option};
+ghost use Rattle.std.specs.Prelude.{◌≡◌, ◌&&◌, ℕ, None, Option};
 ghost use Rattle.gw_ledger.specs.Laws.{IsFoundWithin};
 ghost use Rattle.gw_owes.specs.Diagnosis.{NamedTerminal, named_terminal};
 ghost use Rattle.gw_owes.specs.KeptReplies.{found_for};
 ghost use Rattle.gw_owes.specs.Row.{Known};
-ghost use Rattle.gw_owes.specs.Steps.{asks_other_currency, is_last_of, is_out_of_service, is_ready_standing, is_unserved, is_used_up, lacks_room, reply_of_result};
+ghost use Rattle.gw_owes.specs.Steps.{asks_other_currency, asks_settling, asks_transaction, is_last_of, is_out_of_service, is_ready_standing, is_sale_period, is_unserved, is_unserved_period, is_used_up, lacks_room, reply_of_result};
 ghost use Rattle.gw_core.specs.ReplyOf.{AreSameReplies, IsBegunOrRefused, IsGivenByService, refused_or_begun, result_by};
 
 use crate::content::{has_same_content, is_normal};
+use crate::days::{is_day_again, is_day_key};
 use crate::gateway::Gateway;
 use crate::kept_replies::{found_for, kept_reply};
 use crate::refusal::refused;
@@ -18,21 +19,32 @@ use gw_base::{Condition, Ident};
 use gw_bytes::GREATEST_TRACE;
 use gw_ledger::{Found, Ledger};
 use gw_owes::{Standing, Terminal, law_on_record};
-use sale_msg::{Header, SaleRequest};
+use sale_msg::{Header, Period, SaleRequest};
 use sale_reply::SaleReply;
 
-/// Whether the service isn't there: a payment whose type isn't `Normal`, and each request that is neither a payment nor a reversal.
+/// Whether this reconciliation type isn't served.
+fn is_unserved_period(period: Period) -> bool
+    ensures { result ≡ is_unserved_period period }
+{
+    match period {
+        Period::SaleReconciliation | Period::AcquirerReconciliation => false,
+        Period::AcquirerSynchronisation | Period::PreviousReconciliation => true,
+    }
+}
+
+/// Whether the service isn't there: a payment whose type isn't `Normal`, a reconciliation of a type that isn't served, and each
+/// request that is none of payment, reversal and reconciliation.
 fn is_unserved(request: &SaleRequest) -> bool
     ensures { result ≡ is_unserved request.now }
 {
     match request {
         SaleRequest::Payment(ask) => !is_normal(&ask.kind),
         SaleRequest::Reversal(_) => false,
+        SaleRequest::Reconciliation(period) => is_unserved_period(*period),
         SaleRequest::Login
         | SaleRequest::Logout
         | SaleRequest::Abort(_)
         | SaleRequest::Status(_)
-        | SaleRequest::Reconciliation(_)
         | SaleRequest::Display(_)
         | SaleRequest::Print(_)
         | SaleRequest::Diagnosis => true,
@@ -77,15 +89,76 @@ fn is_used_up(ledger: &Ledger, poi: &Ident<40>, terminal: &Terminal) -> bool
     ledger.last_number(poi) == GREATEST_TRACE || is_last_of(GREATEST_TRACE, &terminal.standing)
 }
 
-/// Whether fewer slots are free than two for the Intent and its Outcome, and one for each key that is open.
-fn lacks_room(slots: u32, ledger: &Ledger) -> bool
-    ensures { result ≡ lacks_room slots ledger.now.records }
+/// Whether it is a payment or a reversal.
+fn asks_transaction(request: &SaleRequest) -> bool
+    ensures { result ≡ asks_transaction request.now }
 {
-    u64::from(slots) < u64::from(ledger.records()) + (u64::from(ledger.open_count()) + 2)
+    match request {
+        SaleRequest::Payment(_) | SaleRequest::Reversal(_) => true,
+        SaleRequest::Login
+        | SaleRequest::Logout
+        | SaleRequest::Abort(_)
+        | SaleRequest::Status(_)
+        | SaleRequest::Reconciliation(_)
+        | SaleRequest::Display(_)
+        | SaleRequest::Print(_)
+        | SaleRequest::Diagnosis => false,
+    }
+}
+
+/// Whether it is to have a trace number of its own, and none is left.
+fn lacks_number(
+    ledger: &Ledger,
+    poi: &Ident<40>,
+    request: &SaleRequest,
+    terminal: &Terminal,
+) -> bool
+    ensures { (number : ℕ) → result ≡ (asks_transaction request.now && is_used_up ledger.now.records poi.now (Some (record { number = number; terminal = terminal.now }))) }
+{
+    asks_transaction(request) && is_used_up(ledger, poi, terminal)
+}
+
+/// Whether fewer slots are free than two for the Intent and its Outcome, one for each key that is open, and one for each end of
+/// day that is served.
+fn lacks_room(slots: u32, ledger: &Ledger, core: &Core) -> bool
+    ensures { result ≡ lacks_room slots ledger.now.records core.now.terminals }
+{
+    let owed = u64::from(ledger.open_count()) + (u64::from(core.days_served()) + 2);
+    u64::from(slots) < u64::from(ledger.records()) + owed
+}
+
+/// Whether the reconciliation is one of the till's own.
+fn is_sale_period(period: Period) -> bool
+    ensures { result ≡ is_sale_period period }
+{
+    match period {
+        Period::SaleReconciliation => true,
+        Period::AcquirerSynchronisation
+        | Period::AcquirerReconciliation
+        | Period::PreviousReconciliation => false,
+    }
+}
+
+/// Whether it is a reconciliation of the till's own, which asks nothing of the terminal.
+fn asks_settling(request: &SaleRequest) -> bool
+    ensures { result ≡ asks_settling request.now }
+{
+    match request {
+        SaleRequest::Reconciliation(period) => is_sale_period(*period),
+        SaleRequest::Login
+        | SaleRequest::Logout
+        | SaleRequest::Payment(_)
+        | SaleRequest::Reversal(_)
+        | SaleRequest::Abort(_)
+        | SaleRequest::Status(_)
+        | SaleRequest::Display(_)
+        | SaleRequest::Print(_)
+        | SaleRequest::Diagnosis => false,
+    }
 }
 
 /// Whether a terminal of this standing takes no request.
-fn is_out_of_service(standing: &Standing) -> bool
+pub(crate) fn is_out_of_service(standing: &Standing) -> bool
     ensures { result ≡ is_out_of_service standing.now }
 {
     match standing {
@@ -98,7 +171,7 @@ fn is_out_of_service(standing: &Standing) -> bool
 }
 
 /// Whether a terminal of this standing is ready.
-fn is_ready(standing: &Standing) -> bool
+pub(crate) fn is_ready(standing: &Standing) -> bool
     ensures { result ≡ is_ready_standing standing.now }
 {
     match standing {
@@ -113,15 +186,25 @@ fn is_ready(standing: &Standing) -> bool
 
 /// Why a request is refused whose key is new, at the terminal that its POIID names; `None` where it begins.
 fn refused_at(
+    core: &Core,
     gateway: &Gateway,
     ledger: &Ledger,
     header: &Header,
     request: &SaleRequest,
     terminal: &Terminal,
 ) -> Option<Condition>
-    ensures { (known : Known) → known.kept ≡ ledger.now.records → known.setup.slots ≡ gateway.now.slots → (number : ℕ)
+    ensures { (known : Known) → known.core ≡ core.now → known.kept ≡ ledger.now.records → known.setup.slots ≡ gateway.now.slots → (number : ℕ)
         → result_by known header.now request.now None (Some (record { number = number; terminal = terminal.now })) ≡ refused_or_begun result }
 {
+    if is_day_again(header, request, terminal) {
+        return Some(Condition::InProgress);
+    }
+    if is_day_key(header, terminal) {
+        return Some(Condition::NotAllowed);
+    }
+    if core.is_logged_out(header) {
+        return Some(Condition::LoggedOut);
+    }
     if is_unserved(request) {
         return Some(Condition::UnavailableService);
     }
@@ -134,11 +217,14 @@ fn refused_at(
     if names_irreversible(ledger, &header.poi, request) {
         return Some(Condition::NotAllowed);
     }
-    if is_used_up(ledger, &header.poi, terminal) {
+    if lacks_number(ledger, &header.poi, request, terminal) {
         return Some(Condition::UnavailableService);
     }
-    if lacks_room(gateway.slots, ledger) {
+    if lacks_room(gateway.slots, ledger, core) {
         return Some(Condition::UnavailableService);
+    }
+    if asks_settling(request) {
+        return None;
     }
     if is_out_of_service(&terminal.standing) {
         return Some(Condition::UnavailableDevice);
@@ -158,12 +244,12 @@ fn begun_or_refused(
     header: &Header,
     request: &SaleRequest,
 ) -> Result<u16, Condition>
-    ensures { (known : Known) → known.kept ≡ ledger.now.records → known.setup.slots ≡ gateway.now.slots
+    ensures { (known : Known) → known.core ≡ core.now → known.kept ≡ ledger.now.records → known.setup.slots ≡ gateway.now.slots
         → IsBegunOrRefused (named_terminal core.now header.now.poi) (result_by known header.now request.now None (named_terminal core.now header.now.poi)) result }
 {
     match core.named(&header.poi) {
         None => Err(Condition::UnavailableDevice),
-        Some(pt) => match refused_at(gateway, ledger, header, request, core.terminal(pt)) {
+        Some(pt) => match refused_at(core, gateway, ledger, header, request, core.terminal(pt)) {
             None => Ok(pt),
             Some(condition) => Err(condition),
         },
@@ -198,7 +284,7 @@ pub(crate) fn service(
     header: Header,
     request: SaleRequest,
 ) -> Given
-    ensures { (known : Known) → known.kept ≡ ledger.now.records → known.setup.slots ≡ gateway.now.slots
+    ensures { (known : Known) → known.core ≡ core.now → known.kept ≡ ledger.now.records → known.setup.slots ≡ gateway.now.slots
         → IsGivenByService known header request (named_terminal core.now header.poi) result }
 {
     law_on_record();
@@ -210,6 +296,7 @@ pub(crate) fn service(
             pt,
             header,
             request,
+            results: None,
         },
         Err(condition) => Given::Reply(refused(&header, condition)),
     }

@@ -10,16 +10,17 @@ ghost use Rattle.gw_owes.specs.KeptReplies.{is_open_key};
 ghost use Rattle.gw_owes.specs.Row.{Known};
 ghost use Rattle.gw_owes.specs.Diagnosis.{diagnosis_reply, named_terminal};
 ghost use Rattle.gw_owes.specs.Replies.{reply_to_fault as reply_owed_to_fault, reject_event};
-ghost use Rattle.gw_owes.specs.Requests.{abort_reply, unserved_for};
+ghost use Rattle.gw_owes.specs.Requests.{abort_reply};
 ghost use Rattle.gw_owes.specs.ReadAs.{Request};
-ghost use Rattle.gw_core.specs.ReplyOf.{IsSameReply, AreSameReplies, IsAskedRow, IsGivenFor, IsGivenToBegin, IsKnownAt, IsReplyTo, HasFewOutputs, IsGivenWithinLimits, items_given, reply_given};
+ghost use Rattle.gw_core.specs.ReplyOf.{IsSameReply, AreSameReplies, IsAskedRow, IsGivenFor, IsGivenToBegin, IsKnownAt, IsReplyTo, HasFewOutputs, IsGivenPrepared, IsGivenWithinLimits, items_given, reply_given};
 
+use crate::displays::display;
 use crate::gateway::Gateway;
 use crate::kept_replies::{found_by_status, is_open_key, status_reply};
 use crate::refusal::{
-    malformed_body, printed, refusal, refused, refused_display, reject, reject_without_header,
-    reply_header,
+    malformed_body, printed, refusal, refused, reject, reject_without_header, reply_header,
 };
+use crate::sessions::session;
 use crate::steps::service;
 use crate::stops::serving_terminal;
 use crate::terminals::Core;
@@ -27,7 +28,7 @@ use gw_base::{Condition, Ident};
 use gw_ledger::Ledger;
 use json_text::{Json, JsonFault, ReadError};
 use sale_msg::{Header, Incoming, MessageError, Reference, SaleFault, SaleRequest, read_message};
-use sale_reply::{Detail, SaleReply, is_within_limits};
+use sale_reply::{Detail, OutputResults, SaleReply, is_within_limits};
 use std::alloc::{AllocError, Global};
 
 /// What a message of a till wants done.
@@ -37,32 +38,25 @@ pub enum Given {
     Nothing,
     /// The till is sent this.
     Reply(SaleReply<'static>),
-    /// The terminal of this number begins to serve this request, or is to stop what it serves; there is no reply yet.
+    /// The request begins at the terminal of this number; there is no reply yet. The results are those that a Display's till gets, in
+    /// which no output is shown yet; `None` where it asks for none, and of another request.
     Begins {
         pt: u16,
         header: Header,
         request: SaleRequest,
+        results: Option<OutputResults>,
     },
 }
 
 /// The reply is given, where there is one.
-fn replied(reply: Option<SaleReply<'static>>) -> Given
+pub(crate) fn replied(reply: Option<SaleReply<'static>>) -> Given
     ensures reply { reply_given result ≡ reply.entry }
     ensures none { (till : ℕ) → items_given till result ≡ [] }
+    ensures prepared { IsGivenPrepared result }
 {
     match reply {
         None => Given::Nothing,
         Some(reply) => Given::Reply(reply),
-    }
-}
-
-/// Why a service of the terminal that a request names is refused: its POIID isn't configured, or else the service isn't there yet.
-fn unserved_for(core: &Core, header: &Header) -> Condition
-    ensures { result ≡ unserved_for (named_terminal core.now header.now.poi) }
-{
-    match core.named(&header.poi) {
-        None => Condition::UnavailableDevice,
-        Some(_) => Condition::UnavailableService,
     }
 }
 
@@ -79,7 +73,7 @@ fn diagnosed(core: &Core, header: &Header) -> SaleReply<'static>
     }
 }
 
-/// The reply to an Abort: one of a key that is open gets none, and another is rejected.
+/// The reply to an Abort, where no terminal serves the key that it names: one of a key that is open gets none, and another is rejected.
 fn abort_reply(
     ledger: &Ledger,
     now: i64,
@@ -109,6 +103,7 @@ fn given_to_abort(
             pt,
             header,
             request: SaleRequest::Abort(reference),
+            results: None,
         },
         None => replied(abort_reply(ledger, now, &header, &reference)),
     }
@@ -133,19 +128,13 @@ fn asked(
         }
         SaleRequest::Status(reference) => {
             let found = found_by_status(ledger, &header, &reference);
-            Ok(Given::Reply(status_reply(&header, &found)))
+            let day_served = core.asks_day_served(&header, &reference);
+            Ok(Given::Reply(status_reply(&header, &found, day_served)))
         }
         SaleRequest::Abort(reference) => Ok(given_to_abort(core, ledger, now, header, reference)),
         SaleRequest::Diagnosis => Ok(Given::Reply(diagnosed(core, &header))),
-        SaleRequest::Login | SaleRequest::Logout => {
-            Ok(Given::Reply(refused(&header, unserved_for(core, &header))))
-        }
-        // A reply of class Device has a body of its own, also where it refuses.
-        SaleRequest::Display(outputs) => {
-            let condition = unserved_for(core, &header);
-            let reply = refused_display(alloc, condition, &header, outputs.as_slice())?;
-            Ok(replied(reply))
-        }
+        SaleRequest::Login | SaleRequest::Logout => Ok(session(core, header, request)),
+        SaleRequest::Display(outputs) => display(alloc, core, header, outputs),
         SaleRequest::Print(qualifier) => {
             let verdict = refusal(Condition::UnavailableDevice);
             Ok(Given::Reply(printed(&header, &qualifier, verdict)))
@@ -251,7 +240,7 @@ impl Core {
 }
 
 /// A message lies within the limits where its types limit its parts, or else as it was shown to.
-fn lies_within(reply: &SaleReply<'_>)
+pub(crate) fn lies_within(reply: &SaleReply<'_>)
     requires { HasUnlimitedParts reply.now → IsWithinLimits reply.now }
     ensures { IsWithinLimits reply.now }
 {

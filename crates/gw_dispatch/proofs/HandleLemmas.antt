@@ -1,176 +1,53 @@
 -- A terminal's message that was acknowledged or refused: what it has to be kept is kept, and then its call is made.
-use Rattle.std.proofs.Common.{◌≡◌, ◌⊎◌, ◌≤◌, ◌+◌, ℕ, List, [], ◌∷◌, ◌++◌, length, refl, sym, ◌∙◌, ap, subst, arith, append-nil, length-append, inl, inr}
-use Rattle.std.specs.Option.{option_map}
-use Rattle.std.specs.Prelude.{ℤ, pos, Bool, true, false, slice_get, Option, Some, None, Result, Ok, Err, IfSome, map, option_to_list}
+use Rattle.std.proofs.Common.{◌≡◌, ◌≤◌, ◌+◌, ℕ, List, [], ◌∷◌, ◌++◌, length, refl, sym, ◌∙◌, ap, subst, arith, append-nil, length-append}
+use Rattle.std.specs.Prelude.{ℤ, pos, Bool, true, false, Option, Some, None, Result, Ok, Err, IfSome, option_to_list}
 use Rattle.std.proofs.lemmas.Int.{ints}
-use Rattle.std.proofs.lemmas.List.{length-map}
-use Rattle.std.proofs.lemmas.Option.{slice_get-map}
 use Rattle.gw_base.specs.Moment.{IsMoment, last_moment, moment_of}
 use Rattle.gw_base.specs.declared.setup.Setup.{Setup}
 use Rattle.gw_base.proofs.MomentLemmas.{moment_of_bound}
 use Rattle.gw_site.specs.Observed.{Observed}
-use Rattle.gw_site.specs.Outside.{Outside, outside_after}
-use Rattle.gw_site.specs.declared.turn.Turn.TheVariants.{SentTill, CutTill as TillCut}
-use Rattle.jrn_record.specs.declared.records.Outcome.{Outcome as TheOutcome}
 use Rattle.jrn_record.specs.declared.records.Record.{Record}
-use Rattle.jrn_record.specs.declared.records.Record.TheVariants.{Outcome}
-use Rattle.sale_reply.specs.Reply.{tree_of}
-use Rattle.sale_reply.specs.declared.reply.SaleReply.{SaleReply}
 use Rattle.zvt_apdu.specs.Grammar.{ApduValue}
 use Rattle.zvt_msg.specs.declared.fault.PtFault.{PtFault}
 use Rattle.zvt_msg.specs.Message.{MessageValue}
 use Rattle.zvt_msg.specs.MessageDecode.{decode_pt_message}
 use Rattle.gw_ledger.specs.Fold.{AreFolded}
-use Rattle.gw_ledger.specs.Sums.{open_count_of}
 use Rattle.gw_owes.specs.Calls.{OwedCall, Ask, Acknowledge, Refuse, SendTill, SendPt, CutPt, LinkPt, records_kept}
 use Rattle.gw_owes.specs.Core.{Core}
+use Rattle.gw_owes.specs.Days.{days_served}
+use Rattle.gw_owes.specs.DeviceRequests.{greatest_device_number}
 use Rattle.gw_owes.specs.Dialogues.{AllHaveDialogues, OthersHaveDialogues}
 use Rattle.gw_owes.specs.Events.{apdu_items}
 use Rattle.gw_owes.specs.Handling.{handle_decoded, handle_row, handled_row}
 use Rattle.gw_owes.specs.Items.{RoundItem, Greet, Handle, NextWaiting}
-use Rattle.gw_owes.specs.PaymentLaws.{EachRecordIsOfAnEnd}
-use Rattle.gw_owes.specs.RecordLaws.{AreTerminalsInOrder, AreOthersInOrder, EachCutKeepsInOrder, EachRowKeepsInOrder, IsInOrder}
-use Rattle.gw_owes.specs.Reply.{ReplyValue, reply_value_bytes, reply_value_tree}
-use Rattle.gw_owes.specs.Reports.{outcome_reported}
+use Rattle.gw_owes.specs.RecordLaws.{AreOthersInOrder, AreTerminalsInOrder, EachCutKeepsInOrder, EachMessageTakesItsMemory, EachRowKeepsInOrder, HasRoom, IsInOrder, IsNumbered, memory_taken}
+use Rattle.gw_owes.specs.Reply.{PrintRequest}
 use Rattle.gw_owes.specs.Row.{Row, becoming}
 use Rattle.gw_owes.specs.TerminalLaws.{ChangesTerminalAlone, owes_cut, settings_of}
-use Rattle.gw_owes.specs.Terminals.{core_without, forgets_till}
-use Rattle.gw_owes.specs.declared.terminal.Terminal.{Terminal}
 use Rattle.gw_owes.proofs.DialogueLemmas.{rows-keep}
 use Rattle.gw_owes.proofs.HandlingLemmas.{handle-alone}
 use Rattle.jrn_log.specs.Journal.{JournalValue, StandsFor}
-use Rattle.gw_rules.specs.Scene.{Scene}
 use Rattle.gw_rules.specs.Stage.{Broken}
-use Rattle.gw_rules.specs.Triple.{Triple, Owing}
-use Rattle.gw_rules.specs.View.{View, called, at_first}
-use Rattle.gw_rules.proofs.TripleLemmas.{triple-after, triple-before, triple-frame, triple-refl, triple-some, triple-then}
-use Rattle.gw_core.specs.IsRow.{AreCallsWith, IsRow, MayBeKept, keeping_calls, known_with}
+use Rattle.gw_rules.specs.Triple.{Triple}
+use Rattle.gw_rules.specs.View.{View}
+use Rattle.gw_rules.proofs.TripleLemmas.{triple-then}
+use Rattle.gw_core.specs.IsRow.{AreCallsWith, IsRow, MayBeKept, keeping_calls, known_with, lines_printed}
 use Rattle.gw_core.specs.declared.act.Act.{Act}
 use Rattle.gw_core.specs.declared.act.Act.TheVariants as act
 use Rattle.gw_core.specs.declared.act.Acts.{Acts}
 use Rattle.gw_core.specs.declared.gateway.Gateway.{Gateway}
 use Rattle.gw_dispatch.specs.Growth.{GoesOnBesideDisk}
-use Rattle.gw_dispatch.specs.RunState.{HasSlotsFor, HasSpareFor, IsOrderly, IsWell, KeepsWithLedger, StandFor, StaysInOrder, UnlessBroken}
-use Rattle.gw_dispatch.specs.MidRound.{AreHeard, AreLinked, HeldRound, MidRound, is_linked_in}
-use Rattle.gw_dispatch.specs.Round.{Delivered, HoldsTills, IsIn, known_at}
-use Rattle.gw_dispatch.specs.Tills.{others}
-use Rattle.gw_dispatch.specs.Wanted.{calls_wanted, is_reply, owes_link, sends_reply}
+use Rattle.gw_dispatch.specs.RunState.{HasSlotsFor, IsOrderly, IsWell, KeepsWithLedger, StandFor, UnlessBroken}
+use Rattle.gw_dispatch.specs.MidRound.{AreHeard, HeldRound, MidRound}
+use Rattle.gw_dispatch.specs.Wanted.{calls_wanted, owes_link}
 use Rattle.gw_dispatch.specs.declared.run_state.RunState.{RunState}
 use Rattle.gw_dispatch.specs.declared.records.Records.{Records}
-use Rattle.gw_dispatch.specs.declared.replier.Served.{Served}
-use Rattle.gw_dispatch.specs.declared.replier.Served.TheVariants.{More, Gone}
 use Rattle.gw_dispatch.specs.declared.tills.Till.{Till}
-use Rattle.gw_dispatch.proofs.EngineLemmas.{cut-in, sent-in}
-use Rattle.gw_dispatch.proofs.RunStateLemmas.{forgets-dialogues, forgets-order, stays-same}
 use Rattle.gw_dispatch.proofs.LinkLemmas.{KeepsLinks, LinksStay, handled-keeps}
-use Rattle.gw_dispatch.proofs.PerformLemmas.{Handles, Performs, none-waits, unhandled}
+use Rattle.gw_dispatch.proofs.PerformLemmas.{Handles, MakesCall, none-waits, rest-link, unhandled}
 use Rattle.gw_dispatch.proofs.StepLemmas.{begin-held}
-use Rattle.gw_dispatch.proofs.TillLemmas.{below-without, others-held}
-
--- ---- a till is sent a reply
-
--- what sends a till a reply, and cuts it where that fails
-abbrev pub Sends : Observed → Observed → Served → ℕ → ReplyValue → Type 0
-Sends a b served till owed = (scene : Scene) (items : List RoundItem) → Triple a b (Owing scene (SendTill till owed ∷ []) items) (Delivered served scene till (reply_value_bytes owed) items)
-
--- an outside, and a scene
-record Spot : Type 0 where
-  outside : Outside
-  scene : Scene
-
--- what is held there
-record HoldsAt (setup : Setup) (core : Core) (kept : List Record) (tills : List Till) (polls : ℕ) (now : ℤ) (heard : ℕ → List ℕ) (spot : Spot) : Type 0 where
-  known : IsIn (known_at setup core kept now) polls spot.outside spot.scene
-  tills_are : HoldsTills tills spot.outside
-  linked : AreLinked core spot.outside
-  also : AreHeard heard spot.outside
-
-forgets-linked : (till : ℕ) (core : Core) (number : ℕ) → is_linked_in (slice_get core.terminals number) ≡ is_linked_in (slice_get (map (forgets_till till) core.terminals) number)
-forgets-linked till core number = sym (ap is_linked_in (slice_get-map (forgets_till till) core.terminals number) ∙ by_terminal (slice_get core.terminals number))
-  where
-    by_terminal : (found : Option Terminal) → is_linked_in (option_map (forgets_till till) found) ≡ is_linked_in found
-    by_terminal None = refl
-    by_terminal (Some terminal) = refl
-
-module _ (setup : Setup) (kept : List Record) (polls : ℕ) (now : ℤ) (heard : ℕ → List ℕ) (a b : Observed) (core : Core) (tills : List Till) (till : ℕ) (owed : ReplyValue) (items : List RoundItem) where
-  from-spot : (served : Served) (Q : View → Type 0) → Sends a b served till owed →
-      ((spot : Spot) (v : View) → HoldsAt setup core kept tills polls now heard spot → Delivered served spot.scene till (reply_value_bytes owed) items v → Q v) →
-      Triple a b (MidRound setup core kept tills polls now (AreHeard heard) (SendTill till owed ∷ []) items) Q
-  from-spot served Q sends into =
-      triple-before a b (MidRound setup core kept tills polls now (AreHeard heard) (SendTill till owed ∷ []) items) (λ v. (spot : Spot) × (Owing spot.scene (SendTill till owed ∷ []) items v × HoldsAt setup core kept tills polls now heard spot)) Q
-      (λ v h. (record { outside = h.outside; scene = h.round.0 }, (h.round.1, record { known = h.round.2; tills_are = h.tills_are; linked = h.linked; also = h.also })))
-      (triple-some a b (λ spot v. Owing spot.scene (SendTill till owed ∷ []) items v × HoldsAt setup core kept tills polls now heard spot) Q (record { outside = at_first.scene.outside; scene = at_first.scene }) (λ spot.
-      triple-after a b _ _ Q (triple-frame a b _ _ (HoldsAt setup core kept tills polls now heard spot) (sends spot.scene items)) (λ v q. into spot v q.1 q.0)))
-
-  -- it was sent
-  pub reply-sent : (served : Served) → served ≡ More → Sends a b served till owed →
-      Triple a b (MidRound setup core kept tills polls now (AreHeard heard) (SendTill till owed ∷ []) items) (MidRound setup core kept tills polls now (AreHeard heard) [] items)
-  reply-sent served is sends = from-spot More _ (subst (λ served. Sends a b served till owed) is sends) (λ spot v holds q. record {
-    outside = spot.outside;
-    round = (
-      called spot.scene (SentTill till (reply_value_bytes owed) true),
-      q,
-      sent-in (known_at setup core kept now) polls spot.outside till (reply_value_bytes owed) true spot.scene holds.known,
-    );
-    tills_are = holds.tills_are;
-    linked = holds.linked;
-    also = holds.also;
-  })
-
-  -- the send has failed, and the till was cut
-  pub reply-lost : (served : Served) → served ≡ Gone → Sends a b served till owed →
-      Triple a b (MidRound setup core kept tills polls now (AreHeard heard) (SendTill till owed ∷ []) items) (MidRound setup (core_without core till) kept (others tills till) polls now (AreHeard heard) [] items)
-  reply-lost served is sends = from-spot Gone _ (subst (λ served. Sends a b served till owed) is sends) (λ spot v holds q. record {
-    outside = outside_after spot.outside (TillCut till);
-    round = (
-      _,
-      q.1,
-      cut-in (known_at setup core kept now) polls spot.outside till (called spot.scene (SentTill till q.0 false))
-          (sent-in (known_at setup core kept now) polls spot.outside till q.0 false spot.scene holds.known),
-    );
-    tills_are = record {
-      tills_are = ap (λ t. others t till) holds.tills_are.tills_are ∙ others-held spot.outside.tills till;
-      below = below-without spot.outside.next_till spot.outside.tills till holds.tills_are.below;
-    };
-    linked = λ number. holds.linked number ∙ forgets-linked till core number;
-    also = holds.also;
-  })
-
--- the till is remembered, or forgotten
-abbrev pub KeepsOrForgets : ℕ → Core → Core → Type 0
-KeepsOrForgets till old new = (new ≡ old) ⊎ (new ≡ core_without old till)
-
-pub sent-stays : (till : ℕ) (old new : Core) → KeepsOrForgets till old new → StaysInOrder old new
-sent-stays till old new (inl same) = subst (StaysInOrder old) (sym same) (stays-same old)
-sent-stays till old new (inr gone) = subst (StaysInOrder old) (sym gone) (forgets-order till old)
-
-pub sent-dialogues : (till : ℕ) (old new : Core) → KeepsOrForgets till old new → AllHaveDialogues old → AllHaveDialogues new
-sent-dialogues till old new (inl same) all = subst AllHaveDialogues (sym same) all
-sent-dialogues till old new (inr gone) all = subst AllHaveDialogues (sym gone) (forgets-dialogues till old all)
-
-pub sent-count : (till : ℕ) (old new : Core) → KeepsOrForgets till old new → length new.terminals ≡ length old.terminals
-sent-count till old new (inl same) = ap (λ (c : Core). length c.terminals) same
-sent-count till old new (inr gone) = ap (λ (c : Core). length c.terminals) gone ∙ length-map old.terminals (forgets_till till)
 
 -- ---- an act, and its call
-
-pub no-reply : (one : Act) → ((till : ℕ) (given : SaleReply) → one ≡ act.SendTill till given → ⊥) → is_reply one ≡ false
-no-reply (act.SendPt pt command) none = refl
-no-reply (act.Ack pt) none = refl
-no-reply (act.Refuse pt) none = refl
-no-reply (act.CutPt pt) none = refl
-no-reply (act.Link pt) none = refl
-no-reply (act.SendTill till given) none = absurd (none till given refl)
-
--- what is wanted of a terminal is its call
-pub plain-calls : (wanted : Option Act) (calls : List OwedCall) → sends_reply wanted ≡ false → AreCallsWith [] wanted calls → calls ≡ calls_wanted wanted
-plain-calls None calls quiet is = is
-plain-calls (Some (act.SendPt pt command)) calls quiet is = is
-plain-calls (Some (act.Ack pt)) calls quiet is = is
-plain-calls (Some (act.Refuse pt)) calls quiet is = is
-plain-calls (Some (act.CutPt pt)) calls quiet is = is
-plain-calls (Some (act.Link pt)) calls quiet is = is
-plain-calls (Some (act.SendTill till given)) calls quiet is = absurd (let h : true ≡ false = quiet in cc)
 
 -- the calls of an act after others are these and its own
 pub after-split : (before : List OwedCall) (wanted : Option Act) (calls : List OwedCall) → AreCallsWith before wanted calls → (rest : List OwedCall) × AreCallsWith [] wanted rest × (calls ≡ before ++ rest)
@@ -181,6 +58,7 @@ after-split before (Some (act.Refuse pt)) calls is = (SendPt pt Refuse ∷ [], r
 after-split before (Some (act.CutPt pt)) calls is = (CutPt pt ∷ [], refl, is)
 after-split before (Some (act.Link pt)) calls is = (LinkPt pt ∷ [], refl, is)
 after-split before (Some (act.SendTill till given)) calls is = (SendTill till is.0 ∷ [], (is.0, is.1, refl), is.2)
+after-split before (Some (act.Print till header printed)) calls is = (SendTill till (PrintRequest header (lines_printed printed)) ∷ [], refl, is)
 
 pub rest-cut : (wanted : Option Act) (rest : List OwedCall) → AreCallsWith [] wanted rest → owes_cut rest ≡ owes_cut (calls_wanted wanted)
 rest-cut None rest is = ap owes_cut is
@@ -190,15 +68,7 @@ rest-cut (Some (act.Refuse pt)) rest is = ap owes_cut is
 rest-cut (Some (act.CutPt pt)) rest is = ap owes_cut is
 rest-cut (Some (act.Link pt)) rest is = ap owes_cut is
 rest-cut (Some (act.SendTill till given)) rest is = ap owes_cut is.2
-
-pub rest-link : (wanted : Option Act) (rest : List OwedCall) → AreCallsWith [] wanted rest → owes_link rest ≡ owes_link (calls_wanted wanted)
-rest-link None rest is = ap owes_link is
-rest-link (Some (act.SendPt pt command)) rest is = ap owes_link is
-rest-link (Some (act.Ack pt)) rest is = ap owes_link is
-rest-link (Some (act.Refuse pt)) rest is = ap owes_link is
-rest-link (Some (act.CutPt pt)) rest is = ap owes_link is
-rest-link (Some (act.Link pt)) rest is = ap owes_link is
-rest-link (Some (act.SendTill till given)) rest is = ap owes_link is.2
+rest-cut (Some (act.Print till header printed)) rest is = ap owes_cut is
 
 pub rest-kept : (wanted : Option Act) (rest : List OwedCall) → AreCallsWith [] wanted rest → records_kept rest ≡ []
 rest-kept None rest is = ap records_kept is
@@ -208,6 +78,7 @@ rest-kept (Some (act.Refuse pt)) rest is = ap records_kept is
 rest-kept (Some (act.CutPt pt)) rest is = ap records_kept is
 rest-kept (Some (act.Link pt)) rest is = ap records_kept is
 rest-kept (Some (act.SendTill till given)) rest is = ap records_kept is.2
+rest-kept (Some (act.Print till header printed)) rest is = ap records_kept is
 
 pub kept-cut : (slot : ℕ) (keep : Option Record) (rest : List OwedCall) → owes_cut (keeping_calls slot keep ++ rest) ≡ owes_cut rest
 kept-cut slot None rest = refl
@@ -231,10 +102,12 @@ GoesBy kept old moment pt message mid acts = (setup : Setup) → IsRow kept (han
 any_setup : Setup
 any_setup = record { name = []; listen = []; journal = []; line = 0; wait = 0; slots = 0; terminals = [] }
 
--- what is held stays in order with the record that is kept
-pub record StaysWith (gateway : Gateway) (kept : List Record) (mid : Core) (pt : ℕ) (acts : Acts) : Type 0 where
+-- what is held stays in order with the record that is kept, which takes no more than so much memory
+pub record StaysWith (gateway : Gateway) (kept : List Record) (mid : Core) (pt : ℕ) (acts : Acts) (memory : ℕ) : Type 0 where
   pub folded : AreFolded (kept ++ option_to_list acts.keep)
-  pub room : length (kept ++ option_to_list acts.keep) + open_count_of (kept ++ option_to_list acts.keep) ≤ gateway.slots
+  pub room : HasRoom gateway.slots (kept ++ option_to_list acts.keep) mid
+  pub numbered : IsNumbered mid
+  pub memory_left : memory_taken (option_to_list acts.keep) + days_served mid.terminals ≤ memory
   pub others : AreOthersInOrder pt (kept ++ option_to_list acts.keep) mid
   pub all : owes_cut (calls_wanted acts.act) ≡ false → AreTerminalsInOrder (kept ++ option_to_list acts.keep) mid
 
@@ -244,9 +117,23 @@ moment-within now = within (moment_of now) (moment_of_bound now)
     within : (moment : ℕ) → moment ≤ last_moment → IsMoment (pos moment)
     within moment h = (omega (arith, ints), omega (arith, ints))
 
--- the ledger takes an Outcome without more memory
-outcome-spare : (the_record : Record) (outcome : TheOutcome) (spare : ℕ) (more : List Record) → the_record ∷ [] ≡ Outcome outcome ∷ more → HasSpareFor the_record spare
-outcome-spare the_record outcome spare more e = let same : the_record ≡ Outcome outcome = cc in subst (λ r. HasSpareFor r spare) (sym same) tt
+-- there is room for the record that is kept
+pub slots-for : (gateway : Gateway) (kept : List Record) (mid : Core) (pt : ℕ) (acts : Acts) (memory : ℕ) (records : Records) (observed : Observed) → StaysWith gateway kept mid pt acts memory → gateway.slots ≤ 1000000 → records.ledger.records ≡ kept → StandFor gateway records observed → memory ≤ records.ledger.spare →
+    IfSome acts.keep (MayBeKept kept) → IfSome acts.keep (HasSlotsFor records)
+slots-for gateway kept mid pt acts memory records observed s few same stand spare may = by_keep acts.keep refl may
+  where
+    by_keep : (keep : Option Record) → acts.keep ≡ keep → IfSome keep (MayBeKept kept) → IfSome keep (HasSlotsFor records)
+    by_keep None e may = tt
+    by_keep (Some the_record) e may =
+        let room : HasRoom gateway.slots (kept ++ the_record ∷ []) mid = subst (λ keep. HasRoom gateway.slots (kept ++ option_to_list keep) mid) e s.room in
+        let takes : memory_taken (the_record ∷ []) + days_served mid.terminals ≤ memory = subst (λ keep. memory_taken (option_to_list keep) + days_served mid.terminals ≤ memory) e s.memory_left in
+        record {
+          may = subst (λ l. MayBeKept l the_record) (sym same) may;
+          few = omega (arith, stand.slots, few);
+          count = stand.count;
+          slot = omega (arith, stand.slots, stand.count, ap length same, room, length-append kept (the_record ∷ []));
+          spare = omega (arith, takes, spare);
+        }
 
 module _ (kept : List Record) (old mid : Core) (now : ℤ) (pt : ℕ) (apdu : ApduValue) (message : MessageValue) (acts : Acts) (decoded : decode_pt_message apdu ≡ Ok message) (is : GoesBy kept old (moment_of now) pt message mid acts) where
   row-is : (setup : Setup) → IsRow kept (handle_row (known_with setup kept old (moment_of now)) pt apdu) mid acts
@@ -262,7 +149,7 @@ module _ (kept : List Record) (old mid : Core) (now : ℤ) (pt : ℕ) (apdu : Ap
   kept-same setup = let p = parts setup in ap records_kept p.2 ∙ kept-kept (length kept) acts.keep p.0 (rest-kept acts.act p.0 p.1)
 
   keeps-links : KeepsLinks old (handle_row (known_with any_setup kept old (moment_of now)) pt apdu)
-  keeps-links = subst (KeepsLinks old) (sym (ap (handle_decoded (known_with any_setup kept old (moment_of now)) pt) decoded)) (handled-keeps (known_with any_setup kept old (moment_of now)) pt message)
+  keeps-links = handled-keeps (known_with any_setup kept old (moment_of now)) pt apdu
 
   -- no terminal is linked by it
   pub handled-no-link : owes_link (calls_wanted acts.act) ≡ false
@@ -294,14 +181,21 @@ module _ (kept : List Record) (old mid : Core) (now : ℤ) (pt : ℕ) (apdu : Ap
     in-order : IsInOrder (known_with order.setup kept old (moment_of now))
     in-order = record {
       folded = order.folded;
-      room = subst (λ slots. length kept + open_count_of kept ≤ slots) (sym slots-same) order.room;
+      room = subst (λ slots. HasRoom slots kept old) (sym slots-same) order.room;
       of_setup = order.of_setup;
       moment = moment-within now;
+      numbered = order.numbered;
       terminals = order.terminals;
     }
 
-    uncut-stays : EachRowKeepsInOrder → owes_cut (calls_wanted acts.act) ≡ false → StaysWith gateway kept mid pt acts
-    uncut-stays rows uncut =
+    memory-left : EachMessageTakesItsMemory → memory_taken (option_to_list acts.keep) + days_served mid.terminals ≤ days_served old.terminals
+    memory-left takes =
+        let r = row-is order.setup in
+        subst (λ l. memory_taken l + days_served mid.terminals ≤ days_served old.terminals) (kept-same order.setup)
+        (subst (λ (c : Core). memory_taken (records_kept (handle_row (known_with order.setup kept old (moment_of now)) pt apdu).calls) + days_served c.terminals ≤ days_served old.terminals) (sym r.core_is) (takes (known_with order.setup kept old (moment_of now)) pt apdu))
+
+    uncut-stays : EachRowKeepsInOrder → EachMessageTakesItsMemory → owes_cut (calls_wanted acts.act) ≡ false → StaysWith gateway kept mid pt acts (days_served old.terminals)
+    uncut-stays rows takes uncut =
         let r = row-is order.setup in
         let k = rows (known_with order.setup kept old (moment_of now)) (Handle pt apdu) in-order tt (cut-same order.setup ∙ uncut) in
         let same = kept-same order.setup in
@@ -309,56 +203,37 @@ module _ (kept : List Record) (old mid : Core) (now : ℤ) (pt : ℕ) (apdu : Ap
         subst (λ l. AreTerminalsInOrder (kept ++ l) mid) same (subst (AreTerminalsInOrder (kept ++ records_kept (handle_row (known_with order.setup kept old (moment_of now)) pt apdu).calls)) (sym r.core_is) k.terminals) in
         record {
           folded = subst (λ l. AreFolded (kept ++ l)) same k.folded;
-          room = subst (λ slots. length (kept ++ option_to_list acts.keep) + open_count_of (kept ++ option_to_list acts.keep) ≤ slots) slots-same (subst (λ l. length (kept ++ l) + open_count_of (kept ++ l) ≤ order.setup.slots) same k.room);
+          room = subst (λ slots. HasRoom slots (kept ++ option_to_list acts.keep) mid) slots-same (subst (λ l. HasRoom order.setup.slots (kept ++ l) mid) same
+              (subst (HasRoom order.setup.slots (kept ++ records_kept (handle_row (known_with order.setup kept old (moment_of now)) pt apdu).calls)) (sym r.core_is) k.room));
+          numbered = subst IsNumbered (sym r.core_is) k.numbered;
+          memory_left = memory-left takes;
           others = λ number terminal apart found. terminals number terminal found;
           all = λ none. terminals;
         }
 
-    cut-stays : EachCutKeepsInOrder → owes_cut (calls_wanted acts.act) ≡ true → StaysWith gateway kept mid pt acts
-    cut-stays cuts cut =
+    cut-stays : EachCutKeepsInOrder → EachMessageTakesItsMemory → owes_cut (calls_wanted acts.act) ≡ true → StaysWith gateway kept mid pt acts (days_served old.terminals)
+    cut-stays cuts takes cut =
         let r = row-is order.setup in
         let k = cuts (known_with order.setup kept old (moment_of now)) (Handle pt apdu) pt refl in-order (cut-same order.setup ∙ cut) in
-        let none : kept ≡ kept ++ option_to_list acts.keep = sym (ap (λ l. kept ++ l) (sym (kept-same order.setup) ∙ k.0) ∙ append-nil kept) in
+        let none : kept ≡ kept ++ option_to_list acts.keep = sym (ap (λ l. kept ++ l) (sym (kept-same order.setup) ∙ k.none_kept) ∙ append-nil kept) in
         record {
           folded = subst AreFolded none order.folded;
-          room = subst (λ l. length l + open_count_of l ≤ gateway.slots) none order.room;
-          others = subst (λ l. AreOthersInOrder pt l mid) none (subst (AreOthersInOrder pt kept) (sym r.core_is) k.1);
+          room = subst (λ l. HasRoom gateway.slots l mid) none (subst (λ slots. HasRoom slots kept mid) slots-same (subst (HasRoom order.setup.slots kept) (sym r.core_is) k.room));
+          numbered = subst IsNumbered (sym r.core_is) k.numbered;
+          memory_left = memory-left takes;
+          others = subst (λ l. AreOthersInOrder pt l mid) none (subst (AreOthersInOrder pt kept) (sym r.core_is) k.others);
           all = λ uncut. absurd (let h : true ≡ false = sym cut ∙ uncut in cc);
         }
 
-    pub handled-stays : EachRowKeepsInOrder → EachCutKeepsInOrder → StaysWith gateway kept mid pt acts
-    handled-stays rows cuts = by_cut (owes_cut (calls_wanted acts.act)) refl
+    pub handled-stays : EachRowKeepsInOrder → EachCutKeepsInOrder → EachMessageTakesItsMemory → StaysWith gateway kept mid pt acts (days_served old.terminals)
+    handled-stays rows cuts takes = by_cut (owes_cut (calls_wanted acts.act)) refl
       where
-        by_cut : (cut : Bool) → owes_cut (calls_wanted acts.act) ≡ cut → StaysWith gateway kept mid pt acts
-        by_cut true e = cut-stays cuts e
-        by_cut false e = uncut-stays rows e
+        by_cut : (cut : Bool) → owes_cut (calls_wanted acts.act) ≡ cut → StaysWith gateway kept mid pt acts (days_served old.terminals)
+        by_cut true e = cut-stays cuts takes e
+        by_cut false e = uncut-stays rows takes e
 
-    -- the record that is kept is an Outcome
-    spare-for : EachRecordIsOfAnEnd → (the_record : Record) (spare : ℕ) → acts.keep ≡ Some the_record → HasSpareFor the_record spare
-    spare-for ends the_record spare keep =
-        let kept_is : records_kept (handle_row (known_with order.setup kept old (moment_of now)) pt apdu).calls ≡ the_record ∷ [] = kept-same order.setup ∙ ap option_to_list keep in
-        elim (ends (known_with order.setup kept old (moment_of now)) pt apdu the_record [] kept_is) [
-          | inl e ↦ outcome-spare the_record e.outcome spare _ (sym kept_is ∙ ap records_kept e.calls_are)
-          | inr r ↦ outcome-spare the_record (outcome_reported r.entry r.report (moment_of now)) spare _ (sym kept_is ∙ ap records_kept r.calls_are)
-        ]
-
-    -- there is room for the record that is kept
-    pub handled-room : EachRowKeepsInOrder → EachCutKeepsInOrder → EachRecordIsOfAnEnd → (records : Records) (observed : Observed) → records.ledger.records ≡ kept → StandFor gateway records observed
-        → IfSome acts.keep (MayBeKept kept) → IfSome acts.keep (HasSlotsFor records)
-    handled-room rows cuts ends records observed same stand may = by_keep acts.keep refl may
-      where
-        by_keep : (keep : Option Record) → acts.keep ≡ keep → IfSome keep (MayBeKept kept) → IfSome keep (HasSlotsFor records)
-        by_keep None e may = tt
-        by_keep (Some the_record) e may =
-            let s = handled-stays rows cuts in
-            let room : length (kept ++ the_record ∷ []) + open_count_of (kept ++ the_record ∷ []) ≤ gateway.slots = subst (λ keep. length (kept ++ option_to_list keep) + open_count_of (kept ++ option_to_list keep) ≤ gateway.slots) e s.room in
-            record {
-              may = subst (λ l. MayBeKept l the_record) (sym same) may;
-              few = omega (arith, stand.slots, slots-same, order.of_setup.within.slots.1);
-              count = stand.count;
-              slot = omega (arith, stand.slots, stand.count, ap length same, room, length-append kept (the_record ∷ []));
-              spare = spare-for ends the_record records.ledger.spare e;
-            }
+    pub few-slots : gateway.slots ≤ 1000000
+    few-slots = omega (arith, slots-same, order.of_setup.within.slots.1)
 
   -- ---- the round
 
@@ -394,30 +269,6 @@ abbrev pub KeepsWanted : {T E : Type 0} → Observed → Observed → List Recor
 KeepsWanted a b kept new now wanted r = (setup : Setup) (core : Core) (tills : List Till) (polls : ℕ) (heard : ℕ → List ℕ) (calls : List OwedCall) (items : List RoundItem)
     → Triple a b (MidRound setup core kept tills polls now (AreHeard heard) (keeping_calls (length kept) wanted ++ calls) items) (UnlessBroken r (λ done. MidRound setup core new tills polls now (AreHeard heard) calls items))
 
--- what makes the call that is wanted
-abbrev pub MakesCall : Observed → Observed → Core → Core → List Till → List Till → ℤ → Option Act → Type 0
-MakesCall a b old new tills left now wanted = (calls : List OwedCall) → AreCallsWith [] wanted calls → (setup : Setup) (kept : List Record) (polls : ℕ) (heard : ℕ → List ℕ) (items : List RoundItem) →
-    Triple a b (MidRound setup old kept tills polls now (AreHeard heard) calls items) (MidRound setup new kept left polls now (AreHeard heard) [] items)
-
--- nothing is wanted
-pub at-none : (s : Observed) (core : Core) (tills : List Till) (now : ℤ) (wanted : Option Act) → wanted ≡ None → MakesCall s s core core tills tills now wanted
-at-none s core tills now wanted none = λ calls is setup kept polls heard items.
-    let none_owed : calls ≡ [] = subst (λ w. AreCallsWith [] w calls) none is in
-    triple-before s s _ _ _ (λ v p. subst (λ calls. MidRound setup core kept tills polls now (AreHeard heard) calls items v) none_owed p) (triple-refl s (MidRound setup core kept tills polls now (AreHeard heard) [] items))
-
--- a till is sent a reply
-pub at-reply : (a b : Observed) (old new : Core) (tills left : List Till) (now : ℤ) (wanted : Option Act) (till : ℕ) (given : SaleReply) → wanted ≡ Some (act.SendTill till given) →
-    ((owed : ReplyValue) → tree_of given ≡ reply_value_tree owed → (setup : Setup) (kept : List Record) (polls : ℕ) (heard : ℕ → List ℕ) (items : List RoundItem) →
-    Triple a b (MidRound setup old kept tills polls now (AreHeard heard) (SendTill till owed ∷ []) items) (MidRound setup new kept left polls now (AreHeard heard) [] items)) → MakesCall a b old new tills left now wanted
-at-reply a b old new tills left now wanted till given is delivers = λ calls are setup kept polls heard items.
-    let one : AreCallsWith [] (Some (act.SendTill till given)) calls = subst (λ w. AreCallsWith [] w calls) is are in
-    triple-before a b _ _ _ (λ v p. subst (λ calls. MidRound setup old kept tills polls now (AreHeard heard) calls items v) one.2 p) (delivers one.0 one.1.0 setup kept polls heard items)
-
--- a terminal's call is made
-pub at-plain : (a b : Observed) (old new : Core) (tills : List Till) (now : ℤ) (wanted : Option Act) → sends_reply wanted ≡ false → Performs a b old new now (calls_wanted wanted) → MakesCall a b old new tills tills now wanted
-at-plain a b old new tills now wanted quiet performs = λ calls are setup kept polls heard items.
-    triple-before a b _ _ _ (λ v p. subst (λ calls. MidRound setup old kept tills polls now (AreHeard heard) calls items v) (plain-calls wanted calls quiet are) p) (performs setup kept tills polls heard items)
-
 module _ (a b : Observed) (kept new_kept : List Record) (old mid : Core) (now : ℤ) (pt : ℕ) (apdu : ApduValue) (message : MessageValue) (acts : Acts) (decoded : decode_pt_message apdu ≡ Ok message) (is : GoesBy kept old (moment_of now) pt message mid acts)
     {T E : Type 0} (r : Result T E) (keeping : KeepsWanted a b kept new_kept now acts.keep r) (tills : List Till) (setup : Setup) (polls : ℕ) (heard : ℕ → List ℕ) (items : List RoundItem) where
   -- the record could not be kept
@@ -441,15 +292,16 @@ module _ (a b : Observed) (kept new_kept : List Record) (old mid : Core) (now : 
 abbrev pub OrdersAll : ℕ → Option Act → Core → Core → Type 0
 OrdersAll pt wanted mid new = (kept : List Record) → AreOthersInOrder pt kept mid → (owes_cut (calls_wanted wanted) ≡ false → AreTerminalsInOrder kept mid) → AreTerminalsInOrder kept new
 
-pub handled-well : (state new : RunState) (mid : Core) (pt : ℕ) (acts : Acts) (a b c : Observed) → IsWell state a → new.gateway ≡ state.gateway → StaysWith state.gateway state.records.ledger.records mid pt acts → KeepsWithLedger state.records new.records acts.keep → StandsFor new.records.journal b → GoesOnBesideDisk b c
-    → settings_of mid ≡ settings_of state.core → settings_of new.core ≡ settings_of mid → OrdersAll pt acts.act mid new.core → AllHaveDialogues new.core → IsWell new c
-handled-well state new mid pt acts a b c well gateway stays keeping stands goes first then orders dialogues = subst (λ g. IsWell (record new { gateway = g }) c) (sym gateway) (record {
+pub handled-well : (state new : RunState) (mid : Core) (pt : ℕ) (acts : Acts) (memory : ℕ) (a b c : Observed) → IsWell state a → new.gateway ≡ state.gateway → StaysWith state.gateway state.records.ledger.records mid pt acts memory → memory ≤ state.records.ledger.spare → KeepsWithLedger state.records new.records acts.keep →
+    StandsFor new.records.journal b → GoesOnBesideDisk b c → settings_of mid ≡ settings_of state.core → settings_of new.core ≡ settings_of mid → days_served new.core.terminals ≤ days_served mid.terminals → new.core.device_requests ≡ mid.device_requests → OrdersAll pt acts.act mid new.core → AllHaveDialogues new.core → IsWell new c
+handled-well state new mid pt acts memory a b c well gateway stays spare keeping stands goes first second days requests orders dialogues = subst (λ g. IsWell (record new { gateway = g }) c) (sym gateway) (record {
   order = record {
     setup = well.order.setup;
     gateway_is = well.order.gateway_is;
-    of_setup = record { within = well.order.of_setup.within; settings = then ∙ first ∙ well.order.of_setup.settings };
+    of_setup = record { within = well.order.of_setup.within; settings = second ∙ first ∙ well.order.of_setup.settings };
     folded = subst AreFolded (sym keeping.records) stays.folded;
-    room = subst (λ l. length l + open_count_of l ≤ state.gateway.slots) (sym keeping.records) stays.room;
+    room = let room : HasRoom state.gateway.slots new.records.ledger.records mid = subst (λ l. HasRoom state.gateway.slots l mid) (sym keeping.records) stays.room in omega (arith, room, days);
+    numbered = subst (λ n. n ≤ greatest_device_number) (sym requests) stays.numbered;
     terminals = orders new.records.ledger.records (subst (λ l. AreOthersInOrder pt l mid) (sym keeping.records) stays.others) (λ uncut. subst (λ l. AreTerminalsInOrder l mid) (sym keeping.records) (stays.all uncut));
     dialogues = dialogues;
   };
@@ -458,6 +310,7 @@ handled-well state new mid pt acts a b c well gateway stays keeping stands goes 
     slots = ap (λ (j : JournalValue). j.slots) keeping.journal ∙ well.records.slots;
     stands = goes.stands new.records.journal stands;
   };
+  spare = omega (arith, days, stays.memory_left, spare, keeping.spare);
 })
 
 -- ---- an APDU
@@ -468,25 +321,25 @@ TakesHandled a b old new tills left now r pt apdu = (setup : Setup) (polls : ℕ
     Triple a b (HeldRound setup old tills polls now (AreHeard heard) [] (Handle pt apdu ∷ items)) (UnlessBroken r (λ given. HeldRound setup new left polls now (AreHeard heard) [] items))
 
 -- one outside the grammar
-pub apdu-outside : (a b : Observed) (old : RunState) (core : Core) (tills : List Till) (now : ℤ) (pt : ℕ) (apdu : ApduValue) (fault : PtFault) → decode_pt_message apdu ≡ Err fault → Handles a b old.core core now (Greet pt apdu) →
-    (setup : Setup) (polls : ℕ) (heard : ℕ → List ℕ) (items : List RoundItem) → Triple a b (HeldRound setup old tills polls now (AreHeard heard) [] (apdu_items pt apdu ++ items)) (HeldRound setup (record old { core = core }) tills polls now (AreHeard heard) [] items)
-apdu-outside a b old core tills now pt apdu fault decoded greets = λ setup polls heard items.
-    triple-then a b b _ _ _ (greets setup old.records.ledger.records tills polls heard (Handle pt apdu ∷ NextWaiting pt ∷ items))
-    (triple-then b b b _ _ _ (unhandled b core now pt apdu fault decoded setup old.records.ledger.records tills polls heard (NextWaiting pt ∷ items))
-    (none-waits b core now pt setup old.records.ledger.records tills polls heard items))
+pub apdu-outside : (a b : Observed) (old : RunState) (core : Core) (tills left : List Till) (now : ℤ) (pt : ℕ) (apdu : ApduValue) (fault : PtFault) → decode_pt_message apdu ≡ Err fault → Handles a b old.core core tills left now (Greet pt apdu) →
+    (setup : Setup) (polls : ℕ) (heard : ℕ → List ℕ) (items : List RoundItem) → Triple a b (HeldRound setup old tills polls now (AreHeard heard) [] (apdu_items pt apdu ++ items)) (HeldRound setup (record old { core = core }) left polls now (AreHeard heard) [] items)
+apdu-outside a b old core tills left now pt apdu fault decoded greets = λ setup polls heard items.
+    triple-then a b b _ _ _ (greets setup old.records.ledger.records polls heard (Handle pt apdu ∷ NextWaiting pt ∷ items))
+    (triple-then b b b _ _ _ (unhandled b core left now pt apdu fault decoded setup old.records.ledger.records polls heard (NextWaiting pt ∷ items))
+    (none-waits b core left now pt setup old.records.ledger.records polls heard items))
 
 -- one that is a message, and was taken
-pub apdu-taken : (a b c : Observed) (old new : RunState) (core : Core) (tills left : List Till) (now : ℤ) (pt : ℕ) (apdu : ApduValue) → Handles a b old.core core now (Greet pt apdu) →
-    ((setup : Setup) (polls : ℕ) (heard : ℕ → List ℕ) (items : List RoundItem) → Triple b c (HeldRound setup (record old { core = core }) tills polls now (AreHeard heard) [] (Handle pt apdu ∷ items)) (HeldRound setup new left polls now (AreHeard heard) [] items)) →
+pub apdu-taken : (a b c : Observed) (old new : RunState) (core : Core) (tills mid left : List Till) (now : ℤ) (pt : ℕ) (apdu : ApduValue) → Handles a b old.core core tills mid now (Greet pt apdu) →
+    ((setup : Setup) (polls : ℕ) (heard : ℕ → List ℕ) (items : List RoundItem) → Triple b c (HeldRound setup (record old { core = core }) mid polls now (AreHeard heard) [] (Handle pt apdu ∷ items)) (HeldRound setup new left polls now (AreHeard heard) [] items)) →
     (setup : Setup) (polls : ℕ) (heard : ℕ → List ℕ) (items : List RoundItem) → Triple a c (HeldRound setup old tills polls now (AreHeard heard) [] (apdu_items pt apdu ++ items)) (HeldRound setup new left polls now (AreHeard heard) [] items)
-apdu-taken a b c old new core tills left now pt apdu greets handles = λ setup polls heard items.
-    triple-then a b c _ _ _ (greets setup old.records.ledger.records tills polls heard (Handle pt apdu ∷ NextWaiting pt ∷ items))
+apdu-taken a b c old new core tills mid left now pt apdu greets handles = λ setup polls heard items.
+    triple-then a b c _ _ _ (greets setup old.records.ledger.records polls heard (Handle pt apdu ∷ NextWaiting pt ∷ items))
     (triple-then b c c _ _ _ (handles setup polls heard (NextWaiting pt ∷ items))
-    (none-waits c new.core now pt setup new.records.ledger.records left polls heard items))
+    (none-waits c new.core left now pt setup new.records.ledger.records polls heard items))
 
 -- one whose record could not be kept
-pub apdu-broken : (a b c : Observed) (old : RunState) (core : Core) (tills : List Till) (now : ℤ) (pt : ℕ) (apdu : ApduValue) → Handles a b old.core core now (Greet pt apdu) →
-    ((setup : Setup) (polls : ℕ) (heard : ℕ → List ℕ) (items : List RoundItem) → Triple b c (HeldRound setup (record old { core = core }) tills polls now (AreHeard heard) [] (Handle pt apdu ∷ items)) (λ v. v.scene.stage ≡ Broken)) →
+pub apdu-broken : (a b c : Observed) (old : RunState) (core : Core) (tills mid : List Till) (now : ℤ) (pt : ℕ) (apdu : ApduValue) → Handles a b old.core core tills mid now (Greet pt apdu) →
+    ((setup : Setup) (polls : ℕ) (heard : ℕ → List ℕ) (items : List RoundItem) → Triple b c (HeldRound setup (record old { core = core }) mid polls now (AreHeard heard) [] (Handle pt apdu ∷ items)) (λ v. v.scene.stage ≡ Broken)) →
     (setup : Setup) (polls : ℕ) (heard : ℕ → List ℕ) (items : List RoundItem) → Triple a c (HeldRound setup old tills polls now (AreHeard heard) [] (apdu_items pt apdu ++ items)) (λ v. v.scene.stage ≡ Broken)
-apdu-broken a b c old core tills now pt apdu greets handles = λ setup polls heard items.
-    triple-then a b c _ _ _ (greets setup old.records.ledger.records tills polls heard (Handle pt apdu ∷ NextWaiting pt ∷ items)) (handles setup polls heard (NextWaiting pt ∷ items))
+apdu-broken a b c old core tills mid now pt apdu greets handles = λ setup polls heard items.
+    triple-then a b c _ _ _ (greets setup old.records.ledger.records polls heard (Handle pt apdu ∷ NextWaiting pt ∷ items)) (handles setup polls heard (NextWaiting pt ∷ items))

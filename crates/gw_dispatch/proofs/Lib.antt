@@ -13,7 +13,9 @@ pub mod LinkLemmas
 pub mod OpenedLemmas
 pub mod OpeningLemmas
 pub mod PerformLemmas
+pub mod PrintLemmas
 pub mod PtsLemmas
+pub mod ReaderLemmas
 pub mod RecordsLemmas
 pub mod RoundLemmas
 pub mod RunLemmas

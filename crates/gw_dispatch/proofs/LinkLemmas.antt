@@ -5,15 +5,18 @@ use Rattle.std.specs.Prelude.{◌==◌, ◌++◌, ◌||◌, set, slice_get, Opti
 use Rattle.gw_site.specs.Outside.{Connection, Outside, outside_after, is_connected, without, new_connection}
 use Rattle.gw_site.specs.declared.turn.Turn.TheVariants.{Linked, CutPt as PtCut}
 use Rattle.zvt_msg.specs.Message.{MessageValue, Ack, Nack, Intermediate, Line, Block, Status, Completion, Abort, Other}
-use Rattle.zvt_talk.specs.Came.{is_taken}
-use Rattle.gw_owes.specs.Calls.{OwedCall, CutPt}
+use Rattle.zvt_apdu.specs.Grammar.{ApduValue}
+use Rattle.gw_owes.specs.Calls.{OwedCall, CutPt, SendTill}
 use Rattle.gw_owes.specs.Core.{Core}
+use Rattle.gw_owes.specs.declared.terminal.Standing.TheVariants.{Ready}
 use Rattle.gw_owes.specs.declared.terminal.Terminal.{Terminal}
 use Rattle.gw_owes.specs.Row.{Known, Row, owing, owing_where}
 use Rattle.gw_owes.specs.Terminals.{terminal_at, of_terminal, reply_calls_to, terminal_becomes, unlinks, unlinked_terminal}
 use Rattle.gw_owes.specs.Links.{is_linked, cutting, LinkIsMade, LinkIsLost, link_row}
 use Rattle.gw_owes.specs.Greeting.{greeting, sending_calls, greeted_row}
-use Rattle.gw_owes.specs.Handling.{taking, meaning_at, consequence, handle_message, handled_row}
+use Rattle.gw_owes.specs.DeviceRequests.{requests_device}
+use Rattle.gw_owes.specs.Handling.{handle_row, taking}
+use Rattle.gw_owes.specs.Reconciliations.{reply_to_settled}
 use Rattle.gw_owes.specs.Reply.{ReplyValue}
 use Rattle.gw_owes.specs.Serving.{at_rest, done_with, reply_to_outcome}
 use Rattle.gw_owes.specs.Deadlines.{late_row, is_late}
@@ -21,7 +24,7 @@ use Rattle.gw_owes.specs.TerminalLaws.{ChangesTerminalAlone}
 use Rattle.gw_owes.proofs.HandlingLemmas.{each-terminal, each-linked}
 use Rattle.gw_owes.proofs.SetLemmas.{new-is-there}
 use Rattle.gw_owes.proofs.TerminalLemmas.{link-changes-alone}
-use Rattle.gw_rules.proofs.RowFormLemmas.{EachForm, form-consequence}
+use Rattle.gw_rules.proofs.RowFormLemmas.{EachForm, form-handled}
 use Rattle.gw_dispatch.specs.MidRound.{AreLinked, is_linked_in}
 use Rattle.gw_dispatch.specs.Wanted.{owes_link}
 use Rattle.gw_dispatch.proofs.HeardLemmas.{cut-there, cut-others}
@@ -54,10 +57,14 @@ owing-keeps known calls none = record { stay = λ other. refl; none = none }
 
 -- ---- what a message leaves
 
-reply-none : (asker : Option ℕ) (reply : Option ReplyValue) → owes_link (reply_calls_to asker reply) ≡ false
+pub reply-none : (asker : Option ℕ) (reply : Option ReplyValue) → owes_link (reply_calls_to asker reply) ≡ false
 reply-none None reply = refl
 reply-none (Some till) None = refl
 reply-none (Some till) (Some reply) = refl
+
+where-keeps : (there : Bool) (known : Known) (row : Row) → KeepsLinks known.core row → KeepsLinks known.core (owing_where there known row)
+where-keeps true known row kept = kept
+where-keeps false known row kept = owing-keeps known [] refl
 
 -- each form of what follows from a message of a terminal that is linked
 module _ (known : Known) (number : ℕ) (old : Terminal) (found : terminal_at known number ≡ Some old) (linked : is_linked old.standing ≡ true) (terminal : Terminal) (same : terminal.standing ≡ old.standing) where
@@ -66,6 +73,9 @@ module _ (known : Known) (number : ℕ) (old : Terminal) (found : terminal_at kn
 
   stays : (calls : List OwedCall) → owes_link calls ≡ false → KeepsLinks known.core (terminal_becomes known number terminal calls)
   stays calls none = becomes-keeps known number old terminal calls found (ap is_linked same) none
+
+  requests : (till : ℕ) (request : ReplyValue) → KeepsLinks known.core (requests_device known number terminal till request)
+  requests till request = let kept = stays (SendTill till request ∷ []) refl in record { stay = kept.stay; none = refl }
 
   forms-keep : EachForm (KeepsLinks known.core) known number terminal
   forms-keep = record {
@@ -76,18 +86,16 @@ module _ (known : Known) (number : ℕ) (old : Terminal) (found : terminal_at kn
     enquires = becomes _ _ refl refl;
     rests = λ standing is. becomes (at_rest terminal standing) [] is refl;
     resolves = λ standing outcome is. becomes (done_with terminal standing) _ is (reply-none terminal.asker (reply_to_outcome known.kept outcome.slot outcome));
+    settles = λ last settled. becomes (done_with terminal (Ready last)) _ refl (reply-none terminal.asker (reply_to_settled known.kept settled));
+    replies = λ last reply. becomes (done_with terminal (Ready last)) _ refl (reply-none terminal.asker reply);
+    requests = λ till request asks. requests till request;
   }
 
-where-keeps : (there : Bool) (known : Known) (row : Row) → KeepsLinks known.core row → KeepsLinks known.core (owing_where there known row)
-where-keeps true known row kept = kept
-where-keeps false known row kept = owing-keeps known [] refl
-
 -- a message that was acknowledged or refused
-pub handled-keeps : (known : Known) (number : ℕ) (message : MessageValue) → KeepsLinks known.core (handled_row known number message)
-handled-keeps known number message =
-    each-linked (KeepsLinks known.core) known number (λ terminal. handle_message known number terminal message) (owing-keeps known [] refl)
-    (λ terminal found linked. where-keeps (is_taken message) known (consequence known number (taking terminal message known.moment) (meaning_at terminal message) terminal.standing)
-    (form-consequence (KeepsLinks known.core) known number (taking terminal message known.moment) (forms-keep known number terminal found linked (taking terminal message known.moment) refl) (meaning_at terminal message) terminal.standing))
+pub handled-keeps : (known : Known) (number : ℕ) (apdu : ApduValue) → KeepsLinks known.core (handle_row known number apdu)
+handled-keeps known number apdu =
+    form-handled (KeepsLinks known.core) known number apdu (owing-keeps known [] refl)
+    (λ terminal message found linked decoded is. forms-keep known number terminal found linked (taking terminal message known.moment) refl)
 
 sending-keeps : (number : ℕ) (message : MessageValue) → owes_link (sending_calls number (greeting message)) ≡ false
 sending-keeps number Ack = refl

@@ -1,5 +1,5 @@
 -- What a run holds as it begins is in order.
-use Rattle.std.proofs.Common.{◌≡◌, ℕ, ◌+◌, ◌≤◌, List, [], ◌∷◌, length, refl, sym, ◌∙◌, ap, subst}
+use Rattle.std.proofs.Common.{arith, ◌≡◌, ℕ, List, [], ◌∷◌, length, refl, sym, ◌∙◌, ap, subst}
 use Rattle.std.specs.Prelude.{map, replicate}
 use Rattle.gw_base.specs.Setup.{IsSetup}
 use Rattle.gw_base.specs.declared.setup.Pt.{Pt}
@@ -7,14 +7,17 @@ use Rattle.gw_base.specs.declared.setup.Setup.{Setup}
 use Rattle.gw_site.specs.Observed.{Observed}
 use Rattle.jrn_log.specs.Journal.{StandsFor}
 use Rattle.gw_ledger.specs.Fold.{AreFolded}
-use Rattle.gw_ledger.specs.Sums.{open_count_of}
-use Rattle.gw_owes.specs.Core.{new_core, new_terminal}
-use Rattle.gw_owes.specs.RecordLaws.{AreTerminalsInOrder, NewCoreIsInOrder}
+use Rattle.gw_owes.specs.Core.{Core, new_core, new_terminal}
+use Rattle.gw_owes.specs.Days.{days_served}
+use Rattle.gw_owes.specs.RecordLaws.{AreTerminalsInOrder, IsNumbered, NewCoreIsInOrder}
 use Rattle.gw_owes.specs.TerminalLaws.{settings_of}
 use Rattle.gw_owes.specs.declared.terminal.Terminal.{Terminal}
 use Rattle.gw_core.specs.declared.gateway.Gateway.{Gateway}
 use Rattle.gw_dispatch.specs.RunState.{LeavesRoom, gateway_of}
 use Rattle.gw_dispatch.specs.MidRound.{AreReady}
+use Rattle.sale_frame.specs.Grammar.{IsIncompleteFrame}
+use Rattle.gw_dispatch.specs.Tills.{bytes_held}
+use Rattle.gw_dispatch.proofs.ReaderLemmas.{empty-waits}
 use Rattle.gw_dispatch.specs.Rounds.{IsReady}
 use Rattle.gw_dispatch.specs.declared.engine.Dispatch.{Dispatch}
 use Rattle.gw_dispatch.proofs.PtsLemmas.{new-ready}
@@ -26,22 +29,28 @@ new-settings (pt ∷ pts) = ap (λ settings. pt ∷ settings) (new-settings pts)
 
 -- what a run holds as it begins is ready where the journal stands for the site
 pub opened-ready : NewCoreIsInOrder → (setup : Setup) (dispatch : Dispatch) (count : ℕ) → IsSetup setup → AreFolded dispatch.state.records.ledger.records → gateway_of setup ≡ dispatch.state.gateway → dispatch.state.core ≡ new_core setup →
-    count ≡ length dispatch.state.core.terminals → dispatch.readers.items ≡ replicate count [] → LeavesRoom setup.slots dispatch.state.records → (observed : Observed) → StandsFor dispatch.state.records.journal observed → IsReady dispatch observed
-opened-ready in_order setup dispatch count within folded gateway new counted empty leaves observed stands = record {
+    count ≡ length dispatch.state.core.terminals → dispatch.readers.items ≡ replicate count [] → dispatch.tills.list.items ≡ [] → LeavesRoom setup.slots dispatch.state.records → (observed : Observed) → StandsFor dispatch.state.records.journal observed → IsReady dispatch observed
+opened-ready in_order setup dispatch count within folded gateway new counted empty none leaves observed stands = record {
   well = record {
     order = record {
       setup = setup;
       gateway_is = gateway;
       of_setup = record { within = within; settings = ap settings_of new ∙ new-settings setup.terminals };
       folded = folded;
-      room = subst (λ (g : Gateway). length dispatch.state.records.ledger.records + open_count_of dispatch.state.records.ledger.records ≤ g.slots) gateway leaves.room;
-      terminals = subst (AreTerminalsInOrder dispatch.state.records.ledger.records) (sym new) (in_order setup dispatch.state.records.ledger.records);
+      room = omega (arith, leaves.room, none_served, ap (λ (g : Gateway). g.slots) gateway);
+      numbered = subst IsNumbered (sym new) (omega arith);
+      terminals = subst (AreTerminalsInOrder dispatch.state.records.ledger.records) (sym new) (in_order setup dispatch.state.records.ledger.records).0;
       dialogues = ready.dialogues;
     };
     records = record { count = leaves.count; slots = leaves.slots_are ∙ ap (λ (g : Gateway). g.slots) gateway; stands = stands };
+    spare = omega (arith, none_served);
   };
+  tills = λ number. subst (λ tills. IsIncompleteFrame (bytes_held number tills)) (sym none) empty-waits;
   terminals = ready;
 }
   where
+    none_served : days_served dispatch.state.core.terminals ≡ 0
+    none_served = ap (λ (core : Core). days_served core.terminals) new ∙ (in_order setup dispatch.state.records.ledger.records).1
+
     ready : AreReady dispatch.state.core dispatch.readers.items
     ready = new-ready setup dispatch.state.core dispatch.readers.items count new counted empty

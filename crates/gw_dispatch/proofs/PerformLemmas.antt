@@ -1,5 +1,5 @@
 -- What is wanted of a terminal, beside what the core remembers then.
-use Rattle.std.proofs.Common.{◌≡◌, ◌<◌, ℕ, List, [], ◌∷◌, length, refl, sym, ◌∙◌, ap, subst, Bool, true, false}
+use Rattle.std.proofs.Common.{◌≡◌, ◌⊎◌, inl, inr, ◌<◌, ◌≤◌, ℕ, List, [], ◌∷◌, length, refl, sym, ◌∙◌, ap, subst, arith, Bool, true, false}
 use Rattle.std.specs.Prelude.{ℤ, slice_get, Option, Some, None, Result, Ok, Err, IfSome, is_ok}
 use Rattle.gw_base.specs.Moment.{moment_of}
 use Rattle.gw_base.specs.declared.setup.Setup.{Setup}
@@ -16,34 +16,41 @@ use Rattle.zvt_msg.specs.Message.{MessageValue}
 use Rattle.zvt_msg.specs.MessageDecode.{decode_pt_message}
 use Rattle.gw_owes.specs.Calls.{OwedCall, Sending, SendTill, SendPt, CutTill, CutPt, LinkPt, WriteBody, WriteGate, WriteFirstGate, Sync, Ask, Acknowledge, Refuse, sending_bytes}
 use Rattle.gw_owes.specs.Core.{Core}
-use Rattle.gw_owes.specs.Deadlines.{is_due, is_late, due_row, late_row}
+use Rattle.gw_owes.specs.Days.{days_served}
+use Rattle.gw_owes.specs.Deadlines.{is_due, due_row, late_row}
 use Rattle.gw_owes.specs.Dialogues.{AllHaveDialogues, OthersHaveDialogues}
-use Rattle.gw_owes.specs.Greeting.{greet_decoded, greeted_row, greeting, outside_row, sending_calls}
+use Rattle.gw_owes.specs.Greeting.{greet_decoded, greeted_row, outside_row}
 use Rattle.gw_owes.specs.Handling.{handle_decoded}
 use Rattle.gw_owes.specs.Items.{RoundItem, Greet, Handle, NextWaiting, Late, Due}
 use Rattle.gw_owes.specs.Links.{is_linked, cutting, LinkEvent, LinkIsMade, LinkHasFailed, LinkIsLost, link_row}
-use Rattle.gw_owes.specs.Reply.{ReplyValue}
+use Rattle.gw_owes.specs.Reply.{PrintRequest, ReplyValue, reply_value_tree}
+use Rattle.sale_values.specs.declared.header.Header.{Header}
+use Rattle.gw_core.specs.declared.act.Printed.{Printed}
+use Rattle.gw_owes.specs.Rows.{row_of}
+use Rattle.sale_reply.specs.Reply.{tree_of}
+use Rattle.sale_reply.specs.declared.reply.SaleReply.{SaleReply}
+use Rattle.gw_rules.specs.Lawful.{may_begin}
+use Rattle.gw_rules.specs.Scene.{Scene}
+use Rattle.gw_site.specs.Outside.{Connection}
 use Rattle.gw_owes.specs.RecordLaws.{AreOthersInOrder, AreTerminalsInOrder}
 use Rattle.gw_owes.specs.Row.{Known, Row, becoming, owing, owing_where}
-use Rattle.gw_owes.specs.Terminals.{of_terminal, registers, reply_calls_to, reply_to_lost, reply_to_unfinished, unlinks, link_lost}
-use Rattle.gw_owes.specs.TerminalLaws.{ChangesTerminalAlone}
-use Rattle.gw_owes.specs.declared.terminal.Service.{Service}
-use Rattle.gw_owes.specs.declared.terminal.Service.TheVariants.{Transaction, EndOfDay, Display as DisplayService}
+use Rattle.gw_owes.specs.Terminals.{of_terminal, registers, reply_calls_to, reply_to_lost, unlinks, link_lost}
+use Rattle.gw_owes.specs.TerminalLaws.{ChangesTerminalAlone, owes_cut}
 use Rattle.gw_owes.specs.declared.terminal.Standing.{Standing}
 use Rattle.gw_owes.specs.declared.terminal.Standing.TheVariants.{Unlinked, Registering, Enquiring, Ready, Serving, Aside}
 use Rattle.gw_owes.specs.declared.terminal.Terminal.{Terminal}
 use Rattle.gw_owes.proofs.DialogueLemmas.{links-give}
-use Rattle.gw_owes.proofs.HandlingLemmas.{each-linked, each-terminal}
+use Rattle.gw_owes.proofs.HandlingLemmas.{each-terminal}
 use Rattle.gw_owes.proofs.OrderLemmas.{links-in-order}
 use Rattle.gw_owes.proofs.TerminalLemmas.{link-changes-alone}
 use Rattle.gw_rules.specs.Triple.{Triple}
 use Rattle.gw_rules.proofs.TripleLemmas.{triple-refl, triple-then}
 use Rattle.gw_core.specs.declared.act.Act.{Act}
 use Rattle.gw_core.specs.declared.act.Act.TheVariants as act
-use Rattle.gw_core.specs.IsRow.{IsAbout, IsActs, IsPaymentOrReversal, IsRow, IsWantedAt, ServesNoOther, alone, known_with, link_event_of}
+use Rattle.gw_core.specs.IsRow.{AreCallsThen, AreCallsWith, IsAbout, IsActs, IsRow, IsWantedAt, IsWritable, alone, known_with, lines_printed, link_event_of}
 use Rattle.gw_dispatch.specs.RunState.{OthersStayInOrder, StaysInOrder}
 use Rattle.gw_dispatch.specs.MidRound.{AreHeard, MidRound, is_linked_in}
-use Rattle.gw_dispatch.specs.Wanted.{IsOutside, calls_wanted, owes_link, sends_reply}
+use Rattle.gw_dispatch.specs.Wanted.{IsOutside, act_calls, calls_wanted, is_none_or_reply, is_reply, owes_link}
 use Rattle.gw_dispatch.specs.declared.tills.Till.{Till}
 use Rattle.gw_dispatch.proofs.HeardLemmas.{heard-stays, heard-linked}
 use Rattle.gw_dispatch.proofs.StepLemmas.{BeginsMidRound, begin-held, cut-held, sent-held, unsent-held, made-held, failed-held}
@@ -51,45 +58,54 @@ use Rattle.gw_dispatch.proofs.LinkLemmas.{KeepsLinks}
 
 -- ---- what is wanted, and what is owed
 
--- a till is sent something by one of these calls
-abbrev pub replies_to_till : List OwedCall → Bool
-replies_to_till [] = false
-replies_to_till (SendTill till reply ∷ calls) = true
-replies_to_till (SendPt number sending ∷ calls) = replies_to_till calls
-replies_to_till (CutTill till ∷ calls) = replies_to_till calls
-replies_to_till (CutPt number ∷ calls) = replies_to_till calls
-replies_to_till (LinkPt number ∷ calls) = replies_to_till calls
-replies_to_till (WriteBody slot the_record ∷ calls) = replies_to_till calls
-replies_to_till (WriteGate slot the_record ∷ calls) = replies_to_till calls
-replies_to_till (WriteFirstGate ∷ calls) = replies_to_till calls
-replies_to_till (Sync ∷ calls) = replies_to_till calls
-
--- where nothing is sent to a till no reply is wanted
-wanted-quiet : (slot : ℕ) (wanted : Option Act) (calls : List OwedCall) → replies_to_till calls ≡ false → IsActs slot (alone wanted) calls → sends_reply wanted ≡ false
-wanted-quiet slot None calls none is = refl
-wanted-quiet slot (Some (act.SendPt number command)) calls none is = refl
-wanted-quiet slot (Some (act.Ack number)) calls none is = refl
-wanted-quiet slot (Some (act.Refuse number)) calls none is = refl
-wanted-quiet slot (Some (act.CutPt number)) calls none is = refl
-wanted-quiet slot (Some (act.Link number)) calls none is = refl
-wanted-quiet slot (Some (act.SendTill till given)) calls none is = absurd (let h : true ≡ false = sym (ap replies_to_till is.2) ∙ none in cc)
-
--- the calls that are owed are those wanted, where no reply is
-wanted-calls : (slot : ℕ) (wanted : Option Act) (calls : List OwedCall) → sends_reply wanted ≡ false → IsActs slot (alone wanted) calls → calls ≡ calls_wanted wanted
-wanted-calls slot None calls none is = is
-wanted-calls slot (Some (act.SendPt number command)) calls none is = is
-wanted-calls slot (Some (act.Ack number)) calls none is = is
-wanted-calls slot (Some (act.Refuse number)) calls none is = is
-wanted-calls slot (Some (act.CutPt number)) calls none is = is
-wanted-calls slot (Some (act.Link number)) calls none is = is
-wanted-calls slot (Some (act.SendTill till given)) calls none is = absurd (let h : true ≡ false = none in cc)
-
 -- the row that the core went by
-pub row-becomes : (kept : List Record) (row : Row) (core : Core) (wanted : Option Act) → sends_reply wanted ≡ false → IsRow kept row core (alone wanted) → row ≡ becoming core (calls_wanted wanted)
-row-becomes kept row core wanted none is =
+pub row-becomes : (kept : List Record) (row : Row) (core : Core) (wanted : Option Act) → IsRow kept row core (alone wanted) → row ≡ becoming core row.calls
+row-becomes kept row core wanted is =
     ap (λ items. record { core = row.core; calls = row.calls; items = items }) is.items_are
-    ∙ ap (λ calls. record { core = row.core; calls = calls; items = [] }) (wanted-calls (length kept) wanted row.calls none is.calls_are)
-    ∙ ap (λ (c : Core). record { core = c; calls = calls_wanted wanted; items = [] }) (sym is.core_is)
+    ∙ ap (λ (c : Core). record { core = c; calls = row.calls; items = [] }) (sym is.core_is)
+
+-- what isn't sent to a till is its call
+pub plain-calls : (one : Act) (calls : List OwedCall) → is_reply one ≡ false → AreCallsThen [] one calls → calls ≡ act_calls one
+plain-calls (act.SendPt number command) calls quiet is = is
+plain-calls (act.Ack number) calls quiet is = is
+plain-calls (act.Refuse number) calls quiet is = is
+plain-calls (act.CutPt number) calls quiet is = is
+plain-calls (act.Link number) calls quiet is = is
+plain-calls (act.SendTill till given) calls quiet is = absurd (let h : true ≡ false = quiet in cc)
+plain-calls (act.Print till header printed) calls quiet is = absurd (let h : true ≡ false = quiet in cc)
+
+pub rest-link : (wanted : Option Act) (rest : List OwedCall) → AreCallsWith [] wanted rest → owes_link rest ≡ owes_link (calls_wanted wanted)
+rest-link None rest is = ap owes_link is
+rest-link (Some (act.SendPt pt command)) rest is = ap owes_link is
+rest-link (Some (act.Ack pt)) rest is = ap owes_link is
+rest-link (Some (act.Refuse pt)) rest is = ap owes_link is
+rest-link (Some (act.CutPt pt)) rest is = ap owes_link is
+rest-link (Some (act.Link pt)) rest is = ap owes_link is
+rest-link (Some (act.SendTill till given)) rest is = ap owes_link is.2
+rest-link (Some (act.Print till header printed)) rest is = ap owes_link is
+
+-- each of these calls sends a till something
+abbrev replies_only : List OwedCall → Bool
+replies_only [] = true
+replies_only (SendTill till reply ∷ calls) = replies_only calls
+replies_only (SendPt number sending ∷ calls) = false
+replies_only (CutTill till ∷ calls) = false
+replies_only (CutPt number ∷ calls) = false
+replies_only (LinkPt number ∷ calls) = false
+replies_only (WriteBody slot the_record ∷ calls) = false
+replies_only (WriteGate slot the_record ∷ calls) = false
+replies_only (WriteFirstGate ∷ calls) = false
+replies_only (Sync ∷ calls) = false
+
+wanted-reply : (wanted : Option Act) (calls : List OwedCall) → replies_only calls ≡ true → AreCallsWith [] wanted calls → is_none_or_reply wanted ≡ true
+wanted-reply None calls only is = refl
+wanted-reply (Some (act.SendPt number command)) calls only is = absurd (let h : false ≡ true = sym (ap replies_only is) ∙ only in cc)
+wanted-reply (Some (act.Ack number)) calls only is = absurd (let h : false ≡ true = sym (ap replies_only is) ∙ only in cc)
+wanted-reply (Some (act.Refuse number)) calls only is = absurd (let h : false ≡ true = sym (ap replies_only is) ∙ only in cc)
+wanted-reply (Some (act.CutPt number)) calls only is = absurd (let h : false ≡ true = sym (ap replies_only is) ∙ only in cc)
+wanted-reply (Some (act.Link number)) calls only is = absurd (let h : false ≡ true = sym (ap replies_only is) ∙ only in cc)
+wanted-reply (Some (act.SendTill till given)) calls only is = refl
+wanted-reply (Some (act.Print till header printed)) calls only is = refl
 
 -- ---- dialogues
 
@@ -121,62 +137,42 @@ link-alone old new moment pt event wanted is = of-row (ChangesTerminalAlone pt o
 
 -- the terminal of a link stays in order whatever it had before
 pub link-orders : (old new : Core) (moment pt : ℕ) (event : LinkEvent) (wanted : Option Act) → IsRowOf old moment (λ known. link_row known pt event) new wanted → OthersStayInOrder pt old new
-link-orders old new moment pt event wanted is = record {
-  settings = (link-alone old new moment pt event wanted is).settings;
-  order = λ kept others.
-      let r = is no_setup kept in
-      subst (AreTerminalsInOrder kept) (sym r.core_is) (links-in-order (known_with no_setup kept old moment) pt event others);
+link-orders old new moment pt event wanted is =
+    let all = λ (kept : List Record). links-in-order (known_with no_setup kept old moment) pt event in
+    let r = is no_setup [] in
+    record {
+      settings = (link-alone old new moment pt event wanted is).settings;
+      days = subst (λ (c : Core). days_served c.terminals ≤ days_served old.terminals) (sym r.core_is) (all []).days;
+      device_requests = ap (λ (c : Core). c.device_requests) r.core_is ∙ (all []).device_requests;
+      order = λ kept others. let by = is no_setup kept in subst (AreTerminalsInOrder kept) (sym by.core_is) ((all kept).terminals others);
+    }
+
+-- what is remembered stays in order by one change and another
+pub others-then : (pt : ℕ) (old mid new : Core) → OthersStayInOrder pt old mid → StaysInOrder mid new → OthersStayInOrder pt old new
+others-then pt old mid new one other = record {
+  settings = other.settings ∙ one.settings;
+  days = omega (arith, one.days, other.days);
+  device_requests = other.device_requests ∙ one.device_requests;
+  order = λ kept others. other.order kept (one.order kept others);
 }
 
 pub others-in-order : (kept : List Record) (core : Core) (pt : ℕ) → AreTerminalsInOrder kept core → AreOthersInOrder pt kept core
 others-in-order kept core pt all = λ number terminal apart found. all number terminal found
 
 pub all-in-order : (old new : Core) (pt : ℕ) → OthersStayInOrder pt old new → StaysInOrder old new
-all-in-order old new pt stays = record { settings = stays.settings; order = λ kept all. stays.order kept (others-in-order kept old pt all) }
+all-in-order old new pt stays = record { settings = stays.settings; days = stays.days; device_requests = stays.device_requests; order = λ kept all. stays.order kept (others-in-order kept old pt all) }
 
-unfinished-none : (asker : Option ℕ) (service : Service) → IsPaymentOrReversal service → reply_calls_to asker (reply_to_unfinished service) ≡ []
-unfinished-none None service is = refl
-unfinished-none (Some till) (Transaction slot) is = refl
-unfinished-none (Some till) (EndOfDay header period) is = absurd is
-unfinished-none (Some till) (DisplayService header outputs) is = absurd is
+lost-reply-only : (asker : Option ℕ) (reply : Option ReplyValue) → replies_only (reply_calls_to asker reply) ≡ true
+lost-reply-only None reply = refl
+lost-reply-only (Some till) None = refl
+lost-reply-only (Some till) (Some reply) = refl
 
-pub lost-none : (asker : Option ℕ) (standing : Standing) → ServesNoOther standing → reply_calls_to asker (reply_to_lost standing) ≡ []
-lost-none None standing none = refl
-lost-none (Some till) (Unlinked due) none = refl
-lost-none (Some till) Registering none = refl
-lost-none (Some till) Enquiring none = refl
-lost-none (Some till) (Ready last) none = refl
-lost-none (Some till) (Serving service last) none = unfinished-none (Some till) service none
-lost-none (Some till) (Aside before reported) none = refl
-
-lost-calls : (known : Known) (pt : ℕ) (found : Option Terminal) → IfSome found (λ (terminal : Terminal). ServesNoOther terminal.standing) → (of_terminal known (unlinks known pt) found).calls ≡ []
-lost-calls known pt None none = refl
-lost-calls known pt (Some terminal) none = lost-none terminal.asker terminal.standing none
-
--- an event of a link sends no till anything, where nothing but a payment or a reversal is served
-link-replies-none : (known : Known) (pt : ℕ) (event : LinkEvent) → IfSome (slice_get known.core.terminals pt) (λ (terminal : Terminal). ServesNoOther terminal.standing) → replies_to_till (link_row known pt event).calls ≡ false
-link-replies-none known pt LinkIsMade none = each-terminal (λ (row : Row). replies_to_till row.calls ≡ false) known pt (registers known pt) refl (λ terminal found. refl)
-link-replies-none known pt LinkHasFailed none = ap replies_to_till (lost-calls known pt (slice_get known.core.terminals pt) none)
-link-replies-none known pt LinkIsLost none = ap replies_to_till (lost-calls known pt (slice_get known.core.terminals pt) none)
-
-pub link-no-reply : (old new : Core) (moment pt : ℕ) (event : LinkEvent) (wanted : Option Act) → IfSome (slice_get old.terminals pt) (λ (terminal : Terminal). ServesNoOther terminal.standing) → IsRowOf old moment (λ known. link_row known pt event) new wanted → sends_reply wanted ≡ false
-link-no-reply old new moment pt event wanted none is =
+-- the loss of a link owes at most a reply to a till
+pub lost-reply : (old new : Core) (moment pt : ℕ) (wanted : Option Act) → IsRowOf old moment (λ known. link_row known pt LinkIsLost) new wanted → is_none_or_reply wanted ≡ true
+lost-reply old new moment pt wanted is =
     let r = is no_setup [] in
-    wanted-quiet 0 wanted (link_row (known_with no_setup [] old moment) pt event).calls (link-replies-none (known_with no_setup [] old moment) pt event none) r.calls_are
-
--- nor is a reply wanted by a row that sends no till anything
-pub row-no-reply : (old new : Core) (moment : ℕ) (row : Known → Row) (wanted : Option Act) → ((known : Known) → replies_to_till (row known).calls ≡ false) → IsRowOf old moment row new wanted → sends_reply wanted ≡ false
-row-no-reply old new moment row wanted each is = let r = is no_setup [] in wanted-quiet 0 wanted (row (known_with no_setup [] old moment)).calls (each (known_with no_setup [] old moment)) r.calls_are
-
--- the calls of a row that wants no reply
-row-calls : (old new : Core) (moment : ℕ) (row : Known → Row) (wanted : Option Act) → sends_reply wanted ≡ false → IsRowOf old moment row new wanted → (row (known_with no_setup [] old moment)).calls ≡ calls_wanted wanted
-row-calls old new moment row wanted none is = let r = is no_setup [] in wanted-calls 0 wanted (row (known_with no_setup [] old moment)).calls none r.calls_are
-
--- the loss of a link owes nothing where nothing but a payment or a reversal is served
-pub lost-owes-none : (old new : Core) (moment pt : ℕ) (wanted : Option Act) → IfSome (slice_get old.terminals pt) (λ (terminal : Terminal). ServesNoOther terminal.standing) → IsRowOf old moment (λ known. link_row known pt LinkIsLost) new wanted → calls_wanted wanted ≡ []
-lost-owes-none old new moment pt wanted none is =
-    sym (row-calls old new moment (λ known. link_row known pt LinkIsLost) wanted (link-no-reply old new moment pt LinkIsLost wanted none is) is)
-    ∙ lost-calls (known_with no_setup [] old moment) pt (slice_get old.terminals pt) none
+    wanted-reply wanted (link_row (known_with no_setup [] old moment) pt LinkIsLost).calls
+    (each-terminal (λ (row : Row). replies_only row.calls ≡ true) (known_with no_setup [] old moment) pt (unlinks (known_with no_setup [] old moment) pt) refl (λ terminal found. lost-reply-only terminal.asker (reply_to_lost terminal.standing))) r.calls_are
 
 reply-no-link : (asker : Option ℕ) (reply : Option ReplyValue) → owes_link (reply_calls_to asker reply) ≡ false
 reply-no-link None reply = refl
@@ -192,42 +188,17 @@ link-none known pt LinkHasFailed = lost-no-link known pt
 link-none known pt LinkIsLost = lost-no-link known pt
 
 -- what a link leaves links none
-pub link-no-link : (old new : Core) (moment pt : ℕ) (event : LinkEvent) (wanted : Option Act) → sends_reply wanted ≡ false → IsRowOf old moment (λ known. link_row known pt event) new wanted → owes_link (calls_wanted wanted) ≡ false
-link-no-link old new moment pt event wanted quiet is =
-    ap owes_link (sym (row-calls old new moment (λ known. link_row known pt event) wanted quiet is)) ∙ link-none (known_with no_setup [] old moment) pt event
+pub link-no-link : (old new : Core) (moment pt : ℕ) (event : LinkEvent) (wanted : Option Act) → IsRowOf old moment (λ known. link_row known pt event) new wanted → owes_link (calls_wanted wanted) ≡ false
+link-no-link old new moment pt event wanted is =
+    let r = is no_setup [] in
+    sym (rest-link wanted (link_row (known_with no_setup [] old moment) pt event).calls r.calls_are) ∙ link-none (known_with no_setup [] old moment) pt event
 
 -- nor does a row that keeps links
-pub keeps-no-link : (old new : Core) (moment : ℕ) (row : Known → Row) (wanted : Option Act) → sends_reply wanted ≡ false → ((known : Known) → KeepsLinks known.core (row known)) → IsRowOf old moment row new wanted → owes_link (calls_wanted wanted) ≡ false
-keeps-no-link old new moment row wanted quiet each is =
+pub keeps-no-link : (old new : Core) (moment : ℕ) (row : Known → Row) (wanted : Option Act) → ((known : Known) → KeepsLinks known.core (row known)) → IsRowOf old moment row new wanted → owes_link (calls_wanted wanted) ≡ false
+keeps-no-link old new moment row wanted each is =
     let k = each (known_with no_setup [] old moment) in
-    ap owes_link (sym (row-calls old new moment row wanted quiet is)) ∙ k.none
-
--- ---- rows that send no till anything
-
--- a silence
-pub late-replies-none : (known : Known) (pt : ℕ) → replies_to_till (late_row known pt).calls ≡ false
-late-replies-none known pt = each-terminal (λ (row : Row). replies_to_till row.calls ≡ false) known pt (λ terminal. owing_where (is_late known.moment terminal.talk) known (cutting known pt)) refl (λ terminal found. by_test (is_late known.moment terminal.talk))
-  where
-    by_test : (test : Bool) → replies_to_till (owing_where test known (cutting known pt)).calls ≡ false
-    by_test true = refl
-    by_test false = refl
-
--- what is due
-pub due-replies-none : (known : Known) (pt : ℕ) → replies_to_till (due_row known pt).calls ≡ false
-due-replies-none known pt = each-terminal (λ (row : Row). replies_to_till row.calls ≡ false) known pt (λ terminal. owing_where (is_due known.moment terminal.standing) known (owing known (LinkPt pt ∷ []))) refl (λ terminal found. by_test (is_due known.moment terminal.standing))
-  where
-    by_test : (test : Bool) → replies_to_till (owing_where test known (owing known (LinkPt pt ∷ []))).calls ≡ false
-    by_test true = refl
-    by_test false = refl
-
-sending-replies-none : (pt : ℕ) (sending : Option Sending) → replies_to_till (sending_calls pt sending) ≡ false
-sending-replies-none pt None = refl
-sending-replies-none pt (Some sending) = refl
-
--- a greeting
-pub greeted-replies-none : (known : Known) (pt : ℕ) (message : MessageValue) → replies_to_till (greeted_row known pt message).calls ≡ false
-greeted-replies-none known pt message =
-    each-linked (λ (row : Row). replies_to_till row.calls ≡ false) known pt (λ terminal. owing known (sending_calls pt (greeting message))) refl (λ terminal found linked. sending-replies-none pt (greeting message))
+    let r = is no_setup [] in
+    sym (rest-link wanted (row (known_with no_setup [] old moment)).calls r.calls_are) ∙ k.none
 
 -- ---- what is found of a terminal
 
@@ -253,7 +224,8 @@ some-calls slot (act.Ack number) same = absurd cc
 some-calls slot (act.Refuse number) same = absurd cc
 some-calls slot (act.CutPt number) same = absurd cc
 some-calls slot (act.Link number) same = absurd cc
-some-calls slot (act.SendTill till given) same = absurd (let h : false ≡ true = ap replies_to_till same.2 in cc)
+some-calls slot (act.SendTill till given) same = absurd (let h : [] ≡ SendTill till same.0 ∷ [] = same.2 in cc)
+some-calls slot (act.Print till header printed) same = absurd cc
 
 due-found : (known : Known) (pt : ℕ) (found : Option Terminal) (slot : ℕ) (one : Act) → IsActs slot (alone (Some one)) (of_terminal known (λ terminal. owing_where (is_due known.moment terminal.standing) known (owing known (LinkPt pt ∷ []))) found).calls
     → (of_terminal known (λ terminal. owing_where (is_due known.moment terminal.standing) known (owing known (LinkPt pt ∷ []))) found ≡ owing known (LinkPt pt ∷ [])) × (is_linked_in found ≡ false)
@@ -289,12 +261,50 @@ due-now old moment pt wanted one some is =
 -- ---- calls
 
 -- from these calls, owed of what is held, to none
-abbrev pub Performs : Observed → Observed → Core → Core → ℤ → List OwedCall → Type 0
-Performs a b old new now calls = (setup : Setup) (kept : List Record) (tills : List Till) (polls : ℕ) (heard : ℕ → List ℕ) (items : List RoundItem) →
-    Triple a b (MidRound setup old kept tills polls now (AreHeard heard) calls items) (MidRound setup new kept tills polls now (AreHeard heard) [] items)
+abbrev pub Performs : Observed → Observed → Core → Core → List Till → List Till → ℤ → List OwedCall → Type 0
+Performs a b old new tills left now calls = (setup : Setup) (kept : List Record) (polls : ℕ) (heard : ℕ → List ℕ) (items : List RoundItem) →
+    Triple a b (MidRound setup old kept tills polls now (AreHeard heard) calls items) (MidRound setup new kept left polls now (AreHeard heard) [] items)
 
-pub by-calls : (a b : Observed) (old new : Core) (now : ℤ) (one other : List OwedCall) → one ≡ other → Performs a b old new now other → Performs a b old new now one
-by-calls a b old new now one other same performs = subst (Performs a b old new now) (sym same) performs
+-- what makes the call that is wanted
+abbrev pub MakesCall : Observed → Observed → Core → Core → List Till → List Till → ℤ → Option Act → Type 0
+MakesCall a b old new tills left now wanted = (calls : List OwedCall) → AreCallsWith [] wanted calls → Performs a b old new tills left now calls
+
+pub by-calls : (a b : Observed) (old new : Core) (tills left : List Till) (now : ℤ) (one other : List OwedCall) → one ≡ other → Performs a b old new tills left now other → Performs a b old new tills left now one
+by-calls a b old new tills left now one other same performs = subst (Performs a b old new tills left now) (sym same) performs
+
+-- no call is made
+pub none-performed : (s : Observed) (core : Core) (tills : List Till) (now : ℤ) → Performs s s core core tills tills now []
+none-performed s core tills now = λ setup kept polls heard items. triple-refl s _
+
+-- nothing is wanted
+pub at-none : (s : Observed) (core : Core) (tills : List Till) (now : ℤ) (wanted : Option Act) → wanted ≡ None → MakesCall s s core core tills tills now wanted
+at-none s core tills now wanted none = λ calls is. by-calls s s core core tills tills now calls [] (subst (λ w. AreCallsWith [] w calls) none is) (none-performed s core tills now)
+
+-- a till is sent a reply
+pub at-reply : (a b : Observed) (old new : Core) (tills left : List Till) (now : ℤ) (wanted : Option Act) (till : ℕ) (given : SaleReply) → wanted ≡ Some (act.SendTill till given) →
+    ((owed : ReplyValue) → tree_of given ≡ reply_value_tree owed → Performs a b old new tills left now (SendTill till owed ∷ [])) → MakesCall a b old new tills left now wanted
+at-reply a b old new tills left now wanted till given is delivers = λ calls are.
+    let one : AreCallsWith [] (Some (act.SendTill till given)) calls = subst (λ w. AreCallsWith [] w calls) is are in
+    by-calls a b old new tills left now calls (SendTill till one.0 ∷ []) one.2 (delivers one.0 one.1.0)
+
+-- lines are printed at a till
+pub at-print : (a b : Observed) (old new : Core) (tills left : List Till) (now : ℤ) (wanted : Option Act) (till : ℕ) (header : Header) (printed : Printed) → wanted ≡ Some (act.Print till header printed) → Performs a b old new tills left now (SendTill till (PrintRequest header (lines_printed printed)) ∷ []) → MakesCall a b old new tills left now wanted
+at-print a b old new tills left now wanted till header printed is prints = λ calls are.
+    by-calls a b old new tills left now calls (SendTill till (PrintRequest header (lines_printed printed)) ∷ []) (subst (λ w. AreCallsWith [] w calls) is are) prints
+
+-- what sends a till something cuts no terminal
+pub send-uncut : (wanted : Option Act) (one : Act) → wanted ≡ Some one → ((till : ℕ) × (given : SaleReply) × (one ≡ act.SendTill till given)) ⊎ ((till : ℕ) × (header : Header) × (printed : Printed) × (one ≡ act.Print till header printed)) → owes_cut (calls_wanted wanted) ≡ false
+send-uncut wanted one is (inl (till, given, e)) = ap (λ w. owes_cut (calls_wanted w)) (is ∙ ap Some e)
+send-uncut wanted one is (inr (till, header, printed, e)) = ap (λ w. owes_cut (calls_wanted w)) (is ∙ ap Some e)
+
+-- a terminal's call is made
+pub at-plain : (a b : Observed) (old new : Core) (tills left : List Till) (now : ℤ) (wanted : Option Act) (one : Act) → wanted ≡ Some one → is_reply one ≡ false → Performs a b old new tills left now (calls_wanted wanted) → MakesCall a b old new tills left now wanted
+at-plain a b old new tills left now wanted one is quiet performs = λ calls are.
+    by-calls a b old new tills left now calls (calls_wanted wanted) (plain-calls one calls quiet (subst (λ w. AreCallsWith [] w calls) is are) ∙ ap calls_wanted (sym is)) performs
+
+pub wanted-writable : (pt : ℕ) (wanted : Option Act) → IfSome wanted (IsWantedAt pt) → IfSome wanted IsWritable
+wanted-writable pt None at = tt
+wanted-writable pt (Some one) at = at.writable
 
 at-wanted : (pt : ℕ) (wanted : Option Act) (one : Act) → wanted ≡ Some one → IfSome wanted (IsWantedAt pt) → IsAbout pt one
 at-wanted pt wanted one is at = let w : IsWantedAt pt one = subst (λ w. IfSome w (IsWantedAt pt)) is at in w.about
@@ -319,101 +329,106 @@ cuts-calls pt number wanted one is one_is at =
     let w : wanted ≡ Some (act.CutPt number) = is ∙ ap Some one_is in
     ap calls_wanted w ∙ ap (λ n. CutPt n ∷ []) (at-wanted pt wanted (act.CutPt number) w at)
 
--- the cut of a terminal that serves nothing but a payment or a reversal
-pub cut-performs : (a b : Observed) (old new : Core) (now : ℤ) (pt : ℕ) (wanted : Option Act) → IfSome (slice_get old.terminals pt) (λ (terminal : Terminal). ServesNoOther terminal.standing) →
-    IsRowOf old (moment_of now) (λ known. link_row known pt LinkIsLost) new wanted → Grows a b (IsTurn (PtCut pt)) → IsStep a b (CutPtCall pt) → Performs a b old new now (CutPt pt ∷ [])
-cut-performs a b old new now pt wanted none is grows step = λ setup kept tills polls heard items.
-    cut-held setup kept tills polls now (AreHeard heard) a b old new pt items (heard-stays pt heard) grows step
-    (row-becomes kept (link_row (known_with setup kept old (moment_of now)) pt LinkIsLost) new wanted (link-no-reply old new (moment_of now) pt LinkIsLost wanted none is) (is setup kept) ∙ ap (becoming new) (lost-owes-none old new (moment_of now) pt wanted none is))
+-- the cut of a terminal, and the reply that is owed then
+pub cut-performs : (a b c : Observed) (old mid new : Core) (tills left : List Till) (now : ℤ) (pt : ℕ) (wanted : Option Act) → IsRowOf old (moment_of now) (λ known. link_row known pt LinkIsLost) mid wanted →
+    Grows a b (IsTurn (PtCut pt)) → IsStep a b (CutPtCall pt) → MakesCall b c mid new tills left now wanted → Performs a c old new tills left now (CutPt pt ∷ [])
+cut-performs a b c old mid new tills left now pt wanted is grows step makes = λ setup kept polls heard items.
+    let row : Row = link_row (known_with setup kept old (moment_of now)) pt LinkIsLost in
+    let r = is setup kept in
+    triple-then a b c _ _ _
+    (cut-held setup kept tills polls now (AreHeard heard) a b old mid pt row.calls items (heard-stays pt heard) grows step (row-becomes kept row mid wanted r))
+    (makes row.calls r.calls_are setup kept polls heard items)
 
 -- a send that went
-pub sent-performs : (a b : Observed) (old : Core) (now : ℤ) (pt : ℕ) (bytes : List ℕ) (sending : Sending) (r : Result (Unit {0}) Failed) (sent : Bool) → sent ≡ is_ok r → sent ≡ true → bytes ≡ sending_bytes sending → Grows a b (SentPtTurns pt bytes r) → IsStep a b (SendPtCall pt bytes) →
-    Performs a b old old now (SendPt pt sending ∷ [])
-sent-performs a b old now pt bytes sending (Ok done) sent value went is grows step = λ setup kept tills polls heard items.
+pub sent-performs : (a b : Observed) (old : Core) (tills : List Till) (now : ℤ) (pt : ℕ) (bytes : List ℕ) (sending : Sending) (r : Result (Unit {0}) Failed) (sent : Bool) → sent ≡ is_ok r → sent ≡ true → bytes ≡ sending_bytes sending → Grows a b (SentPtTurns pt bytes r) → IsStep a b (SendPtCall pt bytes) →
+    Performs a b old old tills tills now (SendPt pt sending ∷ [])
+sent-performs a b old tills now pt bytes sending (Ok done) sent value went is grows step = λ setup kept polls heard items.
     sent-held setup kept tills polls now (AreHeard heard) a b old pt sending done items (heard-stays pt heard) (subst (λ bytes. Grows a b (SentPtTurns {E = Failed} pt bytes (Ok done))) is grows) (subst (λ bytes. IsStep a b (SendPtCall pt bytes)) is step)
-sent-performs a b old now pt bytes sending (Err failed) sent value went is grows step = absurd (let h : false ≡ true = sym value ∙ went in cc)
+sent-performs a b old tills now pt bytes sending (Err failed) sent value went is grows step = absurd (let h : false ≡ true = sym value ∙ went in cc)
 
 -- a send that has failed, and the cut after it
-pub unsent-performs : (a b c : Observed) (old new : Core) (now : ℤ) (pt : ℕ) (bytes : List ℕ) (sending : Sending) (r : Result (Unit {0}) Failed) (sent : Bool) → sent ≡ is_ok r → sent ≡ false → bytes ≡ sending_bytes sending → Grows a b (SentPtTurns pt bytes r) → IsStep a b (SendPtCall pt bytes) →
-    Performs b c old new now (CutPt pt ∷ []) → Performs a c old new now (SendPt pt sending ∷ [])
-unsent-performs a b c old new now pt bytes sending (Ok done) sent value failed is grows step cuts = absurd (let h : true ≡ false = sym value ∙ failed in cc)
-unsent-performs a b c old new now pt bytes sending (Err fault) sent value failed is grows step cuts = λ setup kept tills polls heard items. triple-then a b c _ _ _
+pub unsent-performs : (a b c : Observed) (old new : Core) (tills left : List Till) (now : ℤ) (pt : ℕ) (bytes : List ℕ) (sending : Sending) (r : Result (Unit {0}) Failed) (sent : Bool) → sent ≡ is_ok r → sent ≡ false → bytes ≡ sending_bytes sending → Grows a b (SentPtTurns pt bytes r) → IsStep a b (SendPtCall pt bytes) →
+    Performs b c old new tills left now (CutPt pt ∷ []) → Performs a c old new tills left now (SendPt pt sending ∷ [])
+unsent-performs a b c old new tills left now pt bytes sending (Ok done) sent value failed is grows step cuts = absurd (let h : true ≡ false = sym value ∙ failed in cc)
+unsent-performs a b c old new tills left now pt bytes sending (Err fault) sent value failed is grows step cuts = λ setup kept polls heard items. triple-then a b c _ _ _
     (unsent-held setup kept tills polls now (AreHeard heard) a b old pt sending fault items (heard-stays pt heard) (subst (λ bytes. Grows a b (SentPtTurns pt bytes (Err fault))) is grows) (subst (λ bytes. IsStep a b (SendPtCall pt bytes)) is step))
-    (cuts setup kept tills polls heard items)
+    (cuts setup kept polls heard items)
 
 -- a link that was tried, and what is wanted then
-pub link-tried : (a b c : Observed) (old mid new : Core) (now : ℤ) (pt : ℕ) (r : Result (Unit {0}) Failed) (made : Bool) (wanted : Option Act) → sends_reply wanted ≡ false → made ≡ is_ok r → pt < length old.terminals → is_linked_in (slice_get old.terminals pt) ≡ false →
-    IsRowOf old (moment_of now) (λ known. link_row known pt (link_event_of made)) mid wanted → Grows a b (LinkTurns pt r) → IsStep a b (LinkCall pt) → Performs b c mid new now (calls_wanted wanted) →
-    (setup : Setup) (kept : List Record) (tills : List Till) (polls : ℕ) (heard : ℕ → List ℕ) (items : List RoundItem) → heard pt ≡ [] →
-    Triple a c (MidRound setup old kept tills polls now (AreHeard heard) (LinkPt pt ∷ []) items) (MidRound setup new kept tills polls now (AreHeard heard) [] items)
-link-tried a b c old mid new now pt (Ok done) made wanted quiet up inside unlinked is grows step performs = λ setup kept tills polls heard items none. triple-then a b c _ _ _
-    (made-held setup kept tills polls now (AreHeard heard) a b old mid pt done (calls_wanted wanted) items inside (heard-linked pt heard none) grows step
-    (row-becomes kept (link_row (known_with setup kept old (moment_of now)) pt LinkIsMade) mid wanted quiet (subst (λ m. IsRow kept (link_row (known_with setup kept old (moment_of now)) pt (link_event_of m)) mid (alone wanted)) up (is setup kept))))
-    (performs setup kept tills polls heard items)
-link-tried a b c old mid new now pt (Err failed) made wanted quiet up inside unlinked is grows step performs = λ setup kept tills polls heard items none. triple-then a b c _ _ _
-    (failed-held setup kept tills polls now (AreHeard heard) a b old mid pt failed (calls_wanted wanted) items unlinked (heard-linked pt heard none) grows step
-    (row-becomes kept (link_row (known_with setup kept old (moment_of now)) pt LinkIsLost) mid wanted quiet (subst (λ m. IsRow kept (link_row (known_with setup kept old (moment_of now)) pt (link_event_of m)) mid (alone wanted)) up (is setup kept))))
-    (performs setup kept tills polls heard items)
+pub link-tried : (a b c : Observed) (old mid new : Core) (tills left : List Till) (now : ℤ) (pt : ℕ) (r : Result (Unit {0}) Failed) (made : Bool) (wanted : Option Act) → made ≡ is_ok r → pt < length old.terminals → is_linked_in (slice_get old.terminals pt) ≡ false →
+    IsRowOf old (moment_of now) (λ known. link_row known pt (link_event_of made)) mid wanted → Grows a b (LinkTurns pt r) → IsStep a b (LinkCall pt) → MakesCall b c mid new tills left now wanted →
+    (setup : Setup) (kept : List Record) (polls : ℕ) (heard : ℕ → List ℕ) (items : List RoundItem) → heard pt ≡ [] →
+    Triple a c (MidRound setup old kept tills polls now (AreHeard heard) (LinkPt pt ∷ []) items) (MidRound setup new kept left polls now (AreHeard heard) [] items)
+link-tried a b c old mid new tills left now pt (Ok done) made wanted up inside unlinked is grows step makes = λ setup kept polls heard items none.
+    let row : Row = link_row (known_with setup kept old (moment_of now)) pt LinkIsMade in
+    let by : IsRow kept row mid (alone wanted) = subst (λ m. IsRow kept (link_row (known_with setup kept old (moment_of now)) pt (link_event_of m)) mid (alone wanted)) up (is setup kept) in
+    triple-then a b c _ _ _
+    (made-held setup kept tills polls now (AreHeard heard) a b old mid pt done row.calls items inside (heard-linked pt heard none) grows step (row-becomes kept row mid wanted by))
+    (makes row.calls by.calls_are setup kept polls heard items)
+link-tried a b c old mid new tills left now pt (Err failed) made wanted up inside unlinked is grows step makes = λ setup kept polls heard items none.
+    let row : Row = link_row (known_with setup kept old (moment_of now)) pt LinkIsLost in
+    let by : IsRow kept row mid (alone wanted) = subst (λ m. IsRow kept (link_row (known_with setup kept old (moment_of now)) pt (link_event_of m)) mid (alone wanted)) up (is setup kept) in
+    triple-then a b c _ _ _
+    (failed-held setup kept tills polls now (AreHeard heard) a b old mid pt failed row.calls items unlinked (heard-linked pt heard none) grows step (row-becomes kept row mid wanted by))
+    (makes row.calls by.calls_are setup kept polls heard items)
 
 -- ---- items
 
 -- from this item, before others, to those
-abbrev pub Handles : Observed → Observed → Core → Core → ℤ → RoundItem → Type 0
-Handles a b old new now item = (setup : Setup) (kept : List Record) (tills : List Till) (polls : ℕ) (heard : ℕ → List ℕ) (items : List RoundItem) →
-    Triple a b (MidRound setup old kept tills polls now (AreHeard heard) [] (item ∷ items)) (MidRound setup new kept tills polls now (AreHeard heard) [] items)
+abbrev pub Handles : Observed → Observed → Core → Core → List Till → List Till → ℤ → RoundItem → Type 0
+Handles a b old new tills left now item = (setup : Setup) (kept : List Record) (polls : ℕ) (heard : ℕ → List ℕ) (items : List RoundItem) →
+    Triple a b (MidRound setup old kept tills polls now (AreHeard heard) [] (item ∷ items)) (MidRound setup new kept left polls now (AreHeard heard) [] items)
 
 -- the item begins by these calls, which are made
-pub item-handled : (a b : Observed) (old mid new : Core) (now : ℤ) (item : RoundItem) (calls : List OwedCall) → ((setup : Setup) (kept : List Record) → BeginsMidRound setup old mid kept now item calls) → Performs a b mid new now calls → Handles a b old new now item
-item-handled a b old mid new now item calls begins performs = λ setup kept tills polls heard items. triple-then a a b _ _ _
-    (begin-held setup kept tills polls now (AreHeard heard) a old mid item calls items (begins setup kept)) (performs setup kept tills polls heard items)
+pub item-handled : (a b : Observed) (old mid new : Core) (tills left : List Till) (now : ℤ) (item : RoundItem) (calls : List OwedCall) → ((setup : Setup) (kept : List Record) → BeginsMidRound setup old mid kept now item calls) → Performs a b mid new tills left now calls → Handles a b old new tills left now item
+item-handled a b old mid new tills left now item calls begins performs = λ setup kept polls heard items. triple-then a a b _ _ _
+    (begin-held setup kept tills polls now (AreHeard heard) a old mid item calls items (begins setup kept)) (performs setup kept polls heard items)
 
--- no call is made
-pub none-performed : (s : Observed) (core : Core) (now : ℤ) → Performs s s core core now []
-none-performed s core now = λ setup kept tills polls heard items. triple-refl s _
+-- an item that changes nothing of what is remembered begins, and its call is made
+pub item-called : (a b : Observed) (old new : Core) (tills left : List Till) (now : ℤ) (item : RoundItem) (row : Known → Row) (wanted : Option Act) → ((scene : Scene) (items : List RoundItem) → may_begin scene (item ∷ items) ≡ true) →
+    ((connections : List Connection) (known : Known) → row_of connections known item ≡ row known) → IsRowOf old (moment_of now) row old wanted → MakesCall a b old new tills left now wanted → Handles a b old new tills left now item
+item-called a b old new tills left now item row wanted may rows is makes = λ setup kept polls heard items.
+    let known : Known = known_with setup kept old (moment_of now) in
+    let r = is setup kept in
+    triple-then a a b _ _ _
+    (begin-held setup kept tills polls now (AreHeard heard) a old old item (row known).calls items (record { begins = may; row = λ connections. rows connections known ∙ row-becomes kept (row known) old wanted r; links = λ number. refl }))
+    (makes (row known).calls r.calls_are setup kept polls heard items)
 
 -- the greeting of a message
-pub greeted : (a b : Observed) (old new : Core) (now : ℤ) (pt : ℕ) (apdu : ApduValue) (message : MessageValue) (wanted : Option Act) → sends_reply wanted ≡ false → decode_pt_message apdu ≡ Ok message →
-    IsRowOf old (moment_of now) (λ known. greeted_row known pt message) old wanted → Performs a b old new now (calls_wanted wanted) → Handles a b old new now (Greet pt apdu)
-greeted a b old new now pt apdu message wanted quiet decoded is performs = item-handled a b old old new now (Greet pt apdu) (calls_wanted wanted)
-    (λ setup kept. record {
-      begins = λ scene items. refl;
-      row = λ tills. ap (greet_decoded (known_with setup kept old (moment_of now)) pt) decoded ∙ row-becomes kept (greeted_row (known_with setup kept old (moment_of now)) pt message) old wanted quiet (is setup kept);
-      links = λ number. refl;
-    })
-    performs
+pub greeted : (a b : Observed) (old new : Core) (tills left : List Till) (now : ℤ) (pt : ℕ) (apdu : ApduValue) (message : MessageValue) (wanted : Option Act) → decode_pt_message apdu ≡ Ok message →
+    IsRowOf old (moment_of now) (λ known. greeted_row known pt message) old wanted → MakesCall a b old new tills left now wanted → Handles a b old new tills left now (Greet pt apdu)
+greeted a b old new tills left now pt apdu message wanted decoded is makes = item-called a b old new tills left now (Greet pt apdu) (λ known. greeted_row known pt message) wanted (λ scene items. refl)
+    (λ connections known. ap (greet_decoded known pt) decoded) is makes
 
 -- an APDU outside the grammar has no further effect
-pub unhandled : (s : Observed) (core : Core) (now : ℤ) (pt : ℕ) (apdu : ApduValue) (fault : PtFault) → decode_pt_message apdu ≡ Err fault → Handles s s core core now (Handle pt apdu)
-unhandled s core now pt apdu fault decoded = item-handled s s core core core now (Handle pt apdu) []
-    (λ setup kept. record { begins = λ scene items. refl; row = λ tills. ap (handle_decoded (known_with setup kept core (moment_of now)) pt) decoded; links = λ number. refl }) (none-performed s core now)
+pub unhandled : (s : Observed) (core : Core) (tills : List Till) (now : ℤ) (pt : ℕ) (apdu : ApduValue) (fault : PtFault) → decode_pt_message apdu ≡ Err fault → Handles s s core core tills tills now (Handle pt apdu)
+unhandled s core tills now pt apdu fault decoded = item-handled s s core core core tills tills now (Handle pt apdu) []
+    (λ setup kept. record { begins = λ scene items. refl; row = λ connections. ap (handle_decoded (known_with setup kept core (moment_of now)) pt) decoded; links = λ number. refl }) (none-performed s core tills now)
 
 -- no request waits
-pub none-waits : (s : Observed) (core : Core) (now : ℤ) (pt : ℕ) → Handles s s core core now (NextWaiting pt)
-none-waits s core now pt = item-handled s s core core core now (NextWaiting pt) [] (λ setup kept. record { begins = λ scene items. refl; row = λ tills. refl; links = λ number. refl }) (none-performed s core now)
+pub none-waits : (s : Observed) (core : Core) (tills : List Till) (now : ℤ) (pt : ℕ) → Handles s s core core tills tills now (NextWaiting pt)
+none-waits s core tills now pt = item-handled s s core core core tills tills now (NextWaiting pt) [] (λ setup kept. record { begins = λ scene items. refl; row = λ connections. refl; links = λ number. refl }) (none-performed s core tills now)
 
 -- one outside the grammar
 pub greet-outside : (pt : ℕ) (apdu : ApduValue) (fault : PtFault) → decode_pt_message apdu ≡ Err fault → IsOutside pt (Greet pt apdu)
-greet-outside pt apdu fault decoded = record { begins = λ scene items. refl; row = λ tills known. ap (greet_decoded known pt) decoded }
+greet-outside pt apdu fault decoded = record { begins = λ scene items. refl; row = λ connections known. ap (greet_decoded known pt) decoded }
 
 -- bytes that are no message
-pub outside-handled : (a b : Observed) (old new : Core) (now : ℤ) (pt : ℕ) (item : RoundItem) (linked : Bool) → IsOutside pt item → is_linked_in (slice_get old.terminals pt) ≡ linked → Performs a b old new now (outside_calls pt linked) → Handles a b old new now item
-outside-handled a b old new now pt item linked outside is performs = item-handled a b old old new now item (outside_calls pt linked)
-    (λ setup kept. record { begins = outside.begins; row = λ tills. outside.row tills (known_with setup kept old (moment_of now)) ∙ outside-is (known_with setup kept old (moment_of now)) pt linked is; links = λ number. refl })
+pub outside-handled : (a b : Observed) (old new : Core) (tills left : List Till) (now : ℤ) (pt : ℕ) (item : RoundItem) (linked : Bool) → IsOutside pt item → is_linked_in (slice_get old.terminals pt) ≡ linked → Performs a b old new tills left now (outside_calls pt linked) → Handles a b old new tills left now item
+outside-handled a b old new tills left now pt item linked outside is performs = item-handled a b old old new tills left now item (outside_calls pt linked)
+    (λ setup kept. record { begins = outside.begins; row = λ connections. outside.row connections (known_with setup kept old (moment_of now)) ∙ outside-is (known_with setup kept old (moment_of now)) pt linked is; links = λ number. refl })
     performs
 
 -- a silence
-pub silenced : (a b : Observed) (old new : Core) (now : ℤ) (pt : ℕ) (wanted : Option Act) → sends_reply wanted ≡ false → IsRowOf old (moment_of now) (λ known. late_row known pt) old wanted → Performs a b old new now (calls_wanted wanted) → Handles a b old new now (Late pt)
-silenced a b old new now pt wanted quiet is performs = item-handled a b old old new now (Late pt) (calls_wanted wanted)
-    (λ setup kept. record { begins = λ scene items. refl; row = λ tills. row-becomes kept (late_row (known_with setup kept old (moment_of now)) pt) old wanted quiet (is setup kept); links = λ number. refl }) performs
+pub silenced : (a b : Observed) (old new : Core) (tills left : List Till) (now : ℤ) (pt : ℕ) (wanted : Option Act) → IsRowOf old (moment_of now) (λ known. late_row known pt) old wanted → MakesCall a b old new tills left now wanted → Handles a b old new tills left now (Late pt)
+silenced a b old new tills left now pt wanted is makes = item-called a b old new tills left now (Late pt) (λ known. late_row known pt) wanted (λ scene items. refl) (λ connections known. refl) is makes
 
 -- nothing is due
-pub none-due : (s : Observed) (core : Core) (now : ℤ) (pt : ℕ) (wanted : Option Act) → wanted ≡ None → IsRowOf core (moment_of now) (λ known. due_row known pt) core wanted → Handles s s core core now (Due pt)
-none-due s core now pt wanted none is = item-handled s s core core core now (Due pt) []
-    (λ setup kept. record { begins = λ scene items. refl; row = λ tills. row-becomes kept (due_row (known_with setup kept core (moment_of now)) pt) core wanted (ap sends_reply none) (is setup kept) ∙ ap (λ w. becoming core (calls_wanted w)) none; links = λ number. refl })
-    (none-performed s core now)
+pub none-due : (s : Observed) (core : Core) (tills : List Till) (now : ℤ) (pt : ℕ) (wanted : Option Act) → wanted ≡ None → IsRowOf core (moment_of now) (λ known. due_row known pt) core wanted → Handles s s core core tills tills now (Due pt)
+none-due s core tills now pt wanted none is = item-called s s core core tills tills now (Due pt) (λ known. due_row known pt) wanted (λ scene items. refl) (λ connections known. refl) is (at-none s core tills now wanted none)
 
 -- a terminal that is due is linked
-pub due-begins : (s : Observed) (core : Core) (now : ℤ) (pt : ℕ) (setup : Setup) (kept : List Record) (tills : List Till) (polls : ℕ) (heard : ℕ → List ℕ) (items : List RoundItem) → IsLinkedNow core (moment_of now) pt →
+pub due-begins : (s : Observed) (core : Core) (tills : List Till) (now : ℤ) (pt : ℕ) (setup : Setup) (kept : List Record) (polls : ℕ) (heard : ℕ → List ℕ) (items : List RoundItem) → IsLinkedNow core (moment_of now) pt →
     Triple s s (MidRound setup core kept tills polls now (AreHeard heard) [] (Due pt ∷ items)) (MidRound setup core kept tills polls now (AreHeard heard) (LinkPt pt ∷ []) items)
-due-begins s core now pt setup kept tills polls heard items due =
-    begin-held setup kept tills polls now (AreHeard heard) s core core (Due pt) (LinkPt pt ∷ []) items (record { begins = λ scene items. refl; row = λ tills. due.row setup kept; links = λ number. refl })
+due-begins s core tills now pt setup kept polls heard items due =
+    begin-held setup kept tills polls now (AreHeard heard) s core core (Due pt) (LinkPt pt ∷ []) items (record { begins = λ scene items. refl; row = λ connections. due.row setup kept; links = λ number. refl })

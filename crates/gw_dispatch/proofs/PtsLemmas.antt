@@ -1,6 +1,6 @@
 -- The terminals of a run: their links, what their readers hold, and their items.
 use Rattle.std.proofs.Common.{◌≡◌, ℕ, zero, suc, ◌+◌, ◌-◌, ◌<◌, ◌≤◌, List, [], ◌∷◌, ◌++◌, length, set, refl, sym, ◌∙◌, ap, subst, arith, append_assoc, inl, inr}
-use Rattle.std.specs.Prelude.{ℤ, ◌==◌, if◌then◌else◌, Bool, true, false, IfSome, OnOk, Option, Some, None, Result, Ok, Err, slice_get, replicate}
+use Rattle.std.specs.Prelude.{ℤ, ◌==◌, if◌then◌else◌, Bool, true, false, OnOk, Option, Some, None, Result, Ok, Err, slice_get, replicate}
 use Rattle.std.specs.List.{flat_map}
 use Rattle.std.proofs.lemmas.Bool.{cases_eq, eq-eqb, ne_eqb, eqb-true, eqb-false}
 use Rattle.std.proofs.lemmas.List.{length-set, length-replicate}
@@ -12,65 +12,43 @@ use Rattle.jrn_record.specs.declared.records.Record.{Record}
 use Rattle.zvt_apdu.specs.Grammar.{ApduValue}
 use Rattle.zvt_apdu.specs.Decode.{DecodedApdu, decode_apdu}
 use Rattle.zvt_apdu.specs.DecodeStream.{decode_apdus}
-use Rattle.zvt_talk.specs.Talk.{TalkFacts}
-use Rattle.gw_owes.specs.declared.terminal.Service.{Service}
-use Rattle.gw_owes.specs.declared.terminal.Service.TheVariants.{Transaction, EndOfDay, Display}
 use Rattle.gw_owes.specs.declared.terminal.Standing.{Standing}
 use Rattle.gw_owes.specs.declared.terminal.Standing.TheVariants.{Unlinked, Registering, Enquiring, Ready, Serving, Aside}
 use Rattle.gw_owes.specs.declared.terminal.Terminal.{Terminal}
-use Rattle.gw_owes.specs.Calls.{LinkPt}
+use Rattle.gw_owes.specs.Calls.{LinkPt, OwedCall}
 use Rattle.gw_owes.specs.Core.{Core, new_core}
 use Rattle.gw_owes.specs.Deadlines.{is_due}
-use Rattle.gw_owes.specs.Dialogues.{IsDialogueOf, IsDialogueOfService, HasItsDialogue, AllHaveDialogues}
+use Rattle.gw_owes.specs.Dialogues.{AllHaveDialogues}
 use Rattle.gw_owes.specs.Events.{apdu_items, is_oversized}
 use Rattle.gw_owes.specs.Items.{RoundItem, Greet, Handle, NextWaiting, Oversized, LinkLost, Due}
 use Rattle.gw_owes.specs.Links.{is_linked, LinkIsLost, link_row}
-use Rattle.gw_owes.specs.Row.{Known, Row, owing, owing_nothing, owing_where, becoming}
-use Rattle.gw_owes.specs.TerminalLaws.{IsOwedNothing}
-use Rattle.gw_owes.specs.Terminals.{terminal_at, of_terminal, unlinks, unlinked_terminal}
-use Rattle.gw_owes.proofs.DialogueLemmas.{links-give, new-has}
-use Rattle.gw_owes.proofs.SetLemmas.{others-stay, new-is-there}
+use Rattle.gw_owes.specs.Row.{Known, owing, owing_nothing, owing_where}
+use Rattle.gw_owes.specs.TerminalLaws.{ChangesTerminalAlone, IsOwedNothing}
+use Rattle.gw_owes.specs.Terminals.{terminal_at, of_terminal}
+use Rattle.gw_owes.proofs.DialogueLemmas.{new-has}
+use Rattle.gw_owes.proofs.SetLemmas.{others-stay}
 use Rattle.gw_owes.proofs.TerminalLemmas.{unlinked-owes-nothing, absent-owes-nothing, link-changes-alone}
 use Rattle.gw_rules.specs.Stage.{Broken}
 use Rattle.gw_rules.specs.Triple.{Triple}
 use Rattle.gw_rules.specs.View.{View, at_first}
 use Rattle.gw_rules.proofs.TripleLemmas.{triple-refl, triple-then, triple-after, triple-before, triple-frame, triple-some}
-use Rattle.gw_core.specs.IsRow.{IsPaymentOrReversal, ServesNoOther}
+use Rattle.gw_core.specs.IsRow.{IsRow, alone}
+use Rattle.gw_core.specs.declared.act.Act.{Act}
 use Rattle.gw_dispatch.specs.Apdus.{items_held, IsRest}
-use Rattle.gw_dispatch.specs.RunState.{IsWell, UnlessBroken}
+use Rattle.gw_dispatch.specs.RunState.{ForgetsAny, IsWell, UnlessBroken}
 use Rattle.gw_dispatch.specs.MidRound.{is_linked_in, AreLinked, AllHear, AreHeard, AreReady, HeldRound, MidRound, BeforePt, BeforePtChunk, BeforePtClosed, each_terminal}
-use Rattle.gw_dispatch.specs.Round.{InRound, HoldsTills, known_at}
+use Rattle.gw_dispatch.specs.Round.{InRound, HoldsTills, Pending, known_at}
 use Rattle.gw_dispatch.specs.declared.run_state.RunState.{RunState}
 use Rattle.gw_dispatch.specs.declared.tills.Till.{Till}
 use Rattle.gw_dispatch.proofs.ApduLemmas.{items-apdu, items-oversized, items-waiting, rest-chunk, rest-waiting}
 use Rattle.gw_dispatch.proofs.EngineLemmas.{begin-first, pass}
 use Rattle.gw_dispatch.proofs.FitLemmas.{AllWait, Fit, OthersFit, are-heard, fit-heard, heard_by, hears-at, same-bytes}
 use Rattle.gw_dispatch.proofs.HeardLemmas.{cut-there, cut-others, cut-heard, hears-there, hears-here, hears-others}
-use Rattle.gw_dispatch.proofs.PerformLemmas.{lost-none}
+use Rattle.gw_dispatch.proofs.LinkLemmas.{lost-is-unlinked}
+use Rattle.gw_dispatch.proofs.PerformLemmas.{IsRowOf, link-alone, link-has, others-have, row-becomes}
+use Rattle.gw_dispatch.proofs.SendLemmas.{sent-count, sent-dialogues}
 
 -- ---- what is remembered of a terminal
-
--- what a terminal with the dialogue of its service serves
-served-is : (service : Service) (talk : Option TalkFacts) (awaited : ℕ) → IsDialogueOfService service talk awaited → IsPaymentOrReversal service
-served-is (Transaction slot) talk awaited has = tt
-served-is (EndOfDay header period) talk awaited has = absurd has
-served-is (Display header outputs) talk awaited has = absurd has
-
--- one with the dialogue of its standing serves nothing but a payment or a reversal
-serves-no-other : (terminal : Terminal) (standing : Standing) → terminal.standing ≡ standing → HasItsDialogue terminal → ServesNoOther standing
-serves-no-other terminal (Unlinked due) e has = tt
-serves-no-other terminal Registering e has = tt
-serves-no-other terminal Enquiring e has = tt
-serves-no-other terminal (Ready last) e has = tt
-serves-no-other terminal (Serving service last) e has = served-is service terminal.talk terminal.awaited (subst (λ standing. IsDialogueOf standing terminal.talk terminal.awaited) e has)
-serves-no-other terminal (Aside before reported) e has = tt
-
-pub all-serve-no-other : (core : Core) (pt : ℕ) → AllHaveDialogues core → IfSome (slice_get core.terminals pt) (λ (terminal : Terminal). ServesNoOther terminal.standing)
-all-serve-no-other core pt all = by_terminal (slice_get core.terminals pt) refl
-  where
-    by_terminal : (found : Option Terminal) → slice_get core.terminals pt ≡ found → IfSome found (λ (terminal : Terminal). ServesNoOther terminal.standing)
-    by_terminal None e = tt
-    by_terminal (Some terminal) e = serves-no-other terminal terminal.standing refl (all pt terminal e)
 
 -- as a run begins each reader is empty
 empty-there : (count number : ℕ) (bytes : List ℕ) → slice_get (replicate count []) number ≡ Some bytes → decode_apdu bytes ≡ DecodedApdu.Incomplete
@@ -199,21 +177,21 @@ apdu-waits s state tills now pt bytes e = subst (Handles s s state state tills t
 -- ---- what the readers hold
 
 -- what is done whatever was heard
-pub over-heard : (a b : Observed) (setup : Setup) (core new : Core) (kept : List Record) (tills : List Till) (polls : ℕ) (now : ℤ) (readers : List (List ℕ)) (old items : List RoundItem) → AllWait readers → length readers ≡ length new.terminals →
-    ((heard : ℕ → List ℕ) → Triple a b (MidRound setup core kept tills polls now (AreHeard heard) [] old) (MidRound setup new kept tills polls now (AreHeard heard) [] items)) →
-    Triple a b (MidRound setup core kept tills polls now (AllHear readers) [] old) (MidRound setup new kept tills polls now (AllHear readers) [] items)
-over-heard a b setup core new kept tills polls now readers old items waits count k =
-    triple-before a b _ (λ v. (heard : ℕ → List ℕ) × (MidRound setup core kept tills polls now (AreHeard heard) [] old v × Fit readers heard)) _ first
-    (triple-some a b (λ (heard : ℕ → List ℕ) v. MidRound setup core kept tills polls now (AreHeard heard) [] old v × Fit readers heard) _ (λ number. [])
+pub over-heard : (a b : Observed) (setup : Setup) (core new : Core) (kept : List Record) (tills left : List Till) (polls : ℕ) (now : ℤ) (readers : List (List ℕ)) (calls : List OwedCall) (old items : List RoundItem) → AllWait readers → length readers ≡ length new.terminals →
+    ((heard : ℕ → List ℕ) → Triple a b (MidRound setup core kept tills polls now (AreHeard heard) calls old) (MidRound setup new kept left polls now (AreHeard heard) [] items)) →
+    Triple a b (MidRound setup core kept tills polls now (AllHear readers) calls old) (MidRound setup new kept left polls now (AllHear readers) [] items)
+over-heard a b setup core new kept tills left polls now readers calls old items waits count k =
+    triple-before a b _ (λ v. (heard : ℕ → List ℕ) × (MidRound setup core kept tills polls now (AreHeard heard) calls old v × Fit readers heard)) _ first
+    (triple-some a b (λ (heard : ℕ → List ℕ) v. MidRound setup core kept tills polls now (AreHeard heard) calls old v × Fit readers heard) _ (λ number. [])
     (λ heard. triple-after a b _ _ _ (triple-frame a b _ _ (Fit readers heard) (k heard)) (λ v q. last heard v q.0 q.1)))
   where
-    first : (v : View) → MidRound setup core kept tills polls now (AllHear readers) [] old v → (heard : ℕ → List ℕ) × (MidRound setup core kept tills polls now (AreHeard heard) [] old v × Fit readers heard)
+    first : (v : View) → MidRound setup core kept tills polls now (AllHear readers) calls old v → (heard : ℕ → List ℕ) × (MidRound setup core kept tills polls now (AreHeard heard) calls old v × Fit readers heard)
     first v p = (
       heard_by readers p.outside,
       (record { outside = p.outside; round = p.round; tills_are = p.tills_are; linked = p.linked; also = are-heard readers p.outside }, fit-heard readers p.outside waits p.also),
     )
 
-    last : (heard : ℕ → List ℕ) (v : View) → MidRound setup new kept tills polls now (AreHeard heard) [] items v → Fit readers heard → MidRound setup new kept tills polls now (AllHear readers) [] items v
+    last : (heard : ℕ → List ℕ) (v : View) → MidRound setup new kept left polls now (AreHeard heard) [] items v → Fit readers heard → MidRound setup new kept left polls now (AllHear readers) [] items v
     last heard v q fits = record {
       outside = q.outside;
       round = q.round;
@@ -259,11 +237,11 @@ set-waits readers pt new waits all number bytes found =
     ]
 
 -- the reader of a terminal that isn't linked is emptied, and then a link may be made
-pub over-cleared : (a b : Observed) (setup : Setup) (core new : Core) (kept : List Record) (tills : List Till) (polls : ℕ) (now : ℤ) (readers : List (List ℕ)) (pt : ℕ) (old items : List RoundItem) → AllWait readers → length readers ≡ length new.terminals →
+pub over-cleared : (a b : Observed) (setup : Setup) (core new : Core) (kept : List Record) (tills left : List Till) (polls : ℕ) (now : ℤ) (readers : List (List ℕ)) (pt : ℕ) (old items : List RoundItem) → AllWait readers → length readers ≡ length new.terminals →
     is_linked_in (slice_get core.terminals pt) ≡ false →
-    ((heard : ℕ → List ℕ) → heard pt ≡ [] → Triple a b (MidRound setup core kept tills polls now (AreHeard heard) [] old) (MidRound setup new kept tills polls now (AreHeard heard) [] items)) →
-    Triple a b (MidRound setup core kept tills polls now (AllHear readers) [] old) (MidRound setup new kept tills polls now (AllHear (set readers pt [])) [] items)
-over-cleared a b setup core new kept tills polls now readers pt old items waits count unlinked k =
+    ((heard : ℕ → List ℕ) → heard pt ≡ [] → Triple a b (MidRound setup core kept tills polls now (AreHeard heard) [] old) (MidRound setup new kept left polls now (AreHeard heard) [] items)) →
+    Triple a b (MidRound setup core kept tills polls now (AllHear readers) [] old) (MidRound setup new kept left polls now (AllHear (set readers pt [])) [] items)
+over-cleared a b setup core new kept tills left polls now readers pt old items waits count unlinked k =
     triple-before a b _ (λ v. (heard : ℕ → List ℕ) × (MidRound setup core kept tills polls now (AreHeard (cleared pt heard)) [] old v × Fit readers heard)) _ first
     (triple-some a b (λ (heard : ℕ → List ℕ) v. MidRound setup core kept tills polls now (AreHeard (cleared pt heard)) [] old v × Fit readers heard) _ (λ number. [])
     (λ heard. triple-after a b _ _ _ (triple-frame a b _ _ (Fit readers heard) (k (cleared pt heard) (cleared-none pt heard))) (λ v q. last heard v q.0 q.1)))
@@ -283,7 +261,7 @@ over-cleared a b setup core new kept tills polls now readers pt old items waits 
       ),
     )
 
-    last : (heard : ℕ → List ℕ) (v : View) → MidRound setup new kept tills polls now (AreHeard (cleared pt heard)) [] items v → Fit readers heard → MidRound setup new kept tills polls now (AllHear (set readers pt [])) [] items v
+    last : (heard : ℕ → List ℕ) (v : View) → MidRound setup new kept left polls now (AreHeard (cleared pt heard)) [] items v → Fit readers heard → MidRound setup new kept left polls now (AllHear (set readers pt [])) [] items v
     last heard v q fits = record {
       outside = q.outside;
       round = q.round;
@@ -380,27 +358,12 @@ chunk-ready (Ok done) new observed old readers pt bytes left ready count rest we
 
 -- ---- a link that is lost
 
--- what the loss of a link leaves of a terminal that serves nothing but a payment or a reversal, and that it owes nothing
-record IsLost (known : Known) (pt : ℕ) (row : Row) : Type 0 where
-  owes : row ≡ becoming row.core []
-  unlinked : is_linked_in (slice_get row.core.terminals pt) ≡ false
-
-lost-by : (known : Known) (pt : ℕ) → AllHaveDialogues known.core → (found : Option Terminal) → terminal_at known pt ≡ found → IsLost known pt (of_terminal known (unlinks known pt) found)
-lost-by known pt all None e = record { owes = refl; unlinked = rw e refl }
-lost-by known pt all (Some terminal) e = record {
-  owes = ap (becoming (unlinks known pt terminal).core) (lost-none terminal.asker terminal.standing (serves-no-other terminal terminal.standing refl (all pt terminal e)));
-  unlinked = ap is_linked_in (new-is-there known.core.terminals pt terminal (unlinked_terminal terminal known.moment) e);
-}
-
-lost : (known : Known) (pt : ℕ) → AllHaveDialogues known.core → IsLost known pt (link_row known pt LinkIsLost)
-lost known pt all = lost-by known pt all (terminal_at known pt) refl
-
 -- the links are those that are remembered once one is lost
-lost-links : (known : Known) (pt : ℕ) (o : Outside) → AllHaveDialogues known.core → AreLinked known.core o → AreLinked (link_row known pt LinkIsLost).core (outside_after o (Lost pt))
-lost-links known pt o all linked number =
+lost-links : (known : Known) (pt : ℕ) (o : Outside) → AreLinked known.core o → AreLinked (link_row known pt LinkIsLost).core (outside_after o (Lost pt))
+lost-links known pt o linked number =
     elim (cases_eq number pt) [
       | inl e ↦
-          ap (is_connected (without o.links pt)) e ∙ cut-there o.links pt ∙ sym (lost known pt all).unlinked ∙ ap (λ n. is_linked_in (slice_get (link_row known pt LinkIsLost).core.terminals n)) (sym e)
+          ap (is_connected (without o.links pt)) e ∙ cut-there o.links pt ∙ sym (lost-is-unlinked known pt) ∙ ap (λ n. is_linked_in (slice_get (link_row known pt LinkIsLost).core.terminals n)) (sym e)
       | inr other ↦ cut-others o.links pt number other ∙ linked number ∙ ap is_linked_in (sym ((link-changes-alone known pt LinkIsLost).others number other))
     ]
 
@@ -412,43 +375,45 @@ lost-hear readers pt o hear number there =
           hear number (sym (cut-others o.links pt number other) ∙ there) ∙ ap (λ (b : List ℕ). Some (decode_apdus b).rest) (sym (cut-heard o.links pt number other))
     ]
 
--- a terminal has closed its connection
-pub lost-handled : (s : Observed) (setup : Setup) (core new : Core) (kept : List Record) (tills : List Till) (polls : ℕ) (now : ℤ) (readers : List (List ℕ)) (pt : ℕ) (items : List RoundItem) → AllHaveDialogues core →
-    new ≡ (link_row (known_at setup core kept now) pt LinkIsLost).core →
-    Triple s s (BeforePtClosed setup core kept readers tills polls now pt items) (MidRound setup new kept tills polls now (AllHear readers) [] items)
-lost-handled s setup core new kept tills polls now readers pt items all is =
+-- a terminal has closed its connection, by which its link is lost
+pub lost-handled : (s : Observed) (setup : Setup) (core new : Core) (kept : List Record) (tills : List Till) (polls : ℕ) (now : ℤ) (readers : List (List ℕ)) (pt : ℕ) (items : List RoundItem) (wanted : Option Act) → IsRow kept (link_row (known_at setup core kept now) pt LinkIsLost) new (alone wanted) →
+    Triple s s (BeforePtClosed setup core kept readers tills polls now pt items) (MidRound setup new kept tills polls now (AllHear readers) (link_row (known_at setup core kept now) pt LinkIsLost).calls items)
+lost-handled s setup core new kept tills polls now readers pt items wanted is =
     triple-before s s _ (λ v. (before : Outside) × (InRound knows polls (after before) (LinkLost pt ∷ items) v × BeforePt core readers tills pt before)) _ (λ v p. (p.0, (p.2, p.1)))
     (triple-some s s (λ (before : Outside) v. InRound knows polls (after before) (LinkLost pt ∷ items) v × BeforePt core readers tills pt before) _ no_outside
-    (λ before. triple-after s s _ _ _ (triple-frame s s _ _ (BeforePt core readers tills pt before) (begin-first s knows polls (after before) (LinkLost pt) items new [] (record {
+    (λ before. triple-after s s _ _ _ (triple-frame s s _ _ (BeforePt core readers tills pt before) (begin-first s knows polls (after before) (LinkLost pt) items new owed (record {
       begins = λ scene e. refl;
-      row = (lost knows pt all).owes ∙ ap (λ core. becoming core []) (sym is);
+      row = row-becomes kept (link_row knows pt LinkIsLost) new wanted is;
     })))
     (λ v q. last before v q.0 q.1)))
   where
     knows : Known
     knows = known_at setup core kept now
 
+    owed : List OwedCall
+    owed = (link_row knows pt LinkIsLost).calls
+
     after : Outside → Outside
     after before = outside_after before (Lost pt)
 
-    last : (before : Outside) (v : View) → InRound (known_at setup new kept now) polls (after before) items v → BeforePt core readers tills pt before → MidRound setup new kept tills polls now (AllHear readers) [] items v
+    last : (before : Outside) (v : View) → Pending (known_at setup new kept now) polls (after before) owed items v → BeforePt core readers tills pt before → MidRound setup new kept tills polls now (AllHear readers) owed items v
     last before v q h = record {
       outside = after before;
       round = q;
       tills_are = record { tills_are = h.tills_are.tills_are; below = h.tills_are.below };
-      linked = subst (λ core. AreLinked core (after before)) (sym is) (lost-links knows pt before all h.linked);
+      linked = subst (λ core. AreLinked core (after before)) (sym is.core_is) (lost-links knows pt before h.linked);
       also = lost-hear readers pt before h.hear;
     }
 
--- what is ready stays so when a link is lost
-pub lost-ready : (known : Known) (core new : Core) (pt : ℕ) (readers : List (List ℕ)) → known.core ≡ core → new ≡ (link_row known pt LinkIsLost).core → AreReady core readers → AreReady new readers
-lost-ready known core new pt readers same is ready =
-    let all : AllHaveDialogues known.core = subst AllHaveDialogues (sym same) ready.dialogues in
-    subst (λ core. AreReady core readers) (sym is) (record {
-      dialogues = links-give known pt LinkIsLost (λ number terminal other found. all number terminal found);
-      count = ready.count ∙ ap (λ (c : Core). length c.terminals) (sym same) ∙ sym (link-changes-alone known pt LinkIsLost).count;
+-- what is ready stays so when a link is lost, and a till is sent the reply that is owed then
+pub lost-ready : (core mid new : Core) (moment pt : ℕ) (wanted : Option Act) (readers : List (List ℕ)) → IsRowOf core moment (λ known. link_row known pt LinkIsLost) mid wanted → ForgetsAny mid new → AreReady core readers → AreReady new readers
+lost-ready core mid new moment pt wanted readers is forgets ready =
+    let alone : ChangesTerminalAlone pt core mid = link-alone core mid moment pt LinkIsLost wanted is in
+    record {
+      dialogues = sent-dialogues mid new forgets (link-has core mid moment pt LinkIsLost wanted (others-have core pt ready.dialogues) is);
+      count = ready.count ∙ sym (sent-count mid new forgets ∙ alone.count);
       waits = ready.waits;
-    })
+    }
 
 -- ---- an item for each terminal
 
@@ -463,14 +428,14 @@ each-end number count item all =
     ap (λ n. each_terminal number n item) e
 
 -- the item of one terminal was handled, and those of the next come
-pub each-step : (a b : Observed) (core new : Core) (now : ℤ) (Also Next : Outside → Type 0) (item : ℕ → RoundItem) (number count : ℕ) → number < count →
-    ((setup : Setup) (kept : List Record) (tills : List Till) (polls : ℕ) (items : List RoundItem) → Triple a b (MidRound setup core kept tills polls now Also [] (item number ∷ items)) (MidRound setup new kept tills polls now Next [] items)) →
-    (setup : Setup) (kept : List Record) (tills : List Till) (polls : ℕ) (items : List RoundItem) →
-    Triple a b (MidRound setup core kept tills polls now Also [] (each_terminal number (count - number) item ++ items)) (MidRound setup new kept tills polls now Next [] (each_terminal (number + 1) (count - (number + 1)) item ++ items))
-each-step a b core new now Also Next item number count more k setup kept tills polls items =
+pub each-step : (a b : Observed) (core new : Core) (tills left : List Till) (now : ℤ) (Also Next : Outside → Type 0) (item : ℕ → RoundItem) (number count : ℕ) → number < count →
+    ((setup : Setup) (kept : List Record) (polls : ℕ) (items : List RoundItem) → Triple a b (MidRound setup core kept tills polls now Also [] (item number ∷ items)) (MidRound setup new kept left polls now Next [] items)) →
+    (setup : Setup) (kept : List Record) (polls : ℕ) (items : List RoundItem) →
+    Triple a b (MidRound setup core kept tills polls now Also [] (each_terminal number (count - number) item ++ items)) (MidRound setup new kept left polls now Next [] (each_terminal (number + 1) (count - (number + 1)) item ++ items))
+each-step a b core new tills left now Also Next item number count more k setup kept polls items =
     let rest : List RoundItem = each_terminal (number + 1) (count - (number + 1)) item in
-    subst (λ (list : List RoundItem). Triple a b (MidRound setup core kept tills polls now Also [] (list ++ items)) (MidRound setup new kept tills polls now Next [] (rest ++ items))) (sym (each-first number count item more))
-    (k setup kept tills polls (rest ++ items))
+    subst (λ (list : List RoundItem). Triple a b (MidRound setup core kept tills polls now Also [] (list ++ items)) (MidRound setup new kept left polls now Next [] (rest ++ items))) (sym (each-first number count item more))
+    (k setup kept polls (rest ++ items))
 
 -- that of the last was handled
 pub each-last : (a b : Observed) (P : View → Type 0) (setup : Setup) (core : Core) (kept : List Record) (tills : List Till) (polls : ℕ) (now : ℤ) (Also : Outside → Type 0) (item : ℕ → RoundItem) (number count : ℕ) (items : List RoundItem) → count ≤ number →

@@ -1,11 +1,11 @@
 -- What is owed over a round.
-use Rattle.std.proofs.Common.{◌≡◌, ℕ, zero, suc, ◌+◌, ◌<◌, ◌≤◌, List, [], ◌∷◌, ◌++◌, length, get_or, refl, sym, ◌∙◌, ap, subst, arith, inr}
-use Rattle.std.specs.Prelude.{ℤ, map, true, false, Option, Some, None, Result, Ok, Err, slice_get, slice_set, take}
-use Rattle.std.proofs.lemmas.Bool.{eq-eqb, lt-ltb, le-ltb}
+use Rattle.std.proofs.Common.{◌≡◌, ℕ, zero, suc, ◌+◌, ◌<◌, ◌≤◌, List, [], ◌∷◌, ◌++◌, length, get_or, refl, sym, ◌∙◌, ap, subst, arith, inl, inr}
+use Rattle.std.specs.Prelude.{ℤ, map, true, false, Some, None, Result, Ok, Err, option_map, slice_get, slice_set, take, unwrap_or}
+use Rattle.std.proofs.lemmas.Bool.{lt-ltb, le-ltb}
 use Rattle.std.proofs.lemmas.List.{length-map}
 use Rattle.gw_base.specs.declared.setup.Pt.{Pt}
 use Rattle.gw_base.specs.declared.setup.Setup.{Setup}
-use Rattle.gw_site.specs.Outside.{Outside, Connection, outside_after, is_connected, hears, heard_on, without, new_connection}
+use Rattle.gw_site.specs.Outside.{Outside, Connection, outside_after, is_connected, heard_on, without, new_connection}
 use Rattle.gw_site.specs.declared.turn.Turn.TheVariants.{Polled, Opened, HeardTill, Closed, HeardPt, Lost, CutTill as TillCut}
 use Rattle.gw_site.specs.declared.site.What.{What}
 use Rattle.gw_site.specs.declared.site.What.TheVariants.{TillOpened, TillBytes, TillClosed, PtBytes, PtClosed, Nothing, Stopped as StopEvent}
@@ -13,7 +13,8 @@ use Rattle.gw_site.specs.Observed.{Observed, Grows, IsStep}
 use Rattle.gw_site.specs.Steps.{CutTillCall}
 use Rattle.gw_site.specs.Turns.{IsTurn}
 use Rattle.jrn_record.specs.declared.records.Record.{Record}
-use Rattle.sale_frame.specs.Decode.{decode_frames}
+use Rattle.sale_frame.specs.Decode.{DecodedFrames, decode_frames}
+use Rattle.sale_frame.specs.Grammar.{IsIncompleteFrame}
 use Rattle.gw_owes.specs.Calls.{CutTill}
 use Rattle.gw_owes.specs.Core.{Core, Wait, new_core, new_terminal}
 use Rattle.gw_owes.specs.Events.{decoded_items, till_bytes_items, till_opened_items, pt_bytes_items, for_each_terminal, waits_by_deadline, items_due}
@@ -21,7 +22,7 @@ use Rattle.gw_owes.specs.Items.{RoundItem, Crowded, Gone as GoneItem, LinkLost, 
 use Rattle.gw_owes.specs.Row.{Known}
 use Rattle.gw_owes.specs.Terminals.{core_without, forgets_till}
 use Rattle.gw_owes.specs.declared.terminal.Terminal.{Terminal}
-use Rattle.gw_owes.proofs.FrameLemmas.{reading-chunk, rest-chunk}
+use Rattle.gw_owes.proofs.FrameLemmas.{incomplete-waits, reading-chunk, reading-waiting, rest-chunk}
 use Rattle.gw_rules.specs.Scene.{Scene}
 use Rattle.gw_rules.specs.Stage.{Stage, Resting, Opening, Looking, AtPoll, Handling, Over, Broken, is_round, is_running}
 use Rattle.gw_rules.specs.View.{View, polled, at_event, at_first, till_cut}
@@ -30,20 +31,20 @@ use Rattle.gw_rules.proofs.TripleLemmas.{triple-refl, triple-then, triple-weaker
 use Rattle.gw_rules.proofs.CallLemmas.{cut-till-triple}
 use Rattle.gw_dispatch.specs.RunState.{gateway_of}
 use Rattle.gw_dispatch.specs.MidRound.{AllHear, AreHeard, AreLinked, AreReady, HeldRound, MidRound, due_items, each_terminal, is_linked_in}
-use Rattle.gw_dispatch.specs.Round.{IsIn, InRound, known_at}
-use Rattle.gw_dispatch.specs.Serving.{AfterFault, AfterTill, ReadsOn, held_without}
+use Rattle.gw_dispatch.specs.Round.{HoldsTills, IsIn, InRound, known_at}
+use Rattle.gw_dispatch.specs.Serving.{AfterFault, AfterTill, held_without, items_of}
 use Rattle.gw_dispatch.specs.RecordsOpening.{HasOpened}
 use Rattle.gw_dispatch.specs.Rounds.{MatchesOutside, IsHeldRun, IsBetweenRounds, IsPolled, BeforeChunk, BeforeOpen, BeforePtBytes, BeforePtEnd, due_in, known_by}
 use Rattle.gw_dispatch.specs.RunEnd.{EndedBy}
-use Rattle.gw_dispatch.specs.Tills.{IsThere, rank, till_of, others, AreBelow}
+use Rattle.gw_dispatch.specs.Tills.{AreBelow, OthersStillHold, AreWaiting, bytes_held, others, rank, reader_of, rested, till_of}
 use Rattle.gw_dispatch.specs.declared.engine.Dispatch.{Dispatch}
 use Rattle.gw_dispatch.specs.declared.engine.Ended.TheVariants.{Done}
 use Rattle.gw_dispatch.specs.declared.fault.TurnFault.{TurnFault}
 use Rattle.gw_dispatch.specs.declared.run_state.RunState.{RunState}
-use Rattle.gw_dispatch.specs.declared.replier.Served.{Served}
-use Rattle.gw_dispatch.specs.declared.replier.Served.TheVariants.{Incomplete, Gone}
 use Rattle.gw_dispatch.specs.declared.tills.Till.{Till}
-use Rattle.gw_dispatch.proofs.TillLemmas.{rank-held-none, rank-held-open, found, others-held, others-set, without-hears, open-hears, below-hears, below-without, below-push, below-closed, below-up, without-new, held-push, length-held}
+use Rattle.gw_dispatch.proofs.ReaderLemmas.{IsAt, rank-rested, reader-rested, rested-others, rested-push, till-at}
+use Rattle.gw_dispatch.proofs.ServeLemmas.{waiting-items}
+use Rattle.gw_dispatch.proofs.TillLemmas.{rank-held-none, rank-held-open, found, others-held, below-hears, below-without, below-push, below-closed, below-up, without-new, held-push, length-held}
 use Rattle.gw_dispatch.proofs.EngineLemmas.{some-scene, begin-first, cut-in, known_without}
 use Rattle.gw_dispatch.proofs.FitLemmas.{Fit, are-heard, fit-heard, heard_by, hears-at}
 use Rattle.gw_dispatch.proofs.WaitLemmas.{triple-unwaited}
@@ -115,149 +116,118 @@ no_outside = at_first.scene.outside
 pub chunk-unheld : (s : Observed) (setup : Setup) (dispatch : Dispatch) (polls : ℕ) (now : ℤ) (number : ℕ) (chunk : List ℕ) (Q : View → Type 0) → rank number dispatch.tills.list.items ≡ None → Triple s s (BeforeChunk setup dispatch polls now number chunk) Q
 chunk-unheld s setup dispatch polls now number chunk Q none = never s _ Q (λ v p.
     let b = p.1 in
-    let h : false ≡ true = sym (rank-held-none p.0.tills number (ap (rank number) (sym b.matches.tills_are.tills_are) ∙ none)) ∙ b.connected in absurd cc)
-
--- what is known of the till that has sent a chunk
-pub record Knows (dispatch : Dispatch) (number at : ℕ) (till : Till) (o : Outside) : Type 0 where
-  pub matches : MatchesOutside dispatch o
-  pub reader : till.reader ≡ (decode_frames (heard_on o.tills number)).rest
-  pub number_is : till.number ≡ number
-  pub index_is : rank number dispatch.tills.list.items ≡ Some at
-  pub fits : Fit dispatch.readers.items (heard_by dispatch.readers.items o)
-
--- the tills once the chunk was heard
-abbrev pub tills_with : Outside → ℕ → List ℕ → List Till
-tills_with o number chunk = map till_of (hears o.tills number chunk)
-
--- they are those that are held, with the till's reader as it is left
-tills-left : (dispatch : Dispatch) (number at : ℕ) (chunk : List ℕ) (till new : Till) (o : Outside) → Knows dispatch number at till o → new.number ≡ till.number → new.reader ≡ (decode_frames (till.reader ++ chunk)).rest →
-    slice_set dispatch.tills.list.items at new ≡ tills_with o number chunk
-tills-left dispatch number at chunk till new o k n r =
-    let f = found o.tills number at chunk (ap (rank number) (sym k.matches.tills_are.tills_are) ∙ k.index_is) in
-    let same : new ≡ record { number = number; reader = (decode_frames (heard_on o.tills number ++ chunk)).rest } =
-    ap (λ x. record { number = x; reader = new.reader }) (n ∙ k.number_is)
-    ∙ ap (λ x. record { number = number; reader = x }) (r ∙ ap (λ x. (decode_frames (x ++ chunk)).rest) k.reader ∙ sym (rest-chunk (heard_on o.tills number) chunk)) in
-    ap (λ t. slice_set t at new) k.matches.tills_are.tills_are ∙ ap (λ x. slice_set (map till_of o.tills) at x) same ∙ f.more
-
--- and without it those that are held without it
-tills-but : (dispatch : Dispatch) (number at : ℕ) (chunk : List ℕ) (till new : Till) (o : Outside) → Knows dispatch number at till o → new.number ≡ till.number →
-    others (slice_set dispatch.tills.list.items at new) number ≡ others (tills_with o number chunk) number
-tills-but dispatch number at chunk till new o k n =
-    others-set dispatch.tills.list.items new number at k.index_is (n ∙ k.number_is) ∙ ap (λ t. others t number) k.matches.tills_are.tills_are ∙ others-held o.tills number ∙ ap (map till_of) (sym (without-hears o.tills number chunk)) ∙ sym (others-held (hears o.tills number chunk) number)
+    let h : false ≡ true = sym (rank-held-none p.0.tills number (ap (rank number) (sym b.matches.tills_are.tills_are) ∙ rank-rested number dispatch.tills.list.items ∙ none)) ∙ b.connected in absurd cc)
 
 -- what is held hears what its readers hold, where as many terminals are there
-hear-again : (setup : Setup) (dispatch : Dispatch) (core : Core) (kept : List Record) (tills : List Till) (polls : ℕ) (now : ℤ) (number at : ℕ) (till : Till) (o : Outside) (items : List RoundItem) (v : View) → length dispatch.readers.items ≡ length core.terminals → Knows dispatch number at till o →
-    MidRound setup core kept tills polls now (AreHeard (heard_by dispatch.readers.items o)) [] items v → MidRound setup core kept tills polls now (AllHear dispatch.readers.items) [] items v
-hear-again setup dispatch core kept tills polls now number at till o items v count k q = record {
+hear-again : (setup : Setup) (core : Core) (kept : List Record) (tills : List Till) (polls : ℕ) (now : ℤ) (readers : List (List ℕ)) (o : Outside) (items : List RoundItem) (v : View) → length readers ≡ length core.terminals → Fit readers (heard_by readers o) →
+    MidRound setup core kept tills polls now (AreHeard (heard_by readers o)) [] items v → MidRound setup core kept tills polls now (AllHear readers) [] items v
+hear-again setup core kept tills polls now readers o items v count fits q = record {
   outside = q.outside;
   round = q.round;
   tills_are = q.tills_are;
   linked = q.linked;
-  also = λ pt there. hears-at dispatch.readers.items (heard_by dispatch.readers.items o) core q.outside pt count q.linked q.also (k.fits pt) there;
+  also = λ pt there. hears-at readers (heard_by readers o) core q.outside pt count q.linked q.also (fits pt) there;
 }
 
 -- what serves the till's bytes
-abbrev pub Serves : Observed → Observed → RunState → RunState → ℤ → ℕ → List ℕ → List ℕ → Result Served TurnFault → Type 0
-Serves a b old new now number bytes left result = (setup : Setup) (tills : List Till) (polls : ℕ) (heard : ℕ → List ℕ) (items : List RoundItem) → gateway_of setup ≡ old.gateway → IsThere number tills →
-    Triple a b (HeldRound setup old tills polls now (AreHeard heard) [] (decoded_items number (decode_frames bytes) ++ items)) (AfterTill result setup new tills polls now (AreHeard heard) number left items)
+abbrev pub Serves : Observed → Observed → RunState → RunState → List Till → List Till → ℤ → ℕ → Result (Unit {0}) TurnFault → Type 0
+Serves a b old new tills left now number result = (setup : Setup) (polls : ℕ) (heard : ℕ → List ℕ) (items : List RoundItem) → gateway_of setup ≡ old.gateway →
+    Triple a b (HeldRound setup old tills polls now (AreHeard heard) [] (items_of number tills ++ items)) (AfterTill result setup new left polls now (AreHeard heard) number items)
 
--- the till is among those once its chunk was heard
-still-there : (dispatch : Dispatch) (number at : ℕ) (chunk : List ℕ) (o : Outside) → MatchesOutside dispatch o → rank number dispatch.tills.list.items ≡ Some at → IsThere number (tills_with o number chunk)
-still-there dispatch number at chunk o matches ranked =
-    is_there (rank number (tills_with o number chunk)) refl
-  where
-    is_there : (r : Option ℕ) → rank number (tills_with o number chunk) ≡ r → IsThere number (tills_with o number chunk)
-    is_there (Some index) e = (index, e)
-    is_there None e = absurd (let h : false ≡ true = sym (rank-held-none (hears o.tills number chunk) number e) ∙ open-hears o.tills number chunk ∙ rank-held-open o.tills number at (ap (rank number) (sym matches.tills_are.tills_are) ∙ ranked) in cc)
+-- the till of this number, whose reader has been fed a chunk
+module _ (dispatch : Dispatch) (number at : ℕ) (chunk : List ℕ) (till : Till) (ranked : rank number dispatch.tills.list.items ≡ Some at) (is : till ≡ get_or dispatch.tills.list.items at till) where
+  abbrev held : List Till
+  held = dispatch.tills.list.items
 
--- an outside, and tills among which this one is
-record Choice (till : Till) : Type 0 where
-  outside : Outside
-  tills : List Till
-  there : IsThere till.number tills
+  abbrev pub fed : List Till
+  fed = slice_set held at (record till { reader = till.reader ++ chunk })
 
--- one is wanted where the site is dark
-no_choice : (till : Till) → Choice till
-no_choice till = record { outside = no_outside; tills = till ∷ []; there = (0, rw (eq-eqb till.number till.number refl) refl) }
+  there-at : IsAt number held at till
+  there-at = till-at number held at till ranked
 
--- the bytes of a till that is held
-pub chunk-held : (a b : Observed) (setup : Setup) (dispatch : Dispatch) (new : RunState) (polls : ℕ) (now : ℤ) (number at : ℕ) (chunk : List ℕ) (till : Till) (result : Result Served TurnFault) (left : List ℕ) (Q : View → Type 0) →
-    AreReady dispatch.state.core dispatch.readers.items → gateway_of setup ≡ dispatch.state.gateway → rank number dispatch.tills.list.items ≡ Some at → get_or dispatch.tills.list.items at till ≡ till → Serves a b dispatch.state new now till.number (till.reader ++ chunk) left result →
-    ((o : Outside) → Knows dispatch number at till o → (v : View) → AfterTill result setup new (tills_with o number chunk) polls now (AreHeard (heard_by dispatch.readers.items o)) number left (due_in dispatch) v → Q v) →
-    Triple a b (BeforeChunk setup dispatch polls now number chunk) Q
-chunk-held a b setup dispatch new polls now number at chunk till result left Q ready named ranked is served finish =
-    triple-before a b _ _ _ open-up
-    (triple-some a b (λ (c : Choice till) v. Waits c v × IsRight c) Q (no_choice till)
-    (λ c. triple-after a b _ _ _ (triple-frame a b _ _ (IsRight c) (served setup c.tills polls (heard_by dispatch.readers.items c.outside) (due_in dispatch) named c.there))
-    (λ v q. finish c.outside q.1.0 v (rw q.1.0.number_is at (subst (λ tills. AfterTill result setup new tills polls now (AreHeard (heard_by dispatch.readers.items c.outside)) till.number left (due_in dispatch) v) q.1.1 q.0)))))
-  where
-    Waits : Choice till → View → Type 0
-    Waits c v = HeldRound setup dispatch.state c.tills polls now (AreHeard (heard_by dispatch.readers.items c.outside)) [] (decoded_items till.number (decode_frames (till.reader ++ chunk)) ++ due_in dispatch) v
+  number-at : till.number ≡ number
+  number-at = let there = there-at in ap (λ (t : Till). t.number) is ∙ there.number_is
 
-    IsRight : Choice till → Type 0
-    IsRight c = Knows dispatch number at till c.outside × (c.tills ≡ tills_with c.outside number chunk)
+  reader-at : reader_of number held ≡ Some till.reader
+  reader-at = let there = there-at in there.reader ∙ ap (λ (t : Till). Some t.reader) (sym is)
 
-    open-up : (v : View) → BeforeChunk setup dispatch polls now number chunk v → (c : Choice till) × (Waits c v × IsRight c)
-    open-up v (o, b) =
-        let f = found o.tills number at chunk (ap (rank number) (sym b.matches.tills_are.tills_are) ∙ ranked) in
-        let whole : till ≡ record { number = number; reader = (decode_frames (heard_on o.tills number)).rest } = sym is ∙ ap (λ t. get_or t at till) b.matches.tills_are.tills_are ∙ f.till till in
-        let n : till.number ≡ number = ap (λ (t : Till). t.number) whole in
-        let r : till.reader ≡ (decode_frames (heard_on o.tills number)).rest = ap (λ (t : Till). t.reader) whole in
-        let items : till_bytes_items number (heard_on o.tills number) chunk ≡ decoded_items till.number (decode_frames (till.reader ++ chunk)) =
-        ap (decoded_items number) (sym (reading-chunk (heard_on o.tills number) chunk)) ∙ ap (λ x. decoded_items number (decode_frames (x ++ chunk))) (sym r) ∙ ap (λ x. decoded_items x (decode_frames (till.reader ++ chunk))) (sym n) in (
-          record { outside = o; tills = tills_with o number chunk; there = rw n (still-there dispatch number at chunk o b.matches ranked) },
-          (
-            record {
-              outside = outside_after o (HeardTill number chunk);
-              round = subst (λ list. InRound (known_by setup dispatch now) polls (outside_after o (HeardTill number chunk)) (list ++ due_in dispatch) v) items b.round;
-              tills_are = record { tills_are = refl; below = below-hears o.next_till o.tills number chunk b.matches.tills_are.below };
-              linked = b.matches.linked;
-              also = are-heard dispatch.readers.items o;
-            },
-            (record { matches = b.matches; reader = r; number_is = n; index_is = ranked; fits = fit-heard dispatch.readers.items o ready.waits b.matches.hear }, refl),
-          ),
-        )
+  pub fed-bytes : bytes_held number fed ≡ till.reader ++ chunk
+  fed-bytes = let there = there-at in ap (λ r. unwrap_or r []) (there.set_here (record till { reader = till.reader ++ chunk }) number-at)
 
--- after the till's bytes were served, while it is still there
-pub chunk-incomplete : (a b : Observed) (setup : Setup) (dispatch : Dispatch) (new_held : RunState) (polls : ℕ) (now : ℤ) (number at : ℕ) (chunk : List ℕ) (till new : Till) →
-    AreReady dispatch.state.core dispatch.readers.items → length new_held.core.terminals ≡ length dispatch.state.core.terminals → gateway_of setup ≡ dispatch.state.gateway → rank number dispatch.tills.list.items ≡ Some at → get_or dispatch.tills.list.items at till ≡ till → new.number ≡ till.number → ReadsOn Incomplete (till.reader ++ chunk) new.reader →
-    Serves a b dispatch.state new_held now till.number (till.reader ++ chunk) new.reader (Ok Incomplete) →
-    Triple a b (BeforeChunk setup dispatch polls now number chunk) (HandledWith setup new_held.core new_held.records.ledger.records dispatch.readers.items (slice_set dispatch.tills.list.items at new) polls now)
-chunk-incomplete a b setup dispatch new_held polls now number at chunk till new ready count named ranked is n r served =
-    chunk-held a b setup dispatch new_held polls now number at chunk till (Ok Incomplete) new.reader _ ready named ranked is served (λ o k v q.
-    subst (λ tills. HandledWith setup new_held.core new_held.records.ledger.records dispatch.readers.items tills polls now v) (sym (tills-left dispatch number at chunk till new o k n r))
-    (subst (λ count. MidRound setup new_held.core new_held.records.ledger.records (tills_with o number chunk) polls now (AllHear dispatch.readers.items) [] (due_items count) v) (sym count)
-    (hear-again setup dispatch new_held.core new_held.records.ledger.records (tills_with o number chunk) polls now number at till o (due_in dispatch) v (ready.count ∙ sym count) k q)))
+  pub fed-others : OthersStillHold number held fed
+  fed-others = let there = there-at in λ other apart. inl (there.set_apart (record till { reader = till.reader ++ chunk }) number-at other apart)
 
--- after the till was cut, and forgotten
-chunk-gone : (a b : Observed) (setup : Setup) (dispatch : Dispatch) (new_held : RunState) (rest : List Till) (new_core : Core) (polls : ℕ) (now : ℤ) (number at : ℕ) (chunk : List ℕ) (till new : Till) →
-    AreReady dispatch.state.core dispatch.readers.items → length new_held.core.terminals ≡ length dispatch.state.core.terminals → gateway_of setup ≡ dispatch.state.gateway → rank number dispatch.tills.list.items ≡ Some at → get_or dispatch.tills.list.items at till ≡ till → new.number ≡ till.number → rest ≡ others (slice_set dispatch.tills.list.items at new) number →
-    new_core ≡ core_without new_held.core number → Serves a b dispatch.state new_held now till.number (till.reader ++ chunk) new.reader (Ok Gone) →
-    Triple a b (BeforeChunk setup dispatch polls now number chunk) (HandledWith setup new_core new_held.records.ledger.records dispatch.readers.items rest polls now)
-chunk-gone a b setup dispatch new_held rest new_core polls now number at chunk till new ready count named ranked is n e forgot served =
-    chunk-held a b setup dispatch new_held polls now number at chunk till (Ok Gone) new.reader _ ready named ranked is served (λ o k v q.
-    let same : length (core_without new_held.core number).terminals ≡ length dispatch.state.core.terminals = length-map new_held.core.terminals (forgets_till number) ∙ count in
-    subst (λ tills. HandledWith setup new_core new_held.records.ledger.records dispatch.readers.items tills polls now v) (sym (e ∙ tills-but dispatch number at chunk till new o k n))
-    (subst (λ c. HandledWith setup c new_held.records.ledger.records dispatch.readers.items (others (tills_with o number chunk) number) polls now v) (sym forgot)
-    (subst (λ count. MidRound setup (core_without new_held.core number) new_held.records.ledger.records (others (tills_with o number chunk) number) polls now (AllHear dispatch.readers.items) [] (due_items count) v) (sym same)
-    (hear-again setup dispatch (core_without new_held.core number) new_held.records.ledger.records (others (tills_with o number chunk) number) polls now number at till o (due_in dispatch) v (ready.count ∙ sym same) k q))))
+  -- it held the rest of what its connection had heard
+  held-rest : AreWaiting held → (o : Outside) → HoldsTills held o → till.reader ≡ (decode_frames (heard_on o.tills number)).rest
+  held-rest waiting o holds =
+      let found_is = found o.tills number at chunk (ap (rank number) (sym holds.tills_are) ∙ rank-rested number held ∙ ranked) in
+      let there : IsAt number (map till_of o.tills) at till = till-at number (map till_of o.tills) at till (ap (rank number) (sym holds.tills_are) ∙ rank-rested number held ∙ ranked) in
+      let waits : IsIncompleteFrame till.reader = subst (λ r. IsIncompleteFrame (unwrap_or r [])) reader-at (waiting number) in
+      let one : Some (decode_frames till.reader).rest ≡ Some (decode_frames (heard_on o.tills number)).rest =
+      sym (reader-rested number held ∙ ap (option_map (λ bytes. (decode_frames bytes).rest)) reader-at) ∙ ap (reader_of number) holds.tills_are ∙ there.reader ∙ ap (λ (t : Till). Some t.reader) (found_is.till till) in
+      let same : (decode_frames till.reader).rest ≡ (decode_frames (heard_on o.tills number)).rest = cc in
+      ap (λ (r : DecodedFrames). r.rest) (sym (reading-waiting till.reader (incomplete-waits till.reader waits))) ∙ same
 
--- so it is with what is held then
-pub chunk-forgotten : (a b : Observed) (setup : Setup) (dispatch after : Dispatch) (new_held : RunState) (polls : ℕ) (now : ℤ) (number at : ℕ) (chunk : List ℕ) (till new : Till) → AreReady dispatch.state.core dispatch.readers.items →
-    length new_held.core.terminals ≡ length dispatch.state.core.terminals → gateway_of setup ≡ dispatch.state.gateway → rank number dispatch.tills.list.items ≡ Some at → get_or dispatch.tills.list.items at till ≡ till → new.number ≡ till.number →
-    after.tills.list.items ≡ others (slice_set dispatch.tills.list.items at new) number → after.state ≡ held_without new_held number → after.readers.items ≡ dispatch.readers.items → Serves a b dispatch.state new_held now till.number (till.reader ++ chunk) new.reader (Ok Gone) →
-    Triple a b (BeforeChunk setup dispatch polls now number chunk) (HandledWith setup after.state.core after.state.records.ledger.records after.readers.items after.tills.list.items polls now)
-chunk-forgotten a b setup dispatch after new_held polls now number at chunk till new ready count named ranked is n e forgot same served =
-    subst (λ (h : RunState). Triple a b (BeforeChunk setup dispatch polls now number chunk) (HandledWith setup h.core h.records.ledger.records after.readers.items after.tills.list.items polls now)) (sym forgot)
-    (subst (λ readers. Triple a b (BeforeChunk setup dispatch polls now number chunk) (HandledWith setup (core_without new_held.core number) new_held.records.ledger.records readers after.tills.list.items polls now)) (sym same)
-    (chunk-gone a b setup dispatch new_held after.tills.list.items (core_without new_held.core number) polls now number at chunk till new ready count named ranked is n e refl served))
+  -- and holds what is still to be taken of what it has heard now
+  fed-holds : AreWaiting held → (o : Outside) → HoldsTills held o → HoldsTills fed (outside_after o (HeardTill number chunk))
+  fed-holds waiting o holds =
+      let found_is = found o.tills number at chunk (ap (rank number) (sym holds.tills_are) ∙ rank-rested number held ∙ ranked) in
+      let there = there-at in
+      record {
+        tills_are =
+            there.rests (record till { reader = till.reader ++ chunk })
+            ∙ ap (λ t. slice_set t at (rested (record till { reader = till.reader ++ chunk }))) holds.tills_are
+            ∙ ap (λ n. slice_set (map till_of o.tills) at (record { number = n; reader = (decode_frames (till.reader ++ chunk)).rest })) number-at
+            ∙ ap (λ r. slice_set (map till_of o.tills) at (record { number = number; reader = r })) (ap (λ r. (decode_frames (r ++ chunk)).rest) (held-rest waiting o holds) ∙ sym (rest-chunk (heard_on o.tills number) chunk))
+            ∙ found_is.more;
+        below = below-hears o.next_till o.tills number chunk holds.below;
+      }
 
--- after a fault
-pub chunk-failed : (a b : Observed) (setup : Setup) (dispatch : Dispatch) (new_held : RunState) (polls : ℕ) (now : ℤ) (number at : ℕ) (chunk : List ℕ) (till new : Till) (fault : TurnFault) →
-    AreReady dispatch.state.core dispatch.readers.items → gateway_of setup ≡ dispatch.state.gateway → rank number dispatch.tills.list.items ≡ Some at → get_or dispatch.tills.list.items at till ≡ till → Serves a b dispatch.state new_held now till.number (till.reader ++ chunk) new.reader (Err fault) →
-    Triple a b (BeforeChunk setup dispatch polls now number chunk) (AfterFault fault)
-chunk-failed a b setup dispatch new_held polls now number at chunk till new fault ready named ranked is served =
-    chunk-held a b setup dispatch new_held polls now number at chunk till (Err fault) new.reader _ ready named ranked is served (λ o k v q. q)
+  fed-items : AreWaiting held → (o : Outside) → HoldsTills held o → till_bytes_items number (heard_on o.tills number) chunk ≡ items_of number fed
+  fed-items waiting o holds =
+      ap (decoded_items number) (sym (reading-chunk (heard_on o.tills number) chunk)) ∙ ap (λ r. decoded_items number (decode_frames (r ++ chunk))) (sym (held-rest waiting o holds)) ∙ ap (λ bytes. decoded_items number (decode_frames bytes)) (sym fed-bytes)
+
+  -- the bytes of a till that is held
+  chunk-held : (a b : Observed) (setup : Setup) (new : RunState) (left : List Till) (polls : ℕ) (now : ℤ) (result : Result (Unit {0}) TurnFault) (Q : View → Type 0) → AreReady dispatch.state.core dispatch.readers.items → AreWaiting held → gateway_of setup ≡ dispatch.state.gateway →
+      Serves a b dispatch.state new fed left now number result →
+      ((o : Outside) → Fit dispatch.readers.items (heard_by dispatch.readers.items o) → (v : View) → AfterTill result setup new left polls now (AreHeard (heard_by dispatch.readers.items o)) number (due_in dispatch) v → Q v) →
+      Triple a b (BeforeChunk setup dispatch polls now number chunk) Q
+  chunk-held a b setup new left polls now result Q ready waiting named served finish =
+      triple-before a b _ _ _ open-up
+      (triple-some a b (λ (o : Outside) v. Waits o v × Fit dispatch.readers.items (heard_by dispatch.readers.items o)) Q no_outside
+      (λ o. triple-after a b _ _ _ (triple-frame a b _ _ (Fit dispatch.readers.items (heard_by dispatch.readers.items o)) (served setup polls (heard_by dispatch.readers.items o) (due_in dispatch) named)) (λ v q. finish o q.1 v q.0)))
+    where
+      Waits : Outside → View → Type 0
+      Waits o v = HeldRound setup dispatch.state fed polls now (AreHeard (heard_by dispatch.readers.items o)) [] (items_of number fed ++ due_in dispatch) v
+
+      open-up : (v : View) → BeforeChunk setup dispatch polls now number chunk v → (o : Outside) × (Waits o v × Fit dispatch.readers.items (heard_by dispatch.readers.items o))
+      open-up v (o, b) = (
+        o,
+        (
+          record {
+            outside = outside_after o (HeardTill number chunk);
+            round = subst (λ list. InRound (known_by setup dispatch now) polls (outside_after o (HeardTill number chunk)) (list ++ due_in dispatch) v) (fed-items waiting o b.matches.tills_are) b.round;
+            tills_are = fed-holds waiting o b.matches.tills_are;
+            linked = b.matches.linked;
+            also = are-heard dispatch.readers.items o;
+          },
+          fit-heard dispatch.readers.items o ready.waits b.matches.hear,
+        ),
+      )
+
+  -- once they were served
+  pub chunk-served : (a b : Observed) (setup : Setup) (new : RunState) (left : List Till) (polls : ℕ) (now : ℤ) (done : Unit {0}) → AreReady dispatch.state.core dispatch.readers.items → AreWaiting held → gateway_of setup ≡ dispatch.state.gateway →
+      length new.core.terminals ≡ length dispatch.state.core.terminals → IsIncompleteFrame (bytes_held number left) → Serves a b dispatch.state new fed left now number (Ok done) →
+      Triple a b (BeforeChunk setup dispatch polls now number chunk) (HandledWith setup new.core new.records.ledger.records dispatch.readers.items left polls now)
+  chunk-served a b setup new left polls now done ready waiting named count waits served = chunk-held a b setup new left polls now (Ok done) _ ready waiting named served (λ o fits v q.
+      subst (λ count. MidRound setup new.core new.records.ledger.records left polls now (AllHear dispatch.readers.items) [] (due_items count) v) (sym count)
+      (hear-again setup new.core new.records.ledger.records left polls now dispatch.readers.items o (due_in dispatch) v (ready.count ∙ sym count) fits
+      (waiting-items setup new.core new.records.ledger.records left polls now (AreHeard (heard_by dispatch.readers.items o)) number (due_in dispatch) v waits q)))
+
+  -- after a fault
+  pub chunk-failed : (a b : Observed) (setup : Setup) (new : RunState) (left : List Till) (polls : ℕ) (now : ℤ) (fault : TurnFault) → AreReady dispatch.state.core dispatch.readers.items → AreWaiting held → gateway_of setup ≡ dispatch.state.gateway →
+      Serves a b dispatch.state new fed left now number (Err fault) → Triple a b (BeforeChunk setup dispatch polls now number chunk) (AfterFault fault)
+  chunk-failed a b setup new left polls now fault ready waiting named served = chunk-held a b setup new left polls now (Err fault) _ ready waiting named served (λ o fits v q. q)
 
 -- ---- a till opens
 
@@ -266,7 +236,7 @@ pub open-held : (s : Observed) (setup : Setup) (dispatch : Dispatch) (polls : �
 open-held s setup dispatch polls now number at Q ranked = never s _ Q (λ v p.
     let o = p.0 in
     let b = p.1 in
-    let h : false ≡ true = sym (below-closed o.next_till number o.tills b.matches.tills_are.below b.above) ∙ rank-held-open o.tills number at (ap (rank number) (sym b.matches.tills_are.tills_are) ∙ ranked) in absurd cc)
+    let h : false ≡ true = sym (below-closed o.next_till number o.tills b.matches.tills_are.below b.above) ∙ rank-held-open o.tills number at (ap (rank number) (sym b.matches.tills_are.tills_are) ∙ rank-rested number dispatch.tills.list.items ∙ ranked) in absurd cc)
 
 items-few : (number : ℕ) (connections : List Connection) → length connections < 64 → till_opened_items number connections ≡ []
 items-few number connections lt = rw (lt-ltb (length connections) 64 lt) refl
@@ -280,12 +250,12 @@ pub open-taken : (s : Observed) (setup : Setup) (dispatch : Dispatch) (new : Lis
 open-taken s setup dispatch new polls now number few is = triple-after s s _ _ _ (triple-refl s (BeforeOpen setup dispatch polls now number)) (λ v p.
     let o = p.0 in
     let b = p.1 in
-    let l : length o.tills < 64 = (let k : length dispatch.tills.list.items ≡ length o.tills = ap length b.matches.tills_are.tills_are ∙ length-held o.tills in omega arith) in
+    let l : length o.tills < 64 = (let k : length dispatch.tills.list.items ≡ length o.tills = sym (length-map dispatch.tills.list.items rested) ∙ ap length b.matches.tills_are.tills_are ∙ length-held o.tills in omega arith) in
     record {
       outside = outside_after o (Opened number);
       round = subst (λ list. InRound (known_by setup dispatch now) polls (outside_after o (Opened number)) (list ++ due_in dispatch) v) (items-few number o.tills l) b.round;
       tills_are = record {
-        tills_are = is ∙ ap (λ t. t ++ record { number = number; reader = [] } ∷ []) b.matches.tills_are.tills_are ∙ sym (held-push o.tills number);
+        tills_are = ap (map rested) is ∙ rested-push dispatch.tills.list.items (record { number = number; reader = [] }) ∙ ap (λ t. t ++ record { number = number; reader = [] } ∷ []) b.matches.tills_are.tills_are ∙ sym (held-push o.tills number);
         below = below-push o.next_till number o.tills b.matches.tills_are.below b.above;
       };
       linked = b.matches.linked;
@@ -316,7 +286,7 @@ open-crowded a b setup dispatch new_core new_readers polls now number many forgo
 
     open-up : (v : View) → BeforeOpen setup dispatch polls now number v → (o : Outside) × (InRound knows polls (after o) (Crowded number ∷ due_in dispatch) v × IsFull o)
     open-up v (o, b) =
-        let l : 64 ≤ length o.tills = (let k : length dispatch.tills.list.items ≡ length o.tills = ap length b.matches.tills_are.tills_are ∙ length-held o.tills in omega arith) in
+        let l : 64 ≤ length o.tills = (let k : length dispatch.tills.list.items ≡ length o.tills = sym (length-map dispatch.tills.list.items rested) ∙ ap length b.matches.tills_are.tills_are ∙ length-held o.tills in omega arith) in
         (o, (subst (λ list. InRound knows polls (after o) (list ++ due_in dispatch) v) (items-many number o.tills l) b.round, (b.matches, b.above)))
 
     closed : (o : Outside) (v : View) → InRound (known_without knows number) polls (outside_after (after o) (TillCut number)) (due_in dispatch) v → IsFull o → HandledWith setup new_core dispatch.state.records.ledger.records new_readers dispatch.tills.list.items polls now v
@@ -473,7 +443,7 @@ rest-closed s number buf setup dispatch new new_core new_readers polls now what 
       outside = after o;
       round = q.0;
       tills_are = record {
-        tills_are = is ∙ ap (λ t. others t number) q.1.tills_are.tills_are ∙ others-held o.tills number;
+        tills_are = ap (map rested) is ∙ rested-others dispatch.tills.list.items number ∙ ap (λ t. others t number) q.1.tills_are.tills_are ∙ others-held o.tills number;
         below = below-without o.next_till o.tills number q.1.tills_are.below;
       };
       linked = linked-without dispatch.state.core number o (after o) refl q.1.linked;
@@ -554,7 +524,7 @@ opened-rest setup dispatch none new v h = let (scene, is, f) = h.opened in (
     kept_is = ap (λ (w : View). w.scene.kept) (sym is) ∙ h.kept;
     flight = f.flight;
     matches = record {
-      tills_are = record { tills_are = none ∙ ap (map till_of) (sym f.tills); below = subst (AreBelow scene.outside.next_till) (sym f.tills) tt };
+      tills_are = record { tills_are = ap (map rested) none ∙ ap (map till_of) (sym f.tills); below = subst (AreBelow scene.outside.next_till) (sym f.tills) tt };
       linked = λ number. ap (λ links. is_connected links number) f.links ∙ linked-new setup.terminals number ∙ ap (λ (core : Core). is_linked_in (slice_get core.terminals number)) (sym new);
       hear = λ number connected. absurd (let h : false ≡ true = sym (ap (λ links. is_connected links number) f.links) ∙ connected in cc);
     };

@@ -1,5 +1,5 @@
 -- What is held stays in order.
-use Rattle.std.proofs.Common.{◌≡◌, ℕ, List, [], ◌∷◌, length, refl, sym, ◌∙◌, ap, subst}
+use Rattle.std.proofs.Common.{◌≡◌, ◌≤◌, ℕ, List, [], ◌∷◌, length, refl, sym, ◌∙◌, ap, subst, arith}
 use Rattle.std.specs.Prelude.{map, Option, Some, None, slice_get}
 use Rattle.std.specs.Option.{option_map}
 use Rattle.std.proofs.lemmas.List.{length-map}
@@ -8,29 +8,37 @@ use Rattle.gw_site.specs.Observed.{Observed}
 use Rattle.jrn_record.specs.declared.records.Record.{Record}
 use Rattle.gw_owes.specs.Core.{Core}
 use Rattle.gw_owes.specs.Dialogues.{AllHaveDialogues, HasItsDialogue}
+use Rattle.gw_owes.specs.DeviceRequests.{greatest_device_number}
 use Rattle.gw_owes.specs.RecordLaws.{IsTerminalInOrder}
 use Rattle.gw_owes.specs.Terminals.{core_without, forgets_till}
 use Rattle.gw_owes.specs.declared.terminal.Terminal.{Terminal}
+use Rattle.gw_owes.proofs.DayLemmas.{days-forgotten}
 use Rattle.gw_core.specs.declared.gateway.Gateway.{Gateway}
 use Rattle.gw_dispatch.specs.Growth.{GoesOnBesideDisk}
 use Rattle.gw_dispatch.specs.RunState.{IsOrderly, IsWell, StandFor, StaysInOrder}
-use Rattle.gw_dispatch.proofs.GrowthLemmas.{still-stands}
 use Rattle.gw_dispatch.specs.MidRound.{AreReady}
 use Rattle.gw_dispatch.specs.Rounds.{IsReady}
 use Rattle.gw_dispatch.specs.Serving.{held_without}
+use Rattle.gw_dispatch.specs.Tills.{AllStillHold, others}
 use Rattle.gw_dispatch.specs.declared.engine.Dispatch.{Dispatch}
 use Rattle.gw_dispatch.specs.declared.run_state.RunState.{RunState}
 use Rattle.gw_dispatch.specs.declared.records.Records.{Records}
+use Rattle.gw_dispatch.proofs.ReaderLemmas.{dropped-still, waiting-still}
 
 -- ---- what is remembered
 
 -- nothing is changed
 pub stays-same : (core : Core) → StaysInOrder core core
-stays-same core = record { settings = refl; order = λ kept order. order }
+stays-same core = record { settings = refl; days = omega arith; device_requests = refl; order = λ kept order. order }
 
 -- one change after the other
 pub stays-then : (old mid new : Core) → StaysInOrder old mid → StaysInOrder mid new → StaysInOrder old new
-stays-then old mid new one other = record { settings = other.settings ∙ one.settings; order = λ kept order. other.order kept (one.order kept order) }
+stays-then old mid new one other = record {
+  settings = other.settings ∙ one.settings;
+  days = omega (arith, one.days, other.days);
+  device_requests = other.device_requests ∙ one.device_requests;
+  order = λ kept order. other.order kept (one.order kept order);
+}
 
 -- what is remembered of a till is forgotten
 module _ (till : ℕ) where
@@ -53,7 +61,9 @@ module _ (till : ℕ) where
   pub forgets-order : (core : Core) → StaysInOrder core (core_without core till)
   forgets-order core = record {
     settings = settings-forgotten core.terminals;
-    order = λ kept order. each-forgotten (IsTerminalInOrder kept) (λ terminal h. record { records = h.records; read = h.read; few = h.few }) core order;
+    days = omega (arith, days-forgotten till core.terminals);
+    device_requests = refl;
+    order = λ kept order. each-forgotten (IsTerminalInOrder kept) (λ terminal h. record { records = h.records; read = h.read }) core order;
   }
 
   pub forgets-dialogues : (core : Core) → AllHaveDialogues core → AllHaveDialogues (core_without core till)
@@ -68,7 +78,8 @@ orderly-core gateway kept old new order stays dialogues = record {
   gateway_is = order.gateway_is;
   of_setup = record { within = order.of_setup.within; settings = stays.settings ∙ order.of_setup.settings };
   folded = order.folded;
-  room = order.room;
+  room = omega (arith, order.room, stays.days);
+  numbered = subst (λ n. n ≤ greatest_device_number) (sym stays.device_requests) order.numbered;
   terminals = stays.order kept order.terminals;
   dialogues = dialogues;
 }
@@ -82,6 +93,7 @@ pub well-core : (state : RunState) (core : Core) (a b : Observed) → IsWell sta
 well-core state core a b well stays dialogues goes = record {
   order = orderly-core state.gateway state.records.ledger.records state.core core well.order stays dialogues;
   records = stand-on state.gateway state.records a b well.records goes;
+  spare = omega (arith, well.spare, stays.days);
 }
 
 -- a till is forgotten
@@ -99,21 +111,19 @@ forgets-ready core readers till ready = record {
 }
 
 -- something else is remembered
-pub ready-core : (dispatch : Dispatch) (core : Core) (readers : List (List ℕ)) (new : Dispatch) (a b : Observed) → new.state ≡ record dispatch.state { core = core } → new.readers.items ≡ readers → IsReady dispatch a → StaysInOrder dispatch.state.core core → AreReady core readers → GoesOnBesideDisk a b → IsReady new b
-ready-core dispatch core readers new a b state same ready stays are goes = record {
+pub ready-core : (dispatch : Dispatch) (core : Core) (readers : List (List ℕ)) (new : Dispatch) (a b : Observed) → new.state ≡ record dispatch.state { core = core } → new.readers.items ≡ readers → IsReady dispatch a → AllStillHold dispatch.tills.list.items new.tills.list.items → StaysInOrder dispatch.state.core core → AreReady core readers → GoesOnBesideDisk a b → IsReady new b
+ready-core dispatch core readers new a b state same ready still stays are goes = record {
   well = subst (λ h. IsWell h b) (sym state) (well-core dispatch.state core a b ready.well stays are.dialogues goes);
+  tills = waiting-still dispatch.tills.list.items new.tills.list.items ready.tills still;
   terminals = subst (λ (h : RunState). AreReady h.core new.readers.items) (sym state) (subst (AreReady core) (sym same) are);
 }
 
 -- a till is forgotten
-pub ready-without : (dispatch : Dispatch) (till : ℕ) (new : Dispatch) (a b : Observed) → new.state ≡ held_without dispatch.state till → new.readers ≡ dispatch.readers → IsReady dispatch a → GoesOnBesideDisk a b → IsReady new b
-ready-without dispatch till new a b state same ready goes =
-    ready-core dispatch (core_without dispatch.state.core till) dispatch.readers.items new a b state (ap (λ readers. readers.items) same) ready (forgets-order till dispatch.state.core) (forgets-ready dispatch.state.core dispatch.readers.items till ready.terminals) goes
+pub ready-without : (dispatch : Dispatch) (till : ℕ) (new : Dispatch) (a b : Observed) → new.state ≡ held_without dispatch.state till → new.tills.list.items ≡ others dispatch.tills.list.items till → new.readers ≡ dispatch.readers → IsReady dispatch a → GoesOnBesideDisk a b → IsReady new b
+ready-without dispatch till new a b state list same ready goes =
+    ready-core dispatch (core_without dispatch.state.core till) dispatch.readers.items new a b state (ap (λ readers. readers.items) same) ready (subst (AllStillHold dispatch.tills.list.items) (sym list) (dropped-still dispatch.tills.list.items till)) (forgets-order till dispatch.state.core)
+    (forgets-ready dispatch.state.core dispatch.readers.items till ready.terminals) goes
 
--- what is held was changed in order, and then a till is forgotten
-pub served-ready : (state : RunState) (core : Core) (readers : List (List ℕ)) (till : ℕ) (new : Dispatch) (b : Observed) → new.state ≡ held_without state till → new.readers.items ≡ readers → IsWell state b → AreReady core readers → length state.core.terminals ≡ length core.terminals → IsReady new b
-served-ready state core readers till new b is same well ready count = record {
-  well = subst (λ h. IsWell h b) (sym is) (well-without state till b b well (still-stands b));
-  terminals = subst (λ (h : RunState). AreReady h.core new.readers.items) (sym is) (subst (AreReady (core_without state.core till)) (sym same)
-      (forgets-ready state.core readers till (record { dialogues = well.order.dialogues; count = ready.count ∙ sym count; waits = ready.waits })));
-}
+-- a till was served
+pub served-ready : (state : RunState) (core : Core) (readers : List (List ℕ)) (b : Observed) → IsWell state b → AreReady core readers → length state.core.terminals ≡ length core.terminals → AreReady state.core readers
+served-ready state core readers b well ready count = record { dialogues = well.order.dialogues; count = ready.count ∙ sym count; waits = ready.waits }

@@ -1,57 +1,77 @@
 -- What is owed as the loop serves a till.
-use Rattle.std.proofs.Common.{◌≡◌, true, false, ℕ, ◌+◌, ◌<◌, List, [], ◌∷◌, ◌++◌, length, refl, sym, ◌∙◌, ap, arith, length-append, subst}
-use Rattle.std.specs.Prelude.{ℤ, Ok, ◌≢◌}
+use Rattle.std.proofs.Common.{◌≡◌, true, false, ℕ, ◌+◌, ◌<◌, ◌≤◌, List, [], ◌∷◌, ◌++◌, length, refl, sym, ◌∙◌, ap, arith, length-append, subst, inl, inr, get_or}
+use Rattle.std.specs.Prelude.{ℤ, Option, None, Some, map, unwrap_or, slice_set, Result, Ok, Err, IfOk, OnOk}
 use Rattle.gw_base.specs.Moment.{moment_of}
 use Rattle.gw_base.specs.declared.setup.Setup.{Setup}
 use Rattle.gw_site.specs.Observed.{Observed}
-use Rattle.gw_site.specs.Outside.{Outside, nothing_yet, outside_after, is_connected}
-use Rattle.gw_site.specs.declared.turn.Turn.TheVariants.{SentTill, CutTill as TillCut}
+use Rattle.gw_site.specs.Outside.{Outside, nothing_yet, is_connected}
 use Rattle.jrn_record.specs.declared.records.Record.{Record}
 use Rattle.sale_frame.specs.Grammar.{frame, IsPayload, IsIncompleteFrame, BeginsWithBadLength}
 use Rattle.sale_frame.specs.Decode.{decode_frames, DecodedFrames}
 use Rattle.sale_reply.specs.declared.reply.SaleReply.{SaleReply}
 use Rattle.sale_reply.specs.Reply.{tree_of}
+use Rattle.sale_reply.specs.declared.reply.Shown.{Shown}
 use Rattle.sale_values.specs.declared.header.Header.{Header}
 use Rattle.sale_values.specs.declared.request.SaleRequest.{SaleRequest}
 use Rattle.jrn_log.specs.Journal.{JournalValue, StandsFor}
 use Rattle.gw_owes.specs.Calls.{OwedCall, SendTill, CutTill}
 use Rattle.gw_owes.specs.Core.{Core}
+use Rattle.gw_owes.specs.Days.{days_served}
 use Rattle.gw_owes.specs.Events.{decoded_items}
 use Rattle.gw_owes.specs.Items.{RoundItem, Message, Asked, Serve, Unframed}
 use Rattle.gw_owes.specs.ReadAs.{ReadAs, IsReadAs}
-use Rattle.gw_owes.specs.Reply.{ReplyValue, reply_value_tree, reply_value_bytes}
+use Rattle.gw_owes.specs.Reply.{ReplyValue, reply_value_tree}
 use Rattle.gw_owes.specs.Row.{Known, Row, owing, owing_where}
 use Rattle.gw_owes.specs.Rows.{row_of, asked_row}
-use Rattle.gw_owes.specs.Terminals.{core_without}
-use Rattle.gw_owes.proofs.FrameLemmas.{items-waiting, items-unframed, items-payload, reading-payload, reading-waiting, incomplete-waits}
+use Rattle.gw_owes.proofs.FrameLemmas.{items-waiting, items-unframed, items-payload, reading-payload}
 use Rattle.gw_rules.specs.Lawful.{may_begin}
 use Rattle.gw_rules.specs.Scene.{Scene}
 use Rattle.gw_rules.specs.Stage.{busy}
 use Rattle.gw_rules.specs.Triple.{Triple, Owing}
-use Rattle.gw_rules.specs.View.{View, at_item, begun, called, till_cut}
-use Rattle.gw_rules.proofs.TripleLemmas.{triple-refl, triple-then, triple-after, triple-before, triple-frame, triple-some, begin-triple, read-triple}
+use Rattle.gw_rules.specs.View.{View, at_item, begun}
+use Rattle.gw_rules.proofs.TripleLemmas.{triple-refl, triple-then, triple-after, triple-before, triple-some, begin-triple, read-triple}
 use Rattle.gw_core.specs.ReplyOf.{IsTillRow, items_given}
 use Rattle.gw_core.specs.declared.gateway.Gateway.{Gateway}
 use Rattle.gw_core.specs.declared.till.Given.{Given}
 use Rattle.gw_core.specs.declared.till.Given.TheVariants as given
 use Rattle.gw_dispatch.specs.Growth.{GoesOnBesideDisk}
-use Rattle.gw_dispatch.specs.RunState.{gateway_of, HoldsSame, IsOrderly, IsWell}
+use Rattle.gw_dispatch.specs.RunState.{ForgetsAny, gateway_of, HoldsSame, IsOrderly, IsWell}
 use Rattle.gw_dispatch.specs.MidRound.{AreHeard, AreLinked, HeldRound, MidRound}
-use Rattle.gw_dispatch.specs.NextMessage.{TakesMessage}
-use Rattle.gw_dispatch.specs.Round.{Delivered, HoldsTills, InRound, IsIn, Pending, known_at, with_core}
-use Rattle.gw_dispatch.specs.Serving.{AfterFault, AfterTill, ReadsOn}
-use Rattle.gw_dispatch.specs.Tills.{IsThere, others, rank}
+use Rattle.gw_dispatch.specs.NextMessage.{HasSpareAfter, IsNextOf, IsThereWith, TakesMessage}
+use Rattle.gw_dispatch.specs.Round.{HoldsTills, InRound, IsIn, Pending, known_at, with_core}
+use Rattle.gw_dispatch.specs.Serving.{AfterFault, items_of}
+use Rattle.gw_dispatch.specs.Tills.{OthersStillHold, StillHolds, IsThere, bytes_held, others, rank, reader_of, rested}
 use Rattle.gw_dispatch.specs.declared.fault.TurnFault.{TurnFault}
 use Rattle.gw_dispatch.specs.declared.fault.TurnFault.TheVariants.{Memory}
 use Rattle.gw_dispatch.specs.declared.run_state.RunState.{RunState}
-use Rattle.gw_dispatch.specs.declared.replier.Served.{Served}
-use Rattle.gw_dispatch.specs.declared.replier.Served.TheVariants.{More, Incomplete, Gone}
+use Rattle.gw_dispatch.specs.declared.serving.Next.{Next}
+use Rattle.gw_dispatch.specs.declared.serving.Next.TheVariants.{Incomplete, Message as NextMessage, Unframed as NextUnframed}
 use Rattle.gw_dispatch.specs.declared.tills.Till.{Till}
-use Rattle.gw_dispatch.proofs.EngineLemmas.{IsHere, begin-first, begun-in, cut-in, known_without, pass-all, read-in, row-known, sent-in, some-scene, triple-known, without-closed}
-use Rattle.gw_dispatch.proofs.RunStateLemmas.{stand-on}
-use Rattle.gw_dispatch.proofs.RoundLemmas.{linked-without}
-use Rattle.gw_dispatch.proofs.SendLemmas.{Cuts}
-use Rattle.gw_dispatch.proofs.TillLemmas.{below-without, others-held, rank-held-open}
+use Rattle.gw_dispatch.proofs.EngineLemmas.{IsHere, begin-first, begun-in, pass-all, read-in, row-known, some-scene, triple-known}
+use Rattle.gw_dispatch.proofs.ReaderLemmas.{IsAt, dropped-reader, empty-waits, rank-rested, reader-absent, till-at}
+use Rattle.gw_dispatch.proofs.RunStateLemmas.{stand-on, well-core}
+use Rattle.gw_dispatch.proofs.SendLemmas.{sent-dialogues, sent-stays}
+use Rattle.gw_dispatch.proofs.TillLemmas.{rank-held-none, rank-held-open}
+
+-- ---- a till that isn't there
+
+-- its reader holds nothing
+none-of : (till : ℕ) (tills : List Till) → reader_of till tills ≡ None → items_of till tills ≡ []
+none-of till tills gone = ap (λ r. decoded_items till (decode_frames (unwrap_or r []))) gone ∙ items-waiting till [] empty-waits
+
+-- after its cut nothing of its bytes comes
+pub dropped-items : (setup : Setup) (state : RunState) (left mid : List Till) (polls : ℕ) (now : ℤ) (heard : ℕ → List ℕ) (till : ℕ) (items : List RoundItem) (v : View) → left ≡ others mid till → HeldRound setup state left polls now (AreHeard heard) [] items v → HeldRound setup state left polls now (AreHeard heard) [] (items_of till left ++ items) v
+dropped-items setup state left mid polls now heard till items v is h =
+    subst (λ list. HeldRound setup state left polls now (AreHeard heard) [] (list ++ items) v) (sym (none-of till left (ap (reader_of till) is ∙ dropped-reader mid till))) h
+
+-- its bytes are the same
+pub same-items : (setup : Setup) (state : RunState) (polls : ℕ) (now : ℤ) (heard : ℕ → List ℕ) (till : ℕ) (tills left : List Till) (items : List RoundItem) (v : View) → bytes_held till tills ≡ bytes_held till left →
+    HeldRound setup state tills polls now (AreHeard heard) [] (items_of till tills ++ items) v → HeldRound setup state tills polls now (AreHeard heard) [] (items_of till left ++ items) v
+same-items setup state polls now heard till tills left items v same h = subst (λ bytes. HeldRound setup state tills polls now (AreHeard heard) [] (decoded_items till (decode_frames bytes) ++ items) v) same h
+
+-- where less than a frame waits nothing comes
+pub waiting-items : (setup : Setup) (core : Core) (kept : List Record) (tills : List Till) (polls : ℕ) (now : ℤ) (Also : Outside → Type 0) (till : ℕ) (items : List RoundItem) (v : View) → IsIncompleteFrame (bytes_held till tills) → MidRound setup core kept tills polls now Also [] (items_of till tills ++ items) v → MidRound setup core kept tills polls now Also [] items v
+waiting-items setup core kept tills polls now Also till items v waits h = subst (λ list. MidRound setup core kept tills polls now Also [] (list ++ items) v) (items-waiting till (bytes_held till tills) waits) h
 
 -- ---- an item of a till begins
 
@@ -95,17 +115,6 @@ record IsHeld (core : Core) (tills : List Till) (heard : ℕ → List ℕ) (o : 
   pub linked : AreLinked core o
   pub also : AreHeard heard o
 
--- what sends a reply that is owed
-abbrev pub Sends : Observed → Observed → ℕ → SaleReply → Served → Type 0
-Sends a b till reply served = (owed : ReplyValue) → tree_of reply ≡ reply_value_tree owed → (scene : Scene) (items : List RoundItem) →
-    Triple a b (Owing scene (SendTill till owed ∷ []) items) (Delivered served scene till (reply_value_bytes owed) items)
-
--- after a send: the other messages come next, or the till was cut
-abbrev AfterSend : Served → Setup → Core → List Record → List Till → ℕ → ℤ → (ℕ → List ℕ) → ℕ → DecodedFrames → List RoundItem → View → Type 0
-AfterSend More setup core kept tills polls now heard till reading items v = MidRound setup core kept tills polls now (AreHeard heard) [] (decoded_items till reading ++ items) v
-AfterSend Incomplete setup core kept tills polls now heard till reading items v = ⊥
-AfterSend Gone setup core kept tills polls now heard till reading items v = MidRound setup (core_without core till) kept (others tills till) polls now (AreHeard heard) [] items v
-
 module _ (setup : Setup) (core : Core) (kept : List Record) (tills : List Till) (polls : ℕ) (now : ℤ) (heard : ℕ → List ℕ) where
   abbrev knows : Known
   knows = known_at setup core kept now
@@ -127,50 +136,32 @@ module _ (setup : Setup) (core : Core) (kept : List Record) (tills : List Till) 
       (triple-some s s (λ o v. Pending knows polls o calls items v × IsHeld core tills heard o) Q nothing_yet
       (λ o. triple-known s (IsHeld core tills heard o) (Pending knows polls o calls items) Q (λ h. k o h)))
 
-  -- by a call, in each outside
-  mid-call : (a b : Observed) (calls : List OwedCall) (items : List RoundItem) (R : Outside → View → Type 0) (Q : View → Type 0) → ((o : Outside) → Triple a b (Pending knows polls o calls items) (R o)) → ((o : Outside) (v : View) → IsHeld core tills heard o → R o v → Q v) →
-      Triple a b (Owes calls items) Q
-  mid-call a b calls items R Q call then =
-      triple-before a b (Owes calls items) (λ v. (o : Outside) × (Pending knows polls o calls items v × IsHeld core tills heard o)) Q (out-of calls items)
-      (triple-some a b (λ o v. Pending knows polls o calls items v × IsHeld core tills heard o) Q nothing_yet
-      (λ o. triple-after a b _ _ Q (triple-frame a b _ _ (IsHeld core tills heard o) (call o)) (λ v q. then o v q.1 q.0)))
-
   is-here : (till : ℕ) → IsThere till tills → (o : Outside) → IsHeld core tills heard o → IsHere o till
-  is-here till there o h = rank-held-open o.tills till there.0 (ap (rank till) (sym h.tills_are.tills_are) ∙ there.1)
+  is-here till there o h = rank-held-open o.tills till there.0 (ap (rank till) (sym h.tills_are.tills_are) ∙ rank-rested till tills ∙ there.1)
 
   -- ---- what a reader holds
 
-  -- less than a frame waits
-  pub still-waiting : (s : Observed) (till : ℕ) (bytes : List ℕ) (items : List RoundItem) → IsIncompleteFrame bytes → Triple s s (Owes [] (decoded_items till (decode_frames bytes) ++ items)) (Owes [] items)
-  still-waiting s till bytes items h = triple-before s s _ (Owes [] items) _ (λ v p. subst (λ list. Owes [] (list ++ items) v) (items-waiting till bytes h) p) (triple-refl s (Owes [] items))
-
-  -- once a till was cut
-  gone : (till : ℕ) (items : List RoundItem) (o : Outside) (v : View) → IsHeld core tills heard o → InRound (known_without knows till) polls (outside_after o (TillCut till)) items v →
-      MidRound setup (core_without core till) kept (others tills till) polls now (AreHeard heard) [] items v
-  gone till items o v h p = record {
-    outside = outside_after o (TillCut till);
-    round = p;
-    tills_are = record {
-      tills_are = ap (λ t. others t till) h.tills_are.tills_are ∙ others-held o.tills till;
-      below = below-without o.next_till o.tills till h.tills_are.below;
-    };
-    linked = linked-without core till o (outside_after o (TillCut till)) refl h.linked;
-    also = h.also;
-  }
-
-  -- bytes that begin no frame are followed by the cut
-  pub unframed : (a b : Observed) (till : ℕ) (bytes : List ℕ) (items : List RoundItem) → IsThere till tills → BeginsWithBadLength bytes → Cuts a b till →
-      Triple a b (Owes [] (decoded_items till (decode_frames bytes) ++ items)) (MidRound setup (core_without core till) kept (others tills till) polls now (AreHeard heard) [] items)
-  unframed a b till bytes items there bad cuts = triple-then a a b _ (Owes (CutTill till ∷ []) items) _
-      (triple-before a a _ (Owes [] (Unframed till ∷ items)) _ (λ v p. subst (λ list. Owes [] (list ++ items) v) (items-unframed till bytes bad) p)
-      (mid-still a [] (Unframed till ∷ items) (Owes (CutTill till ∷ []) items) (λ o h. triple-after a a _ _ _
-      (begin-first a knows polls o (Unframed till) items core (CutTill till ∷ [])
+  -- bytes that begin no frame owe the cut
+  pub unframed : (s : Observed) (till : ℕ) (bytes : List ℕ) (items : List RoundItem) → IsThere till tills → BeginsWithBadLength bytes →
+      Triple s s (Owes [] (decoded_items till (decode_frames bytes) ++ items)) (Owes (CutTill till ∷ []) items)
+  unframed s till bytes items there bad =
+      triple-before s s _ (Owes [] (Unframed till ∷ items)) _ (λ v p. subst (λ list. Owes [] (list ++ items) v) (items-unframed till bytes bad) p)
+      (mid-still s [] (Unframed till ∷ items) (Owes (CutTill till ∷ []) items) (λ o h. triple-after s s _ _ _
+      (begin-first s knows polls o (Unframed till) items core (CutTill till ∷ [])
       (record { begins = λ scene e. refl; row = ap (λ there. owing_where there knows (owing knows (CutTill till ∷ []))) (is-here till there o h) }))
-      (λ v p. into (CutTill till ∷ []) items o v h p))))
-      (mid-call a b (CutTill till ∷ []) items (λ o v. InRound (known_without knows till) polls (outside_after o (TillCut till)) items v) _
-      (λ o. some-scene a b knows polls o (CutTill till ∷ []) items (InRound (known_without knows till) polls (outside_after o (TillCut till)) items)
-      (λ scene. triple-after a b _ _ _ (triple-frame a b _ _ (IsIn knows polls o scene) (cuts scene items)) (λ v q. (till_cut scene till, q.0, cut-in knows polls o till scene q.1))))
-      (λ o v h p. gone till items o v h p))
+      (λ v p. into (CutTill till ∷ []) items o v h p)))
+
+  is-gone : (till : ℕ) → reader_of till tills ≡ None → (o : Outside) → IsHeld core tills heard o → is_connected o.tills till ≡ false
+  is-gone till gone o h = rank-held-none o.tills till (ap (rank till) (sym h.tills_are.tills_are) ∙ rank-rested till tills ∙ reader-absent till tills gone)
+
+  -- the items of what its reader held come next while the till is there, and else none
+  pub still-left : (s : Observed) (till : ℕ) (mid : List Till) (items : List RoundItem) → StillHolds till mid tills → Triple s s (Owes [] (items_of till mid ++ items)) (Owes [] (items_of till tills ++ items))
+  still-left s till mid items (inl same) =
+      triple-before s s _ (Owes [] (items_of till tills ++ items)) _ (λ v p. subst (λ r. Owes [] (decoded_items till (decode_frames (unwrap_or r [])) ++ items) v) (sym same) p) (triple-refl s (Owes [] (items_of till tills ++ items)))
+  still-left s till mid items (inr gone) =
+      mid-still s [] (items_of till mid ++ items) (Owes [] (items_of till tills ++ items)) (λ o h. triple-after s s _ _ _
+      (pass-all knows polls o till (is-gone till gone o h) s (decode_frames (bytes_held till mid)) items)
+      (λ v p. subst (λ list. Owes [] (list ++ items) v) (sym (none-of till tills gone)) (into [] items o v h p)))
 
   -- ---- a message
 
@@ -195,41 +186,17 @@ module _ (setup : Setup) (core : Core) (kept : List Record) (tills : List Till) 
   taken-silent gateway same till there old new t s items = taken gateway same till there given.Nothing old new t s items [] (row-is gateway same till there given.Nothing old new t).calls_are
 
   -- one that begins at a terminal
-  pub taken-begins : (gateway : Gateway) → gateway_of setup ≡ gateway → (till : ℕ) → IsThere till tills → (pt : ℕ) (header : Header) (request : SaleRequest) (old new : List ℕ) → TakesMessage gateway kept core (moment_of now) (given.Begins pt header request) old new →
+  pub taken-begins : (gateway : Gateway) → gateway_of setup ≡ gateway → (till : ℕ) → IsThere till tills → (pt : ℕ) (header : Header) (request : SaleRequest) (results : Option (List Shown)) (old new : List ℕ) → TakesMessage gateway kept core (moment_of now) (given.Begins pt header request results) old new →
       (s : Observed) (items : List RoundItem) → Triple s s (Owes [] (decoded_items till (decode_frames old) ++ items)) (Owes [] (Serve pt till header request ∷ (decoded_items till (decode_frames new) ++ items)))
-  taken-begins gateway same till there pt header request old new t s items =
-      taken gateway same till there (given.Begins pt header request) old new t s items [] (row-is gateway same till there (given.Begins pt header request) old new t).calls_are
-
-  -- the reply was sent, or the till cut
-  pub sent-or-gone : (a b : Observed) (till : ℕ) (owed : ReplyValue) (reading : DecodedFrames) (items : List RoundItem) (served : Served) → served ≢ Incomplete →
-      ((scene : Scene) (later : List RoundItem) → Triple a b (Owing scene (SendTill till owed ∷ []) later) (Delivered served scene till (reply_value_bytes owed) later)) →
-      Triple a b (Owes (SendTill till owed ∷ []) (decoded_items till reading ++ items)) (AfterSend served setup core kept tills polls now heard till reading items)
-  sent-or-gone a b till owed reading items More whole sends =
-      let later : List RoundItem = decoded_items till reading ++ items in
-      mid-call a b (SendTill till owed ∷ []) later (λ o v. InRound knows polls o later v) _
-      (λ o. some-scene a b knows polls o (SendTill till owed ∷ []) later (InRound knows polls o later) (λ scene.
-      triple-after a b _ _ _ (triple-frame a b _ _ (IsIn knows polls o scene) (sends scene later))
-      (λ v q. (called scene (SentTill till (reply_value_bytes owed) true), q.0, sent-in knows polls o till (reply_value_bytes owed) true scene q.1))))
-      (λ o v h p. into [] later o v h p)
-  sent-or-gone a b till owed reading items Incomplete whole sends = absurd (whole refl)
-  sent-or-gone a b till owed reading items Gone whole sends =
-      let later : List RoundItem = decoded_items till reading ++ items in
-      mid-call a b (SendTill till owed ∷ []) later (λ o v. InRound (known_without knows till) polls (outside_after o (TillCut till)) items v) _
-      (λ o. triple-then a b b _ _ _
-      (some-scene a b knows polls o (SendTill till owed ∷ []) later (InRound (known_without knows till) polls (outside_after o (TillCut till)) later) (λ scene.
-      triple-after a b _ _ _ (triple-frame a b _ _ (IsIn knows polls o scene) (sends scene later))
-      (λ v q. (till_cut (called scene (SentTill till q.0.0 false)) till, q.0.1, cut-in knows polls o till (called scene (SentTill till q.0.0 false)) (sent-in knows polls o till q.0.0 false scene q.1)))))
-      (pass-all (known_without knows till) polls (outside_after o (TillCut till)) till (without-closed o.tills till) b reading items))
-      (λ o v h p. gone till items o v h p)
+  taken-begins gateway same till there pt header request results old new t s items =
+      taken gateway same till there (given.Begins pt header request results) old new t s items [] (row-is gateway same till there (given.Begins pt header request results) old new t).calls_are
 
   -- one that gets its reply
   pub taken-replied : (gateway : Gateway) → gateway_of setup ≡ gateway → (till : ℕ) → IsThere till tills → (reply : SaleReply) (old new : List ℕ) → TakesMessage gateway kept core (moment_of now) (given.Reply reply) old new →
-      (a b : Observed) (items : List RoundItem) (served : Served) → served ≢ Incomplete → Sends a b till reply served →
-      Triple a b (Owes [] (decoded_items till (decode_frames old) ++ items)) (AfterSend served setup core kept tills polls now heard till (decode_frames new) items)
-  taken-replied gateway same till there reply old new t a b items served whole sends =
+      (owed : ReplyValue) × (tree_of reply ≡ reply_value_tree owed) × ((s : Observed) (items : List RoundItem) → Triple s s (Owes [] (decoded_items till (decode_frames old) ++ items)) (Owes (SendTill till owed ∷ []) (decoded_items till (decode_frames new) ++ items)))
+  taken-replied gateway same till there reply old new t =
       let send = (row-is gateway same till there (given.Reply reply) old new t).calls_are in
-      triple-then a a b _ _ _ (taken gateway same till there (given.Reply reply) old new t a items (SendTill till send.0 ∷ []) send.2)
-      (sent-or-gone a b till send.0 (decode_frames new) items served whole (sends send.0 send.1.0))
+      (send.0, send.1.0, λ s items. taken gateway same till there (given.Reply reply) old new t s items (SendTill till send.0 ∷ []) send.2)
 
 -- ---- where only the ledger's memory differs
 
@@ -240,24 +207,21 @@ same-round old new same setup tills polls now heard calls items v h =
     subst (λ (kept : List Record). MidRound setup new.core kept tills polls now (AreHeard heard) calls items v) (sym same.records)
     (subst (λ (core : Core). MidRound setup core old.records.ledger.records tills polls now (AreHeard heard) calls items v) (sym same.core) h)
 
--- after a send
-pub same-after : (old new : RunState) → HoldsSame old new → (setup : Setup) (tills : List Till) (polls : ℕ) (now : ℤ) (heard : ℕ → List ℕ) (till : ℕ) (bytes : List ℕ) (items : List RoundItem) (served : Served) (v : View) →
-    AfterSend served setup old.core old.records.ledger.records tills polls now heard till (decode_frames bytes) items v → AfterTill (Ok served) setup new tills polls now (AreHeard heard) till bytes items v
-same-after old new same setup tills polls now heard till bytes items More v h = same-round old new same setup tills polls now heard [] (decoded_items till (decode_frames bytes) ++ items) v h
-same-after old new same setup tills polls now heard till bytes items Incomplete v h = absurd h
-same-after old new same setup tills polls now heard till bytes items Gone v h =
-    subst (λ (kept : List Record). MidRound setup (core_without new.core till) kept (others tills till) polls now (AreHeard heard) [] items v) (sym same.records)
-    (subst (λ (core : Core). MidRound setup (core_without core till) old.records.ledger.records (others tills till) polls now (AreHeard heard) [] items v) (sym same.core) h)
-
--- the till was cut
-pub same-gone : (old new : RunState) → HoldsSame old new → (setup : Setup) (tills : List Till) (polls : ℕ) (now : ℤ) (heard : ℕ → List ℕ) (till : ℕ) (bytes : List ℕ) (items : List RoundItem) (served : Served) → served ≡ Gone → (v : View) →
-    MidRound setup (core_without old.core till) old.records.ledger.records (others tills till) polls now (AreHeard heard) [] items v → AfterTill (Ok served) setup new tills polls now (AreHeard heard) till bytes items v
-same-gone old new same setup tills polls now heard till bytes items served gone v h =
-    subst (λ served. AfterTill (Ok served) setup new tills polls now (AreHeard heard) till bytes items v) (sym gone) (same-after old new same setup tills polls now heard till bytes items Gone v h)
+-- and with readers that have the same rests
+pub moved : (old new : RunState) → HoldsSame old new → (tills left : List Till) → map rested left ≡ map rested tills → (setup : Setup) (polls : ℕ) (now : ℤ) (heard : ℕ → List ℕ) (calls : List OwedCall) (items : List RoundItem) (v : View) →
+    HeldRound setup old tills polls now (AreHeard heard) calls items v → HeldRound setup new left polls now (AreHeard heard) calls items v
+moved old new same tills left rests setup polls now heard calls items v h =
+    same-round old new same setup left polls now heard calls items v (record {
+      outside = h.outside;
+      round = h.round;
+      tills_are = record { tills_are = rests ∙ h.tills_are.tills_are; below = h.tills_are.below };
+      linked = h.linked;
+      also = h.also;
+    })
 
 -- it is in order
-pub same-well : (old new : RunState) (s : Observed) → HoldsSame old new → IsWell old s → IsWell new s
-same-well old new s same well = record {
+pub same-well : (old new : RunState) (next : Next) (s : Observed) → HoldsSame old new → HasSpareAfter next old.core old.records.ledger.spare new.records.ledger.spare → IsWell old s → IsWell new s
+same-well old new next s same spare well = record {
   order = subst (λ (gateway : Gateway). IsOrderly gateway new.records.ledger.records new.core) (sym same.gateway)
       (subst (λ (kept : List Record). IsOrderly old.gateway kept new.core) (sym same.records) (subst (IsOrderly old.gateway old.records.ledger.records) (sym same.core) well.order));
   records = record {
@@ -265,11 +229,17 @@ same-well old new s same well = record {
     slots = ap (λ (journal : JournalValue). journal.slots) same.journal ∙ well.records.slots ∙ ap (λ (gateway : Gateway). gateway.slots) (sym same.gateway);
     stands = subst (λ (journal : JournalValue). StandsFor journal s) (sym same.journal) well.records.stands;
   };
+  spare = subst (λ (core : Core). days_served core.terminals ≤ new.records.ledger.spare) (sym same.core) (enough next old.core old.records.ledger.spare new.records.ledger.spare spare well.spare);
 }
+  where
+    enough : (next : Next) (core : Core) (before after : ℕ) → HasSpareAfter next core before after → days_served core.terminals ≤ before → days_served core.terminals ≤ after
+    enough Incomplete core before after spare had = omega (arith, spare, had)
+    enough (NextMessage wanted) core before after spare had = omega (arith, spare)
+    enough NextUnframed core before after spare had = omega (arith, spare, had)
 
 -- and after calls that aren't on the disk
 pub well-on : (state : RunState) (a b : Observed) → IsWell state a → GoesOnBesideDisk a b → IsWell state b
-well-on state a b well goes = record { order = well.order; records = stand-on state.gateway state.records a b well.records goes }
+well-on state a b well goes = record { order = well.order; records = stand-on state.gateway state.records a b well.records goes; spare = well.spare }
 
 -- ---- a fault
 
@@ -279,8 +249,9 @@ no-memory-said s P fault is = triple-after s s P P _ (triple-refl s P) (λ v p. 
 
 -- ---- what a reader holds then
 
-pub waiting-rest : (bytes : List ℕ) → IsIncompleteFrame bytes → bytes ≡ (decode_frames bytes).rest
-waiting-rest bytes h = ap (λ (r : DecodedFrames). r.rest) (sym (reading-waiting bytes (incomplete-waits bytes h)))
+-- a till was served
+pub well-sent : (state : RunState) (core : Core) (a b : Observed) → IsWell state a → ForgetsAny state.core core → GoesOnBesideDisk a b → IsWell (record state { core = core }) b
+well-sent state core a b well forgets goes = well-core state core a b well (sent-stays state.core core forgets) (sent-dialogues state.core core forgets well.order.dialogues) goes
 
 -- it is less, and ends in the same rest
 pub takes-less : (gateway : Gateway) (kept : List Record) (core : Core) (wanted : Given) (old new : List ℕ) (moment : ℕ) → TakesMessage gateway kept core moment wanted old new → (length new < length old) × ((decode_frames new).rest ≡ (decode_frames old).rest)
@@ -289,12 +260,51 @@ takes-less gateway kept core wanted old new moment t =
     let m : length (frame t.message) ≡ 4 + length t.message = omega arith in
     (omega (arith, t.payload), sym (ap (λ b. (decode_frames b).rest) t.taken ∙ ap (λ (r : DecodedFrames). r.rest) (reading-payload t.message new t.payload)))
 
--- so it does after a reply was sent, and nothing is said of a till that was cut
-pub reads-on-sent : (served : Served) (old new : List ℕ) → served ≢ Incomplete → (length new < length old) × ((decode_frames new).rest ≡ (decode_frames old).rest) → ReadsOn served old new
-reads-on-sent More old new whole less = less
-reads-on-sent Incomplete old new whole less = absurd (whole refl)
-reads-on-sent Gone old new whole less = tt
+-- whatever the first of the bytes were the rest is the same
+pub next-rests : (gateway : Gateway) (kept : List Record) (core : Core) (now : ℤ) (next : Next) (old new : List ℕ) → IsNextOf gateway kept core now next old new → (decode_frames new).rest ≡ (decode_frames old).rest
+next-rests gateway kept core now Incomplete old new is = ap (λ b. (decode_frames b).rest) is.1
+next-rests gateway kept core now (NextMessage wanted) old new is = (takes-less gateway kept core wanted old new (moment_of now) is).1
+next-rests gateway kept core now NextUnframed old new is = ap (λ b. (decode_frames b).rest) is.1
 
--- nothing is said either of a till whose bytes begin no frame
-pub reads-on-gone : (served : Served) (old new : List ℕ) → served ≡ Gone → ReadsOn served old new
-reads-on-gone served old new gone = subst (λ served. ReadsOn served old new) (sym gone) tt
+-- a reader holds no more once its till is served or gone
+pub still-shorter : (till : ℕ) (mid left : List Till) (count : ℕ) → StillHolds till mid left → length (bytes_held till mid) < count → length (bytes_held till left) < count
+still-shorter till mid left count (inl same) less = subst (λ r. length (unwrap_or r []) < count) (sym same) less
+still-shorter till mid left count (inr gone) less = subst (λ r. length (unwrap_or r []) < count) (sym gone) (omega (arith, less))
+
+-- ---- the reader of a till that is there
+
+module _ (number at : ℕ) (tills : List Till) (till : Till) (left : List ℕ) (ranked : rank number tills ≡ Some at) (is : till ≡ get_or tills at till) where
+  abbrev taken-from : Till
+  taken-from = record till { reader = left }
+
+  there-at : IsAt number tills at till
+  there-at = till-at number tills at till ranked
+
+  number-at : till.number ≡ number
+  number-at = let there = there-at in ap (λ (t : Till). t.number) is ∙ there.number_is
+
+  held-at : bytes_held number tills ≡ till.reader
+  held-at = let there = there-at in ap (λ r. unwrap_or r []) there.reader ∙ ap (λ (t : Till). t.reader) (sym is)
+
+  left-at : bytes_held number (slice_set tills at taken-from) ≡ left
+  left-at = let there = there-at in ap (λ r. unwrap_or r []) (there.set_here taken-from number-at)
+
+  pub next-at : {E : Type 0} (gateway : Gateway) (kept : List Record) (core : Core) (now : ℤ) (r : Result Next E) → IfOk r (λ next. IsNextOf gateway kept core now next till.reader left) →
+      IfOk r (λ next. IsNextOf gateway kept core now next (bytes_held number tills) (bytes_held number (slice_set tills at taken-from)))
+  next-at gateway kept core now (Err failed) next = tt
+  next-at gateway kept core now (Ok one) next = subst (λ bytes. IsNextOf gateway kept core now one bytes (bytes_held number (slice_set tills at taken-from))) (sym held-at) (subst (IsNextOf gateway kept core now one till.reader) (sym left-at) next)
+
+  pub rests-at : {E : Type 0} (gateway : Gateway) (kept : List Record) (core : Core) (now : ℤ) (r : Result Next E) → IfOk r (λ next. IsNextOf gateway kept core now next till.reader left) → OnOk r (map rested (slice_set tills at taken-from) ≡ map rested tills)
+  rests-at gateway kept core now (Err failed) next = tt
+  rests-at gateway kept core now (Ok one) next =
+      let there = there-at in
+      there.stays taken-from (ap (λ bytes. record { number = till.number; reader = bytes }) (next-rests gateway kept core now one till.reader left next) ∙ ap rested is)
+
+  pub others-at : OthersStillHold number tills (slice_set tills at taken-from)
+  others-at = let there = there-at in λ other apart. inl (there.set_apart taken-from number-at other apart)
+
+pub there-with : {E : Type 0} (number at : ℕ) (tills : List Till) (r : Result Next E) → rank number tills ≡ Some at → IfOk r (λ next. IsThereWith next number tills)
+there-with number at tills (Err failed) ranked = tt
+there-with number at tills (Ok Incomplete) ranked = tt
+there-with number at tills (Ok (NextMessage wanted)) ranked = (at, ranked)
+there-with number at tills (Ok NextUnframed) ranked = (at, ranked)

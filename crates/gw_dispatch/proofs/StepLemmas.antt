@@ -133,13 +133,13 @@ module _ (setup : Setup) (kept : List Record) (tills : List Till) (polls : ℕ) 
       subst (λ (r : Row). OwingRow (called place.scene turn) r items v) (placed-row core place row fits ∙ row_is) q
 
   -- the cut of a terminal, with which its link is lost
-  pub cut-held : (a b : Observed) (core new : Core) (pt : ℕ) (items : List RoundItem) → StaysAt pt Also → Grows a b (IsTurn (PtCut pt)) → IsStep a b (CutPtCall pt) → link_row (known_at setup core kept now) pt LinkIsLost ≡ becoming new [] →
-      Triple a b (MidRound setup core kept tills polls now Also (CutPt pt ∷ []) items) (MidRound setup new kept tills polls now Also [] items)
-  cut-held a b core new pt items stays grows step lost = held-call a b core (CutPt pt ∷ []) items (λ scene. CutOfPt scene pt items) _ (λ scene. cut-pt-triple scene items a b pt grows step) (λ place v fits q.
-      into-held core new (PtCut pt) [] items place v fits (cut-keeps pt)
+  pub cut-held : (a b : Observed) (core new : Core) (pt : ℕ) (calls : List OwedCall) (items : List RoundItem) → StaysAt pt Also → Grows a b (IsTurn (PtCut pt)) → IsStep a b (CutPtCall pt) → link_row (known_at setup core kept now) pt LinkIsLost ≡ becoming new calls →
+      Triple a b (MidRound setup core kept tills polls now Also (CutPt pt ∷ []) items) (MidRound setup new kept tills polls now Also calls items)
+  cut-held a b core new pt calls items stays grows step lost = held-call a b core (CutPt pt ∷ []) items (λ scene. CutOfPt scene pt items) _ (λ scene. cut-pt-triple scene items a b pt grows step) (λ place v fits q.
+      into-held core new (PtCut pt) calls items place v fits (cut-keeps pt)
       (subst (λ c. AreLinked c (outside_after place.outside (PtCut pt))) (ap (λ (r : Row). r.core) lost) (cut-linked (known_at setup core kept now) pt place.outside fits.linked))
       (stays.cut place.outside fits.also)
-      (by-row core new (PtCut pt) [] items place v (λ known. link_row known pt LinkIsLost) fits lost q))
+      (by-row core new (PtCut pt) calls items place v (λ known. link_row known pt LinkIsLost) fits lost q))
 
   same-core : (core : Core) (turn : Turn) (calls : List OwedCall) (items : List RoundItem) (place : Place) (v : View) → Fits setup core kept tills polls now Also place →
       Owing (called place.scene turn) calls items v → Owing (record (called place.scene turn) { core = core }) calls items v

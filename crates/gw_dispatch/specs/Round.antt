@@ -1,11 +1,10 @@
 -- What is owed as the loop goes through a round.
-use Rattle.std.specs.Prelude.{◌≡◌, ℕ, ℤ, true, false, List, [], map, Some, None}
+use Rattle.std.specs.Prelude.{◌≡◌, ℕ, ℤ, Bool, true, false, List, [], ◌∷◌, map, Some, None}
 use Rattle.gw_base.specs.Moment.{moment_of}
 use Rattle.gw_base.specs.declared.setup.Setup.{Setup}
 use Rattle.gw_site.specs.Outside.{Outside}
-use Rattle.gw_site.specs.declared.turn.Turn.TheVariants.{SentTill}
 use Rattle.jrn_record.specs.declared.records.Record.{Record}
-use Rattle.gw_owes.specs.Calls.{OwedCall}
+use Rattle.gw_owes.specs.Calls.{CutTill, OwedCall}
 use Rattle.gw_owes.specs.Core.{Core}
 use Rattle.gw_owes.specs.Items.{RoundItem}
 use Rattle.gw_owes.specs.Row.{Known}
@@ -13,11 +12,9 @@ use Rattle.gw_owes.specs.Terminals.{core_without}
 use Rattle.gw_rules.specs.Scene.{Scene, known_in}
 use Rattle.gw_rules.specs.Stage.{is_round}
 use Rattle.gw_rules.specs.Triple.{Owing}
-use Rattle.gw_rules.specs.View.{View, called, till_cut}
-use Rattle.gw_dispatch.specs.Tills.{till_of, AreBelow}
+use Rattle.gw_rules.specs.View.{View}
+use Rattle.gw_dispatch.specs.Tills.{rested, till_of, AreBelow}
 use Rattle.gw_dispatch.specs.declared.tills.Till.{Till}
-use Rattle.gw_dispatch.specs.declared.replier.Served.{Served}
-use Rattle.gw_dispatch.specs.declared.replier.Served.TheVariants.{More, Incomplete, Gone}
 
 -- ---- a round
 
@@ -48,17 +45,16 @@ known_without known till = with_core known (core_without known.core till)
 
 -- ---- a reply
 
--- Inner: after a send to a till, which is followed by the cut of its connection where it failed
-abbrev pub Delivered : Served → Scene → ℕ → List ℕ → List RoundItem → View → Type 0
-Delivered More scene till bytes items v = Owing (called scene (SentTill till bytes true)) [] items v
-Delivered Incomplete scene till bytes items v = ⊥
-Delivered Gone scene till bytes items v = (taken : List ℕ) × Owing (till_cut (called scene (SentTill till taken false)) till) [] items v
+-- Inner: what is owed after a send to a till: nothing where it went, and else the cut of its connection
+abbrev pub calls_after_send : Bool → ℕ → List OwedCall
+calls_after_send true till = []
+calls_after_send false till = CutTill till ∷ []
 
 -- ---- what the loop holds
 
--- the loop holds the tills that are there
+-- the loop holds the tills that are there, each with a reader that holds what is still to be taken of what was heard
 pub record HoldsTills (tills : List Till) (o : Outside) : Type 0 where
-  pub tills_are : tills ≡ map till_of o.tills
+  pub tills_are : map rested tills ≡ map till_of o.tills
   pub below : AreBelow o.next_till o.tills
 
 -- Inner: what is known in a run with this setup at this moment, when this is remembered and kept

@@ -18,6 +18,7 @@ use Rattle.gw_dispatch.specs.RunState.{IsWell}
 use Rattle.gw_dispatch.specs.MidRound.{AllHear, AreLinked, AreReady, BeforePtChunk, BeforePtClosed, MidRound, due_items}
 use Rattle.gw_dispatch.specs.Round.{HoldsTills, InRound, known_at}
 use Rattle.gw_dispatch.specs.Serving.{AfterFault}
+use Rattle.gw_dispatch.specs.Tills.{AreWaiting}
 use Rattle.gw_dispatch.specs.declared.fault.TurnFault.{TurnFault}
 use Rattle.gw_dispatch.specs.declared.engine.Dispatch.{Dispatch}
 use Rattle.gw_dispatch.specs.declared.engine.RoundEnd.{RoundEnd}
@@ -41,9 +42,10 @@ IsRunOpened setup v = (scene : Scene) × Owing scene [] [] v × IsNewlyOpened se
 
 -- ---- between rounds
 
--- what is held is in order, its journal stands for the site, and each terminal's reader holds less than an APDU
+-- what is held is in order, its journal stands for the site, each till's reader holds less than a frame, and each terminal's less than an APDU
 pub record IsReady (dispatch : Dispatch) (observed : Observed) : Type 0 where
   pub well : IsWell dispatch.state observed
+  pub tills : AreWaiting dispatch.tills.list.items
   pub terminals : AreReady dispatch.state.core dispatch.readers.items
 
 -- what is held is that of the outside: its tills, its links, and the rest of what was heard on each link

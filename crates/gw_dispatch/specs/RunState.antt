@@ -1,16 +1,17 @@
 -- What a run remembers and keeps, and that the two are in order.
-use Rattle.std.specs.Prelude.{◌≡◌, ◌≤◌, ◌<◌, ◌+◌, ℕ, List, ◌++◌, length, Option, option_to_list, Result, Ok, Err}
+use Rattle.std.specs.Prelude.{◌≡◌, ◌⊎◌, ◌≤◌, ◌<◌, ◌+◌, ℕ, List, ◌++◌, length, Option, option_to_list, Result, Ok, Err}
 use Rattle.gw_base.specs.declared.setup.Setup.{Setup}
 use Rattle.gw_site.specs.Observed.{Observed}
 use Rattle.jrn_record.specs.declared.records.Record.{Record}
-use Rattle.jrn_record.specs.declared.records.Record.TheVariants.{Intent, Outcome, Settled}
 use Rattle.jrn_log.specs.Journal.{StandsFor}
 use Rattle.gw_ledger.specs.Fold.{AreFolded}
 use Rattle.gw_ledger.specs.Sums.{open_count_of}
 use Rattle.gw_owes.specs.Core.{Core}
 use Rattle.gw_owes.specs.Dialogues.{AllHaveDialogues}
-use Rattle.gw_owes.specs.RecordLaws.{AreTerminalsInOrder, AreOfSetup, AreOthersInOrder}
+use Rattle.gw_owes.specs.Days.{days_served}
+use Rattle.gw_owes.specs.RecordLaws.{AreOfSetup, AreOthersInOrder, AreTerminalsInOrder, HasRoom, IsNumbered, memory_of, memory_taken}
 use Rattle.gw_owes.specs.TerminalLaws.{settings_of}
+use Rattle.gw_owes.specs.Terminals.{core_without}
 use Rattle.gw_core.specs.IsRow.{MayBeKept}
 use Rattle.gw_core.specs.declared.gateway.Gateway.{Gateway}
 use Rattle.gw_rules.specs.Stage.{Broken}
@@ -24,13 +25,14 @@ use Rattle.gw_dispatch.specs.declared.records.Records.{Records}
 abbrev pub gateway_of : Setup → Gateway
 gateway_of setup = record { name = setup.name; slots = setup.slots }
 
--- what is remembered is in order with what is kept, in a gateway of some setup: a slot is left for the Outcome of each open key, and each terminal has the dialogue of its standing
+-- what is remembered is in order with what is kept, in a gateway of some setup: a slot is left for the Outcome of each open key and for the Settled of each end of day that is served, and each terminal has the dialogue of its standing
 pub record IsOrderly (gateway : Gateway) (kept : List Record) (core : Core) : Type 0 where
   pub setup : Setup
   pub gateway_is : gateway_of setup ≡ gateway
   pub of_setup : AreOfSetup core setup
   pub folded : AreFolded kept
-  pub room : length kept + open_count_of kept ≤ gateway.slots
+  pub room : HasRoom gateway.slots kept core
+  pub numbered : IsNumbered core
   pub terminals : AreTerminalsInOrder kept core
   pub dialogues : AllHaveDialogues core
 
@@ -46,21 +48,30 @@ pub record StandFor (gateway : Gateway) (records : Records) (observed : Observed
   pub slots : records.journal.slots ≡ gateway.slots
   pub stands : StandsFor records.journal observed
 
--- what a run holds is in order, and its journal stands for the site
+-- what a run holds is in order, its journal stands for the site, and its ledger has memory for the Settled of each end of day that is served
 pub record IsWell (state : RunState) (observed : Observed) : Type 0 where
   pub order : IsOrderly state.gateway state.records.ledger.records state.core
   pub records : StandFor state.gateway state.records observed
+  pub spare : days_served state.core.terminals ≤ state.records.ledger.spare
 
 -- ---- what stays
 
--- Inner: what is remembered stays in order with whatever is kept, and the terminals' settings stay
+-- Inner: what is remembered stays in order with whatever is kept, the terminals' settings stay, no more ends of day are served, and nothing is requested of a device
 pub record StaysInOrder (old new : Core) : Type 0 where
   pub settings : settings_of new ≡ settings_of old
+  pub days : days_served new.terminals ≤ days_served old.terminals
+  pub device_requests : new.device_requests ≡ old.device_requests
   pub order : (kept : List Record) → AreTerminalsInOrder kept old → AreTerminalsInOrder kept new
+
+-- Inner: it is the same, or but for a till that is forgotten
+abbrev pub ForgetsAny : Core → Core → Type 0
+ForgetsAny old new = (new ≡ old) ⊎ ((till : ℕ) × (new ≡ core_without old till))
 
 -- so it does whatever the terminal of this number had before
 pub record OthersStayInOrder (pt : ℕ) (old new : Core) : Type 0 where
   pub settings : settings_of new ≡ settings_of old
+  pub days : days_served new.terminals ≤ days_served old.terminals
+  pub device_requests : new.device_requests ≡ old.device_requests
   pub order : (kept : List Record) → AreOthersInOrder pt kept old → AreTerminalsInOrder kept new
 
 -- Inner: where no call on the disk has failed this holds of the view; else the run is over
@@ -70,24 +81,19 @@ UnlessBroken (Err failed) Q v = v.scene.stage ≡ Broken
 
 -- ---- keeping a record
 
--- the ledger has memory for one more record of this kind
-abbrev pub HasSpareFor : Record → ℕ → Type 0
-HasSpareFor (Intent intent) spare = 1 ≤ spare
-HasSpareFor (Outcome outcome) spare = Unit {0}
-HasSpareFor (Settled settled) spare = 1 ≤ spare
-
 -- the record may come next, and there is room for it
 pub record HasSlotsFor (records : Records) (the_record : Record) : Type 0 where
   pub may : MayBeKept records.ledger.records the_record
   pub few : records.journal.slots ≤ 1000000
   pub count : records.journal.len ≡ length records.ledger.records
   pub slot : records.journal.len < records.journal.slots
-  pub spare : HasSpareFor the_record records.ledger.spare
+  pub spare : memory_of the_record ≤ records.ledger.spare
 
--- the record is kept, where there is one: the ledger has it, and so has the journal
+-- the record is kept, where there is one: the ledger has it, in the memory that was there, and so has the journal
 pub record KeepsWithLedger (old new : Records) (wanted : Option Record) : Type 0 where
   pub records : new.ledger.records ≡ old.ledger.records ++ option_to_list wanted
   pub journal : new.journal ≡ record old.journal { len = length new.ledger.records }
+  pub spare : new.ledger.spare + memory_taken (option_to_list wanted) ≡ old.ledger.spare
 
 -- of two that are held only the ledger's memory differs
 pub record HoldsSame (old new : RunState) : Type 0 where

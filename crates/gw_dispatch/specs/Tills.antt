@@ -1,7 +1,8 @@
 -- The tills that the gateway holds, and the connections of a log.
-use Rattle.std.specs.Prelude.{◌≡◌, ℕ, suc, ◌<◌, ◌==◌, if◌then◌else◌, not, List, [], ◌∷◌, filter, Option, Some, None, option_map}
+use Rattle.std.specs.Prelude.{◌≡◌, ◌≢◌, ◌⊎◌, ℕ, suc, ◌<◌, ◌==◌, if◌then◌else◌, not, List, [], ◌∷◌, filter, Option, Some, None, option_map, unwrap_or}
 use Rattle.gw_site.specs.Outside.{Connection}
 use Rattle.sale_frame.specs.Decode.{decode_frames}
+use Rattle.sale_frame.specs.Grammar.{IsIncompleteFrame}
 use Rattle.gw_dispatch.specs.declared.tills.Till.{Till}
 
 -- Inner: the index of the first till of this number
@@ -21,9 +22,38 @@ others tills number = filter (λ (till : Till). not (till.number == number)) til
 abbrev pub till_of : Connection → Till
 till_of connection = record { number = connection.number; reader = (decode_frames connection.heard).rest }
 
--- Inner: the till once its reader holds these bytes
-abbrev pub holding : Till → List ℕ → Till
-holding till bytes = record till { reader = bytes }
+-- the till once the payloads that its reader holds are taken from it
+abbrev pub rested : Till → Till
+rested till = record till { reader = (decode_frames till.reader).rest }
+
+-- ---- what their readers hold
+
+-- what the reader of the till of this number holds, where it is there
+abbrev pub reader_of : ℕ → List Till → Option (List ℕ)
+reader_of number [] = None
+reader_of number (till ∷ tills) = if till.number == number then Some till.reader else reader_of number tills
+
+-- the bytes that it holds; none where the till isn't there
+abbrev pub bytes_held : ℕ → List Till → List ℕ
+bytes_held number tills = unwrap_or (reader_of number tills) []
+
+-- the reader of each till holds less than a frame
+abbrev pub AreWaiting : List Till → Type 0
+AreWaiting tills = (number : ℕ) → IsIncompleteFrame (bytes_held number tills)
+
+-- Inner: a till that is still there holds what it held
+abbrev pub StillHolds : ℕ → List Till → List Till → Type 0
+StillHolds number old new = (reader_of number new ≡ reader_of number old) ⊎ (reader_of number new ≡ None)
+
+-- Inner: so does each
+abbrev pub AllStillHold : List Till → List Till → Type 0
+AllStillHold old new = (number : ℕ) → StillHolds number old new
+
+-- Inner: so does each but this one
+abbrev pub OthersStillHold : ℕ → List Till → List Till → Type 0
+OthersStillHold but old new = (number : ℕ) → number ≢ but → StillHolds number old new
+
+-- ---- connections
 
 -- each connection has a number below this one
 abbrev pub AreBelow : ℕ → List Connection → Type 0

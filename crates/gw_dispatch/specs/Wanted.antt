@@ -11,7 +11,7 @@ use Rattle.gw_core.specs.declared.act.Act.TheVariants as act
 use Rattle.gw_rules.specs.Lawful.{may_begin}
 use Rattle.gw_rules.specs.Scene.{Scene}
 
--- a till is sent a reply
+-- a till is sent a reply or a device request
 abbrev pub is_reply : Act → Bool
 is_reply (act.SendPt pt command) = false
 is_reply (act.Ack pt) = false
@@ -19,11 +19,12 @@ is_reply (act.Refuse pt) = false
 is_reply (act.CutPt pt) = false
 is_reply (act.Link pt) = false
 is_reply (act.SendTill till given) = true
+is_reply (act.Print till header printed) = true
 
--- so it is, where anything is wanted
-abbrev pub sends_reply : Option Act → Bool
-sends_reply None = false
-sends_reply (Some wanted) = is_reply wanted
+-- nothing is wanted, or a till is sent a reply
+abbrev pub is_none_or_reply : Option Act → Bool
+is_none_or_reply None = true
+is_none_or_reply (Some wanted) = is_reply wanted
 
 -- the call of an act of a terminal; a reply has none here, since its value is that of what is owed
 abbrev pub act_calls : Act → List OwedCall
@@ -33,6 +34,7 @@ act_calls (act.Refuse pt) = SendPt pt Refuse ∷ []
 act_calls (act.CutPt pt) = CutPt pt ∷ []
 act_calls (act.Link pt) = LinkPt pt ∷ []
 act_calls (act.SendTill till given) = []
+act_calls (act.Print till header printed) = []
 
 -- so it is, where anything is wanted
 abbrev pub calls_wanted : Option Act → List OwedCall

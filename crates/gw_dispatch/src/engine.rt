@@ -23,8 +23,9 @@ ghost use Rattle.gw_dispatch.specs.RunEnd.{EndedBy, EndsByFound, HasBegun, EndsR
 use crate::fault::TurnFault;
 use crate::pts::{new_readers, on_bytes, on_closed, on_due};
 use crate::records::{Records, Unopened};
-use crate::replier::{Replier, Served};
+use crate::replier::Replier;
 use crate::run_state::RunState;
+use crate::serving::serve;
 use crate::tills::{Tills, drop_till, index_of, open_till};
 use gw_base::Setup;
 use gw_bytes::{LONGEST_CHUNK, MOST_TILLS};
@@ -138,18 +139,13 @@ impl Dispatch {
             Some(index) => index,
             None => return Ok(RoundEnd::Went),
         };
-        let till = &mut self.tills.list[index];
-        let served = self
-            .tills
-            .replier
-            .read_chunk(&mut self.state, site, now, till, bytes);
-        match served {
-            Ok(Served::Gone) => {
-                self.forget(number);
-                Ok(RoundEnd::Went)
-            }
-            Ok(Served::Incomplete) => Ok(RoundEnd::Went),
-            Ok(Served::More) => Ok(RoundEnd::Went),
+        let alloc = self.tills.replier.alloc;
+        match self.tills.list[index].reader.feed(alloc, bytes) {
+            Ok(()) => {}
+            Err(AllocError) => return Err(TurnFault::Memory),
+        }
+        match serve(&mut self.state, &mut self.tills, site, now, number) {
+            Ok(()) => Ok(RoundEnd::Went),
             Err(fault) => Err(fault),
         }
     }
@@ -236,7 +232,14 @@ impl Dispatch {
         if !self.state.core.is_linked(pt) {
             return;
         }
-        on_closed(&mut self.state.core, &self.readers, site, pt, now);
+        on_closed(
+            &mut self.state.core,
+            &mut self.tills,
+            &self.readers,
+            site,
+            pt,
+            now,
+        );
     }
 
     /// Handles what a poll has brought. Memory is refused at most where a till has opened, or bytes of one have come.
@@ -301,7 +304,8 @@ impl Dispatch {
         let Polled { now, what } = site.poll(buf);
         match self.on_event(site, now, what, buf) {
             Ok(RoundEnd::Went) => {
-                on_due(&mut self.state.core, &mut self.readers, site, now);
+                let core = &mut self.state.core;
+                on_due(core, &mut self.tills, &mut self.readers, site, now);
                 Ok(RoundEnd::Went)
             }
             Ok(RoundEnd::Stopped) => Ok(RoundEnd::Stopped),

@@ -1,5 +1,5 @@
 //! Keeping a record: four calls on the disk, each of which may fail, and then the ledger has it. After a failure there is no further call.
-ghost use Rattle.std.specs.Prelude.{◌≡◌, ◌<◌, ◌++◌, ◌∷◌, [], ℕ, ℤ, IfSome, OnOk, OnErr, List, Some, length, option_to_list};
+ghost use Rattle.std.specs.Prelude.{◌≡◌, ◌+◌, ◌<◌, ◌≤◌, ◌++◌, ◌∷◌, [], ℕ, ℤ, IfSome, OnOk, OnErr, List, Some, length, option_to_list};
 ghost use Rattle.gw_base.specs.declared.setup.Setup.{Setup};
 ghost use Rattle.jrn_record.specs.declared.records.Record.{Record as TheRecord};
 ghost use Rattle.jrn_log.specs.Journal.{StandsFor};
@@ -9,7 +9,8 @@ ghost use Rattle.gw_owes.specs.Items.{RoundItem};
 ghost use Rattle.gw_core.specs.IsRow.{MayBeKept, keeping_calls};
 ghost use Rattle.gw_rules.specs.Scene.{Scene};
 ghost use Rattle.gw_rules.specs.Triple.{Triple};
-ghost use Rattle.gw_dispatch.specs.RunState.{HasSlotsFor, HasSpareFor, KeepsWithLedger, UnlessBroken};
+ghost use Rattle.gw_owes.specs.RecordLaws.{memory_of};
+ghost use Rattle.gw_dispatch.specs.RunState.{HasSlotsFor, KeepsWithLedger, UnlessBroken};
 ghost use Rattle.gw_dispatch.specs.Growth.{HasGoneOn, HasBroken};
 ghost use Rattle.gw_dispatch.specs.Keeping.{Kept, OwesKeeping};
 ghost use Rattle.gw_dispatch.specs.MidRound.{AreHeard, MidRound};
@@ -25,9 +26,10 @@ impl Records {
     fn add(&mut self, the_record: &Record)
         requires may { MayBeKept self.old.ledger.records the_record.now }
         requires few { length self.old.ledger.records < 1000000 }
-        requires spare { HasSpareFor the_record.now self.old.ledger.spare }
+        requires spare { memory_of the_record.now ≤ self.old.ledger.spare }
         ensures records { self.new.ledger.records ≡ self.old.ledger.records ++ the_record.now ∷ [] }
         ensures journal { self.new.journal ≡ self.old.journal }
+        ensures spare { self.new.ledger.spare + memory_of the_record.now ≡ self.old.ledger.spare }
     {
         match the_record {
             Record::Intent(intent) => {

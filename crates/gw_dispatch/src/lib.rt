@@ -6,10 +6,12 @@ mod fault;
 mod keeping;
 mod messages;
 mod perform;
+mod printing;
 mod pts;
 mod records;
 mod replier;
 mod run_state;
+mod serving;
 mod tills;
 
 pub use engine::{Dispatch, Ended, RoundEnd, run};

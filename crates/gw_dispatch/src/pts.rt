@@ -8,10 +8,10 @@ ghost use Rattle.gw_dispatch.specs.Apdus.{items_held, items_left, IsRest, Leaves
 ghost use Rattle.gw_dispatch.specs.RunState.{IsWell, StaysInOrder, UnlessBroken};
 ghost use Rattle.gw_dispatch.specs.Growth.{HasGoneOn, GoesOnBesideDisk, HasBroken};
 ghost use Rattle.gw_dispatch.specs.MidRound.{AllHear, AreHeard, AreReady, BeforePtChunk, BeforePtClosed, HeldRound, MidRound, due_items, each_terminal};
-ghost use Rattle.gw_dispatch.specs.declared.tills.Till.{Till};
+ghost use Rattle.gw_dispatch.specs.Tills.{AllStillHold};
 
 use crate::messages::on_apdu;
-use crate::perform::{link_due, on_late, on_oversized};
+use crate::perform::{link_due, on_late, on_oversized, send_owed};
 use crate::run_state::RunState;
 use crate::tills::Tills;
 use gw_core::Core;
@@ -38,6 +38,7 @@ fn take_apdu<S: Site>(
     ensures well { OnOk result (IsWell state.new (S.observed site.new)) }
     ensures gateway { state.new.gateway ≡ state.old.gateway }
     ensures count { length state.new.core.terminals ≡ length state.old.core.terminals }
+    ensures still { AllStillHold tills.old.list.items tills.new.list.items }
     ensures goes_on { HasGoneOn (S.observed site.old) (S.observed site.new) }
     ensures failed { OnErr result (HasBroken (S.observed site.old) (S.observed site.new)) }
 {
@@ -48,7 +49,7 @@ fn take_apdu<S: Site>(
             Ok(false) => {}
             Err(Failed) => return Err(Failed),
         },
-        Err(_) => on_oversized(&mut state.core, site, pt, now),
+        Err(_) => on_oversized(&mut state.core, tills, site, pt, now),
     }
     // What a terminal has sent owes nothing once it isn't linked.
     reader.clear();
@@ -73,6 +74,7 @@ fn take_apdus<S: Site>(
     ensures well { OnOk result (IsWell state.new (S.observed site.new)) }
     ensures gateway { state.new.gateway ≡ state.old.gateway }
     ensures count { length state.new.core.terminals ≡ length state.old.core.terminals }
+    ensures still { AllStillHold tills.old.list.items tills.new.list.items }
     ensures goes_on { HasGoneOn (S.observed site.old) (S.observed site.new) }
     ensures failed { OnErr result (HasBroken (S.observed site.old) (S.observed site.new)) }
 {
@@ -117,6 +119,7 @@ pub(crate) fn on_bytes<S: Site>(
     ensures well { OnOk result (IsWell state.new (S.observed site.new)) }
     ensures gateway { state.new.gateway ≡ state.old.gateway }
     ensures count { length state.new.core.terminals ≡ length state.old.core.terminals }
+    ensures still { AllStillHold tills.old.list.items tills.new.list.items }
     ensures goes_on { HasGoneOn (S.observed site.old) (S.observed site.new) }
     ensures failed { OnErr result (HasBroken (S.observed site.old) (S.observed site.new)) }
 {
@@ -128,6 +131,7 @@ pub(crate) fn on_bytes<S: Site>(
 /// Handles the end of a terminal's connection.
 pub(crate) fn on_closed<S: Site>(
     core: &mut Core,
+    tills: &mut Tills,
     readers: &[ApduReader],
     site: &mut S,
     pt: u16,
@@ -135,37 +139,46 @@ pub(crate) fn on_closed<S: Site>(
 )
     requires there { pt < length core.old.terminals }
     requires ready { AreReady core.old readers.now }
-    ensures triple { (setup : TheSetup) (kept : List Record) (tills : List Till) (polls : ℕ) (items : List RoundItem) → Triple (S.observed site.old) (S.observed site.new)
-        (BeforePtClosed setup core.old kept readers.now tills polls now pt items)
-        (MidRound setup core.new kept tills polls now (AllHear readers.now) [] items) }
+    ensures triple { (setup : TheSetup) (kept : List Record) (polls : ℕ) (items : List RoundItem) → Triple (S.observed site.old) (S.observed site.new)
+        (BeforePtClosed setup core.old kept readers.now tills.old.list.items polls now pt items)
+        (MidRound setup core.new kept tills.new.list.items polls now (AllHear readers.now) [] items) }
     ensures ready { AreReady core.new readers.now }
     ensures order { StaysInOrder core.old core.new }
     ensures count { length core.new.terminals ≡ length core.old.terminals }
+    ensures still { AllStillHold tills.old.list.items tills.new.list.items }
     ensures goes_on { GoesOnBesideDisk (S.observed site.old) (S.observed site.new) }
 {
-    // The till of a payment or a reversal that it serves stays, so that no call is owed.
-    let _ = core.on_link(pt, false, now);
+    let owed = core.on_link(pt, false, now);
+    send_owed(core, tills, site, &owed);
 }
 
 /// Cuts the terminals that have been silent for too long.
-fn cut_late<S: Site>(core: &mut Core, readers: &[ApduReader], site: &mut S, now: i64)
+fn cut_late<S: Site>(
+    core: &mut Core,
+    tills: &mut Tills,
+    readers: &[ApduReader],
+    site: &mut S,
+    now: i64,
+)
     requires ready { AreReady core.old readers.now }
-    ensures triple { (setup : TheSetup) (kept : List Record) (tills : List Till) (polls : ℕ) (items : List RoundItem) → Triple (S.observed site.old) (S.observed site.new)
-        (MidRound setup core.old kept tills polls now (AllHear readers.now) [] (each_terminal 0 (length core.old.terminals) Late ++ items))
-        (MidRound setup core.new kept tills polls now (AllHear readers.now) [] items) }
+    ensures triple { (setup : TheSetup) (kept : List Record) (polls : ℕ) (items : List RoundItem) → Triple (S.observed site.old) (S.observed site.new)
+        (MidRound setup core.old kept tills.old.list.items polls now (AllHear readers.now) [] (each_terminal 0 (length core.old.terminals) Late ++ items))
+        (MidRound setup core.new kept tills.new.list.items polls now (AllHear readers.now) [] items) }
     ensures ready { AreReady core.new readers.now }
     ensures order { StaysInOrder core.old core.new }
     ensures count { length core.new.terminals ≡ length core.old.terminals }
+    ensures still { AllStillHold tills.old.list.items tills.new.list.items }
     ensures goes_on { GoesOnBesideDisk (S.observed site.old) (S.observed site.new) }
 {
     for pt in 0..core.count() {
-        on_late(core, site, pt, now);
+        on_late(core, tills, site, pt, now);
     }
 }
 
 /// Links a terminal that isn't linked and is due. Its new link begins with an empty reader.
 fn link_if_due<S: Site>(
     core: &mut Core,
+    tills: &mut Tills,
     readers: &mut [ApduReader],
     site: &mut S,
     pt: u16,
@@ -173,48 +186,63 @@ fn link_if_due<S: Site>(
 )
     requires there { pt < length core.old.terminals }
     requires ready { AreReady core.old readers.old }
-    ensures triple { (setup : TheSetup) (kept : List Record) (tills : List Till) (polls : ℕ) (items : List RoundItem) → Triple (S.observed site.old) (S.observed site.new)
-        (MidRound setup core.old kept tills polls now (AllHear readers.old) [] (Due pt ∷ items))
-        (MidRound setup core.new kept tills polls now (AllHear readers.new) [] items) }
+    ensures triple { (setup : TheSetup) (kept : List Record) (polls : ℕ) (items : List RoundItem) → Triple (S.observed site.old) (S.observed site.new)
+        (MidRound setup core.old kept tills.old.list.items polls now (AllHear readers.old) [] (Due pt ∷ items))
+        (MidRound setup core.new kept tills.new.list.items polls now (AllHear readers.new) [] items) }
     ensures ready { AreReady core.new readers.new }
     ensures order { StaysInOrder core.old core.new }
     ensures count { length core.new.terminals ≡ length core.old.terminals }
+    ensures still { AllStillHold tills.old.list.items tills.new.list.items }
     ensures goes_on { GoesOnBesideDisk (S.observed site.old) (S.observed site.new) }
 {
     if core.is_linked(pt) {
         return;
     }
     readers[usize::from(pt)].clear();
-    link_due(core, site, pt, now);
+    link_due(core, tills, site, pt, now);
 }
 
 /// Links the terminals that are due.
-fn link_all_due<S: Site>(core: &mut Core, readers: &mut [ApduReader], site: &mut S, now: i64)
+fn link_all_due<S: Site>(
+    core: &mut Core,
+    tills: &mut Tills,
+    readers: &mut [ApduReader],
+    site: &mut S,
+    now: i64,
+)
     requires ready { AreReady core.old readers.old }
-    ensures triple { (setup : TheSetup) (kept : List Record) (tills : List Till) (polls : ℕ) (items : List RoundItem) → Triple (S.observed site.old) (S.observed site.new)
-        (MidRound setup core.old kept tills polls now (AllHear readers.old) [] (each_terminal 0 (length core.old.terminals) Due ++ items))
-        (MidRound setup core.new kept tills polls now (AllHear readers.new) [] items) }
+    ensures triple { (setup : TheSetup) (kept : List Record) (polls : ℕ) (items : List RoundItem) → Triple (S.observed site.old) (S.observed site.new)
+        (MidRound setup core.old kept tills.old.list.items polls now (AllHear readers.old) [] (each_terminal 0 (length core.old.terminals) Due ++ items))
+        (MidRound setup core.new kept tills.new.list.items polls now (AllHear readers.new) [] items) }
     ensures ready { AreReady core.new readers.new }
     ensures order { StaysInOrder core.old core.new }
     ensures count { length core.new.terminals ≡ length core.old.terminals }
+    ensures still { AllStillHold tills.old.list.items tills.new.list.items }
     ensures goes_on { GoesOnBesideDisk (S.observed site.old) (S.observed site.new) }
 {
     for pt in 0..core.count() {
-        link_if_due(core, readers, site, pt, now);
+        link_if_due(core, tills, readers, site, pt, now);
     }
 }
 
 /// Handles what may be due: first the terminals' silences, then their links.
-pub(crate) fn on_due<S: Site>(core: &mut Core, readers: &mut [ApduReader], site: &mut S, now: i64)
+pub(crate) fn on_due<S: Site>(
+    core: &mut Core,
+    tills: &mut Tills,
+    readers: &mut [ApduReader],
+    site: &mut S,
+    now: i64,
+)
     requires ready { AreReady core.old readers.old }
-    ensures triple { (setup : TheSetup) (kept : List Record) (tills : List Till) (polls : ℕ) → Triple (S.observed site.old) (S.observed site.new)
-        (MidRound setup core.old kept tills polls now (AllHear readers.old) [] (due_items (length core.old.terminals)))
-        (MidRound setup core.new kept tills polls now (AllHear readers.new) [] []) }
+    ensures triple { (setup : TheSetup) (kept : List Record) (polls : ℕ) → Triple (S.observed site.old) (S.observed site.new)
+        (MidRound setup core.old kept tills.old.list.items polls now (AllHear readers.old) [] (due_items (length core.old.terminals)))
+        (MidRound setup core.new kept tills.new.list.items polls now (AllHear readers.new) [] []) }
     ensures ready { AreReady core.new readers.new }
     ensures order { StaysInOrder core.old core.new }
     ensures count { length core.new.terminals ≡ length core.old.terminals }
+    ensures still { AllStillHold tills.old.list.items tills.new.list.items }
     ensures goes_on { GoesOnBesideDisk (S.observed site.old) (S.observed site.new) }
 {
-    cut_late(core, readers, site, now);
-    link_all_due(core, readers, site, now);
+    cut_late(core, tills, readers, site, now);
+    link_all_due(core, tills, readers, site, now);
 }

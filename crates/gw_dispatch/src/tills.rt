@@ -4,16 +4,16 @@ ghost use Rattle.gw_base.specs.declared.setup.Setup.{Setup};
 ghost use Rattle.jrn_record.specs.declared.records.Record.{Record};
 ghost use Rattle.sale_reply.specs.Limits.{IsWithinLimits};
 ghost use Rattle.sale_reply.specs.Reply.{tree_of};
-ghost use Rattle.gw_owes.specs.Calls.{SendTill};
+ghost use Rattle.gw_owes.specs.Calls.{CutTill, SendTill};
 ghost use Rattle.gw_owes.specs.Items.{RoundItem};
 ghost use Rattle.gw_owes.specs.Reply.{ReplyValue, reply_value_tree};
 ghost use Rattle.gw_owes.specs.Terminals.{core_without};
 ghost use Rattle.gw_rules.specs.Triple.{Triple};
 ghost use Rattle.gw_dispatch.specs.Growth.{GoesOnBesideDisk};
 ghost use Rattle.gw_dispatch.specs.MidRound.{AreHeard, MidRound};
-ghost use Rattle.gw_dispatch.specs.Tills.{rank, others};
+ghost use Rattle.gw_dispatch.specs.Tills.{AllStillHold, rank, others};
 
-use crate::replier::{Replier, Served};
+use crate::replier::Replier;
 use gw_core::Core;
 use gw_site::Site;
 use sale_frame::FrameReader;
@@ -66,7 +66,21 @@ pub(crate) struct Tills {
     pub(crate) list: Vec<Till>,
 }
 
-/// Sends a till a reply. Where that fails it was cut, and is forgotten.
+/// Cuts a till's connection, and forgets it: replies to it aren't sent later.
+pub(crate) fn cut_till<S: Site>(core: &mut Core, tills: &mut Tills, site: &mut S, till: u64)
+    ensures triple { (setup : Setup) (kept : List Record) (polls : ℕ) (now : ℤ) (heard : ℕ → List ℕ) (items : List RoundItem) → Triple (S.observed site.old) (S.observed site.new)
+        (MidRound setup core.old kept tills.old.list.items polls now (AreHeard heard) (CutTill till ∷ []) items)
+        (MidRound setup core.new kept tills.new.list.items polls now (AreHeard heard) [] items) }
+    ensures core { core.new ≡ core_without core.old till }
+    ensures list { tills.new.list.items ≡ others tills.old.list.items till }
+    ensures goes_on { GoesOnBesideDisk (S.observed site.old) (S.observed site.new) }
+{
+    site.cut_till(till);
+    drop_till(&mut tills.list, till);
+    core.forget(till);
+}
+
+/// Sends a till a reply. Where that fails it is cut, by which it learns that it has lost one.
 pub(crate) fn deliver<S: Site>(
     core: &mut Core,
     tills: &mut Tills,
@@ -79,14 +93,11 @@ pub(crate) fn deliver<S: Site>(
         (MidRound setup core.old kept tills.old.list.items polls now (AreHeard heard) (SendTill till owed ∷ []) items)
         (MidRound setup core.new kept tills.new.list.items polls now (AreHeard heard) [] items) }
     ensures core { (core.new ≡ core.old) ⊎ (core.new ≡ core_without core.old till) }
+    ensures still { AllStillHold tills.old.list.items tills.new.list.items }
     ensures goes_on { GoesOnBesideDisk (S.observed site.old) (S.observed site.new) }
 {
-    match tills.replier.send_reply(site, till, reply) {
-        Served::Gone => {
-            drop_till(&mut tills.list, till);
-            core.forget(till);
-        }
-        Served::More => {}
-        Served::Incomplete => {}
+    if tills.replier.send_reply(site, till, reply) {
+        return;
     }
+    cut_till(core, tills, site, till);
 }

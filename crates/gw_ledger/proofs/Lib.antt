@@ -18,6 +18,7 @@ pub mod RecordLemmas
 pub mod ReversalLemmas
 pub mod SettledAfterLemmas
 pub mod SettledLemmas
+pub mod SettlingLemmas
 pub mod ShortLemmas
 pub mod SortedLemmas
 pub mod TableLemmas

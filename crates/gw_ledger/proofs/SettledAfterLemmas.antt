@@ -1,6 +1,6 @@
 -- A payment is settled where a Settled of its terminal comes after its Outcome.
-use Rattle.std.proofs.Common.{◌≡◌, ◌∙◌, ℕ, zero, suc, ◌<◌, ◌≤◌, eqb, Bool, true, false, ◌&&◌, cond, List, [], ◌∷◌, ◌++◌, length, Option, Some, None, slice_get, refl, sym, ap, subst, arith, ◌⊎◌, inl, inr, append_assoc}
-use Rattle.std.specs.Prelude.{◌↔◌, if◌then◌else◌, nat_lt, option_map}
+use Rattle.std.proofs.Common.{◌≡◌, ◌∙◌, ℕ, suc, ◌<◌, ◌≤◌, eqb, Bool, true, false, cond, List, [], ◌∷◌, ◌++◌, length, Some, None, slice_get, refl, sym, ap, subst, arith, inl, inr, append_assoc}
+use Rattle.std.specs.Prelude.{◌↔◌, if◌then◌else◌, nat_lt}
 use Rattle.std.proofs.lemmas.Bool.{cases_lt}
 use Rattle.std.proofs.lemmas.Bool.Decides.{nat_tests}
 use Rattle.std.proofs.lemmas.List.{append-nil, length-append}
@@ -12,7 +12,7 @@ use Rattle.jrn_record.specs.declared.records.Settled.{Settled as TheSettled}
 use Rattle.jrn_record.specs.declared.records.Record.{Record}
 use Rattle.jrn_record.specs.declared.records.Record.TheVariants.{Intent, Outcome, Settled}
 use Rattle.gw_ledger.specs.declared.account.Account.{Account}
-use Rattle.gw_ledger.specs.Accounts.{account_of, account_with, is_before_last_settled, is_poi, is_settled, poi_of}
+use Rattle.gw_ledger.specs.Accounts.{account_of, account_with, is_poi, is_settled, poi_of}
 use Rattle.gw_ledger.specs.History.{history, same_text}
 use Rattle.gw_ledger.specs.Laws.{IsSettledAfter}
 use Rattle.gw_ledger.specs.Slots.{asks_payment, ended_at, intent_at, is_outcome_of, is_payment}
@@ -27,16 +27,16 @@ module _ (P : List Record → Type 0) (step : (before : List Record) (next : Rec
   go before [] holds = rw (append-nil before) holds
   go before (next ∷ rest) holds = rw (← append_assoc before (next ∷ []) rest) (go (before ++ next ∷ []) rest (step before next holds))
 
-  of_all : P [] → (records : List Record) → P records
+  pub of_all : P [] → (records : List Record) → P records
   of_all none records = go [] records none
 
 -- ---- an Outcome's slot
 
-record IsOutcomeAt (records : List Record) (at : ℕ) : Type 0 where
-  outcome : TheOutcome
-  found : slice_get records at ≡ Some (Outcome outcome)
+pub record IsOutcomeAt (records : List Record) (at : ℕ) : Type 0 where
+  pub outcome : TheOutcome
+  pub found : slice_get records at ≡ Some (Outcome outcome)
 
-abbrev EndsAtOutcomes : List Record → Type 0
+abbrev pub EndsAtOutcomes : List Record → Type 0
 EndsAtOutcomes records = (slot at : ℕ) → ended_at records slot ≡ Some at → IsOutcomeAt records at
 
 is_outcome : (slot : ℕ) (next : Record) → is_outcome_of slot next ≡ true → (outcome : TheOutcome) × (next ≡ Outcome outcome)
@@ -44,7 +44,7 @@ is_outcome slot (Intent intent) test = cc
 is_outcome slot (Outcome outcome) test = (outcome, refl)
 is_outcome slot (Settled settled) test = cc
 
-ends_step : (before : List Record) (next : Record) → EndsAtOutcomes before → EndsAtOutcomes (before ++ next ∷ [])
+pub ends_step : (before : List Record) (next : Record) → EndsAtOutcomes before → EndsAtOutcomes (before ++ next ∷ [])
 ends_step before next ends slot at found = by_tests (eqb (length before) slot) (is_outcome_of slot next) refl (sym (rw (history-push before next) refl) ∙ found)
   where
     by_tests : (here ended : Bool) → is_outcome_of slot next ≡ ended
@@ -60,7 +60,7 @@ ends_step before next ends slot at found = by_tests (eqb (length before) slot) (
         let earlier = ends slot at same in
         record { outcome = earlier.outcome; found = get_before before (next ∷ []) at (slice_get_within before at (Outcome earlier.outcome) earlier.found) ∙ earlier.found }
 
-no_ends : EndsAtOutcomes []
+pub no_ends : EndsAtOutcomes []
 unfolding history
 no_ends slot at found = cc
 

@@ -1,5 +1,6 @@
 -- Laws of the fold of the records.
-use Rattle.std.specs.Prelude.{◌≡◌, ◌↔◌, ◌⊎◌, slice_get, ℕ, zero, suc, ◌+◌, ◌<◌, ◌≤◌, Bool, true, IsTrue, List, [], ◌∷◌, ◌++◌, length, Option, Some, None, IfSome, false, option_map}
+use Rattle.std.specs.Prelude.{◌≡◌, ◌↔◌, ◌⊎◌, slice_get, ℕ, zero, suc, ◌+◌, ◌<◌, ◌≤◌, Bool, true, IsTrue, List, [], ◌∷◌, ◌++◌, length, Option, Some, None, IfSome, IsSome, false, option_map}
+use Rattle.gw_base.specs.declared.currency.Currency.{Currency}
 use Rattle.gw_base.specs.declared.key.Key.{Key}
 use Rattle.jrn_record.specs.Limits.{IsIntent, IsOutcome, IsSettled}
 use Rattle.jrn_record.specs.declared.records.Deal.TheVariants.{Payment}
@@ -12,11 +13,11 @@ use Rattle.gw_ledger.specs.declared.entry.Entry.{Entry}
 use Rattle.gw_ledger.specs.declared.entry.Found.{Found}
 use Rattle.gw_ledger.specs.declared.entry.Found.TheVariants.{Entry as FoundEntry, Closed as FoundClosed}
 use Rattle.gw_ledger.specs.Accounts.{is_poi, is_settled, last_number_of, open_slot, poi_of}
-use Rattle.gw_ledger.specs.Fold.{AreFolded, fits, found_of, open_entry}
+use Rattle.gw_ledger.specs.Fold.{AreFolded, fits, found_of, may_reverse, open_entry}
 use Rattle.gw_ledger.specs.History.{Placed, history}
 use Rattle.gw_ledger.specs.Keys.{intent_key, settled_key}
 use Rattle.gw_ledger.specs.Slots.{ended_at, entry_at, intent_at, is_open, is_reversed}
-use Rattle.gw_ledger.specs.Sums.{one_if, open_count_of}
+use Rattle.gw_ledger.specs.Sums.{one_if, open_count_of, totals_of}
 use Rattle.gw_ledger.specs.Transaction.{is_named, named_of}
 
 -- one more record is the newest, after all the others
@@ -154,3 +155,52 @@ ReversalFits = (records : List Record) → AreFolded records → (intent : TheIn
 abbrev pub SettledFits : Type 0
 SettledFits = (records : List Record) → AreFolded records → (settled : TheSettled) → found_of records (settled_key settled) ≡ None
     → IsTrue (fits records (Settled settled))
+
+-- after a Settled its key has the reconciliation, with the totals of its terminal before it
+abbrev pub SettledIsFound : Type 0
+SettledIsFound = (records : List Record) (settled : TheSettled)
+    → found_of (records ++ Settled settled ∷ []) (settled_key settled)
+    ≡ Some (FoundClosed (record { slot = length records; settled = settled; totals = totals_of records settled.poi settled.currency }))
+
+-- after it the totals of its terminal are none, in every currency
+abbrev pub TotalsBeginAnew : Type 0
+TotalsBeginAnew = (records : List Record) (settled : TheSettled) (currency : Currency)
+    → totals_of (records ++ Settled settled ∷ []) settled.poi currency ≡ record { debit = (0, 0); reversed = (0, 0); currency = currency }
+
+-- the totals of another terminal are as before
+abbrev pub OtherTotalsStay : Type 0
+OtherTotalsStay = (records : List Record) (settled : TheSettled) (poi : List ℕ) → (poi ≡ settled.poi → ⊥) → (currency : Currency)
+    → totals_of (records ++ Settled settled ∷ []) poi currency ≡ totals_of records poi currency
+
+-- another key has what it had
+abbrev pub OtherKeysStay : Type 0
+OtherKeysStay = (records : List Record) (settled : TheSettled) (key : Key) → (key ≡ settled_key settled → ⊥)
+    → found_of (records ++ Settled settled ∷ []) key ≡ found_of records key
+
+-- each entry is as before
+abbrev pub EntriesStay : Type 0
+EntriesStay = (records : List Record) (settled : TheSettled) (slot : ℕ)
+    → entry_at (records ++ Settled settled ∷ []) slot ≡ entry_at records slot
+
+-- both have the same open entries and the same last trace numbers
+pub record HaveSameOpen (before after : List Record) : Type 0 where
+  pub entries : (poi : List ℕ) → open_entry after poi ≡ open_entry before poi
+  pub traces : (poi : List ℕ) → last_number_of after poi ≡ last_number_of before poi
+  pub count : open_count_of after ≡ open_count_of before
+
+-- a Settled leaves what is open, and the last trace numbers
+abbrev pub OpenStays : Type 0
+OpenStays = (records : List Record) (settled : TheSettled) → HaveSameOpen records (records ++ Settled settled ∷ [])
+
+-- the entry is one of the records: a payment of this terminal that has its Outcome
+pub record IsEndedPayment (records : List Record) (poi : List ℕ) (entry : Entry) : Type 0 where
+  pub kept : entry_at records entry.slot ≡ Some entry
+  pub what : entry.intent.what ≡ Payment
+  pub poi_is : entry.intent.poi ≡ poi
+  pub ended : IsSome entry.result
+
+-- after a Settled each payment of its terminal that has its Outcome is settled, and no Intent may reverse it
+abbrev pub PaymentsAreSettled : Type 0
+PaymentsAreSettled = (records : List Record) (settled : TheSettled) (entry : Entry) → IsEndedPayment records settled.poi entry
+    → (is_settled (records ++ Settled settled ∷ []) entry.slot ≡ true)
+    × ((intent : TheIntent) → may_reverse (records ++ Settled settled ∷ []) intent (Some entry.slot) ≡ false)

@@ -12,7 +12,7 @@ use Rattle.gw_ledger.specs.Accounts.{is_poi, is_settled, last_number_of, open_sl
 use Rattle.gw_ledger.specs.Example.{day_approval, day, key, day_payment, reconciliation, day_reversal, second, settled}
 use Rattle.gw_ledger.specs.Fold.{AreFolded, fits, found_of, open_entry}
 use Rattle.gw_ledger.specs.Keys.{intent_key, settled_key}
-use Rattle.gw_ledger.specs.Laws.{IsEntryWithin, IsOpenAt, IsOriginalOf, IsSettledAfter, count_below}
+use Rattle.gw_ledger.specs.Laws.{IsEndedPayment, IsEntryWithin, IsOpenAt, IsOriginalOf, IsSettledAfter, count_below}
 use Rattle.gw_ledger.specs.Slots.{ended_at, entry_at, intent_at, is_open, is_reversed}
 use Rattle.gw_ledger.specs.Sums.{open_count_of}
 use Rattle.gw_ledger.specs.Transaction.{is_named, named_of}
@@ -114,3 +114,11 @@ pub record ExampleReconciliation : Type 0 where
   pub folded : AreFolded day
   pub unknown : found_of day (settled_key day_settled) ≡ None
   pub may_come : IsTrue (fits day (Settled day_settled))
+
+-- a reconciliation after the day: it settles the day's second payment, and leaves terminal `B` and the key of that payment
+pub record ExampleSettling : Type 0 where
+  pub may_come : IsTrue (fits day (Settled day_settled))
+  pub other_poi : codes "B" ≡ day_settled.poi → ⊥
+  pub other_key : key (codes "2") ≡ settled_key day_settled → ⊥
+  pub ended : IsEndedPayment day day_settled.poi second
+  pub settled : is_settled (day ++ Settled day_settled ∷ []) 2 ≡ true

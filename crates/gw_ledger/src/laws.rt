@@ -1,6 +1,6 @@
 //! Laws of the fold of the records.
-ghost use Rattle.gw_ledger.specs.Laws.{CountIsOfOpenSlots, EntriesAreWithin, LastNumberIsGreatest, NamedIsEntry, NewestIsFirst, OpenSlotIsOpen, OthersLeaveTerminal, OutcomeFits, PaymentFits, ReversalFits, SettledFits, SettledIsAfter, TextNamesOne};
-ghost use Rattle.gw_ledger.specs.Premises.{ExampleNamed, ExampleOpen, ExampleOther, ExampleOutcome, ExamplePayment, ExampleReconciliation, ExampleReversal, ExampleSettledAfter, ExampleWithin};
+ghost use Rattle.gw_ledger.specs.Laws.{CountIsOfOpenSlots, EntriesAreWithin, EntriesStay, LastNumberIsGreatest, NamedIsEntry, NewestIsFirst, OpenSlotIsOpen, OpenStays, OtherKeysStay, OthersLeaveTerminal, OtherTotalsStay, OutcomeFits, PaymentFits, PaymentsAreSettled, ReversalFits, SettledFits, SettledIsAfter, SettledIsFound, TextNamesOne, TotalsBeginAnew};
+ghost use Rattle.gw_ledger.specs.Premises.{ExampleNamed, ExampleOpen, ExampleOther, ExampleOutcome, ExamplePayment, ExampleReconciliation, ExampleReversal, ExampleSettledAfter, ExampleSettling, ExampleWithin};
 ghost use Rattle.gw_ledger.specs.Reversals.{ExampleReversedOnce, ExampleSecondReversal, OriginalIsPayment, OthersAreDeclined, ReversedIsApproved, ReversedOnce};
 
 /// One more record is the newest of the history, and where it is one of another terminal it leaves a terminal's open slot
@@ -25,6 +25,19 @@ pub fn law_last_number()
 /// A payment is settled where a Settled of its terminal comes after its Outcome.
 pub fn law_settled()
     ensures { SettledIsAfter }
+{}
+
+/// What one more Settled does: its key has the reconciliation, with the totals up to it, and the totals of its terminal begin
+/// anew; the totals of other terminals, what other keys have, each entry, what is open and the last trace numbers stay. Each
+/// payment of its terminal that has its Outcome is then settled, and no longer reversed.
+pub fn law_settling()
+    ensures found { SettledIsFound }
+    ensures fresh { TotalsBeginAnew }
+    ensures others { OtherTotalsStay }
+    ensures keys { OtherKeysStay }
+    ensures entries { EntriesStay }
+    ensures opened { OpenStays }
+    ensures settled { PaymentsAreSettled }
 {}
 
 /// A text names at most one entry of a terminal, and what it names is an entry of that terminal.
@@ -67,6 +80,7 @@ pub fn law_examples()
     ensures reversal { ExampleReversal }
     ensures outcome { ExampleOutcome }
     ensures reconciliation { ExampleReconciliation }
+    ensures settling { ExampleSettling }
     ensures reversed_once { ExampleReversedOnce }
     ensures second_reversal { ExampleSecondReversal }
 {}

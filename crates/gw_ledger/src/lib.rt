@@ -20,7 +20,7 @@ pub use entry::{Closed, Entry, Found};
 pub use fault::{BadRecord, LedgerFault};
 pub use laws::{
     law_examples, law_fits, law_last_number, law_named, law_next, law_open, law_reversed_once,
-    law_settled, law_within,
+    law_settled, law_settling, law_within,
 };
 pub use ledger::Ledger;
 pub use totals::{Tally, Totals};

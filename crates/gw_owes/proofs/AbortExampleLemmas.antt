@@ -6,7 +6,7 @@ use Rattle.gw_ledger.specs.History.{history}
 use Rattle.zvt_apdu.specs.DecodeStream.{decode_apdus, decode_apdus_within}
 use Rattle.zvt_bmp.specs.Decode.{decode_field_value, decode_status_field, decode_status_within, decode_status}
 use Rattle.zvt_msg.specs.MessageDecode.{decode_pt_message}
-use Rattle.gw_owes.specs.AbortExample.{ExampleAbortUnserved, ExampleStopSent, ExampleStoppedEnds, ExampleLateRefusal, ExampleEnquiredAfterStop, ExampleLateAcknowledgement}
+use Rattle.gw_owes.specs.AbortExample.{ExampleAbortUnserved, ExampleStopSent, ExampleStoppedEnds, ExampleDayAborted, ExampleDisplayAborted, ExampleLateRefusal, ExampleEnquiredAfterStop, ExampleLateAcknowledgement}
 
 pub abort-unserved : ExampleAbortUnserved
 unfolding decode_apdus decode_apdus_within decode_pt_message decode_status decode_status_within decode_status_field decode_field_value history transaction_text digits
@@ -39,6 +39,28 @@ stopped-ends = record {
   after_wish = record { calls_are = refl; standing_is = refl };
   before_stop = record { calls_are = refl; standing_is = refl };
   approved = record { calls_are = refl; standing_is = refl };
+}
+
+pub day-aborted : ExampleDayAborted
+unfolding decode_apdus decode_apdus_within decode_pt_message decode_status decode_status_within decode_status_field decode_field_value history transaction_text digits
+day-aborted = record {
+  at_once = record { calls_are = refl; standing_is = refl };
+  wished = record { calls_are = refl; standing_is = refl };
+  then_sent = record { calls_are = refl; standing_is = refl };
+  twice = record { calls_are = refl; standing_is = refl };
+  refused = record { calls_are = refl; standing_is = refl };
+  another = record { calls_are = refl; standing_is = refl };
+  after_stop = record { calls_are = refl; standing_is = refl };
+  before_stop = record { calls_are = refl; standing_is = refl };
+  done = record { calls_are = refl; standing_is = refl };
+  over = record { calls_are = refl; standing_is = refl };
+}
+
+pub display-aborted : ExampleDisplayAborted
+unfolding decode_apdus decode_apdus_within decode_pt_message decode_status decode_status_within decode_status_field decode_field_value history transaction_text digits
+display-aborted = record {
+  refused = record { calls_are = refl; standing_is = refl };
+  then_shown = record { calls_are = refl; standing_is = refl };
 }
 
 pub late-refusal : ExampleLateRefusal

@@ -1,9 +1,10 @@
 -- Why a terminal is set aside, and that it stays so.
 use Rattle.std.proofs.Common.{◌≡◌, ◌≤◌, ◌<◌, ◌⊎◌, ℕ, List, [], ◌∷◌, refl, sym, ◌∙◌, ap, subst, inl, inr, Bool, true, false}
-use Rattle.std.proofs.lemmas.Bool.{leb-false, lt-leb, ltb-false}
+use Rattle.std.proofs.lemmas.Bool.{false_from_ne_true, leb-false, lt-leb, ltb-false}
 use Rattle.std.specs.Prelude.{nat_le, nat_lt, if◌then◌else◌, Option, Some, None, Result, Ok, Err}
 use Rattle.gw_base.specs.declared.figures.Figures.{Figures}
 use Rattle.sale_values.specs.declared.header.Header.{Header}
+use Rattle.sale_reply.specs.declared.reply.Shown.{Shown}
 use Rattle.sale_values.specs.declared.request.SaleRequest.{SaleRequest}
 use Rattle.zvt_apdu.specs.Grammar.{ApduValue}
 use Rattle.zvt_msg.specs.declared.fault.PtFault.{PtFault}
@@ -11,8 +12,12 @@ use Rattle.zvt_msg.specs.Message.{MessageValue, Ack, Nack, Intermediate, Line, B
 use Rattle.zvt_msg.specs.MessageDecode.{decode_pt_message}
 use Rattle.zvt_talk.specs.declared.meaning.Heard.{Heard}
 use Rattle.zvt_talk.specs.declared.meaning.Heard.TheVariants as heard
-use Rattle.zvt_talk.specs.Talk.{TalkFacts}
+use Rattle.zvt_talk.specs.Came.{is_taken}
+use Rattle.jrn_record.specs.declared.records.How.TheVariants as hows
+use Rattle.jrn_record.specs.declared.records.Record.{Record}
+use Rattle.jrn_record.specs.declared.records.Record.TheVariants.{Settled}
 use Rattle.gw_ledger.specs.declared.entry.Entry.{Entry as TheEntry}
+use Rattle.gw_owes.specs.declared.terminal.Service.{Service}
 use Rattle.gw_owes.specs.declared.terminal.Service.TheVariants.{Transaction, EndOfDay, Display}
 use Rattle.gw_owes.specs.declared.terminal.Standing.{Standing}
 use Rattle.gw_owes.specs.declared.terminal.Standing.TheVariants.{Unlinked, Registering, Enquiring, Ready, Serving, Aside}
@@ -20,17 +25,21 @@ use Rattle.gw_owes.specs.declared.terminal.Terminal.{Terminal}
 use Rattle.gw_owes.specs.Calls.{Sending, OwedCall, CutPt, LinkPt, records_kept}
 use Rattle.gw_owes.specs.Deadlines.{is_late, is_due, late_row, due_row}
 use Rattle.gw_owes.specs.Greeting.{greeting, sending_calls, greet_decoded, oversized_row}
-use Rattle.gw_owes.specs.Handling.{meaning_at, taking, registering, enquiring, serving_other, consequence, handle_row}
+use Rattle.gw_owes.specs.Displays.{serving_display}
+use Rattle.gw_owes.specs.Handling.{meaning_at, taking, registering, enquiring, serving, consequence, taken_row, handle_row}
 use Rattle.gw_owes.specs.Items.{RoundItem, Crowded, Message, Asked, Unframed, Gone, Greet, Handle, Serve, NextWaiting, Oversized, LinkLost, Late, Overdue, Due}
-use Rattle.gw_owes.specs.Links.{LinkIsMade, LinkHasFailed, LinkIsLost, cutting}
+use Rattle.gw_owes.specs.Links.{is_linked, LinkIsMade, LinkHasFailed, LinkIsLost, cutting}
+use Rattle.gw_owes.specs.Reconciliations.{settled_of, reply_to_settled, serving_day}
 use Rattle.gw_owes.specs.Reports.{Report, on_record, least_against, least_reported, standing_reported, outcome_reported, report_of_open, report_against}
 use Rattle.gw_owes.specs.Row.{Known, Row, owing, owing_nothing, owing_where}
 use Rattle.gw_owes.specs.Serving.{at_rest, staying, breaking, stops, approved_outcome, done_with, resolves, approved_row, serving_transaction}
-use Rattle.gw_owes.specs.TerminalLaws.{commands_in, GoesOnTo, IsAsideAt, ReportsBelow, ApprovedNotAbove, IsSetAside, EachAsideHasCause, NoLinkEventSetsAside, EnquiredIsSetAside, AsideStaysAside}
+use Rattle.gw_owes.specs.TerminalLaws.{commands_in, GoesOnTo, IsAsideAt, ReportsBelow, ApprovedNotAbove, IsSetAside, EachAsideHasCause, NoLinkEventSetsAside, EnquiredIsSetAside, KeepsSettled, AsideStaysAside, HasNoTrace, is_done_or_declined, HasStandingAfter, EachServedLeavesLast}
 use Rattle.gw_owes.specs.TerminalRows.{terminal_of, terminal_row, is_link_lost}
 use Rattle.gw_owes.specs.Terminals.{terminal_at, of_terminal, terminal_becomes, with_terminal, registers, unlinks}
-use Rattle.gw_owes.proofs.HandlingLemmas.{by-where, each-terminal, each-linked, each-handled, reported-leads}
-use Rattle.gw_owes.proofs.PaymentLemmas.{StopsAt, each-served}
+use Rattle.gw_owes.proofs.HandlingLemmas.{by-where, each-terminal, each-linked, taken-cases, each-handled, handled-is, means-taken, reported-leads}
+use Rattle.gw_owes.proofs.PaymentLawLemmas.{reply-keeps}
+use Rattle.gw_owes.proofs.PaymentLemmas.{each-served}
+use Rattle.gw_owes.proofs.RowLemmas.{reply-commands}
 use Rattle.gw_owes.proofs.SetLemmas.{new-is-there, same-some}
 
 -- the standing isn't one that is set aside
@@ -92,19 +101,35 @@ module _ (known : Known) (number : ℕ) (old taken : Terminal) (found : terminal
   registering-none heard.Unclear = breaks-none
   registering-none heard.Stray = stays-none
 
-  other-none : (meant : Heard) → NoneAside number (serving_other known number taken meant)
-  other-none (heard.Begun true) = stops-none
-  other-none (heard.Begun false) = stays-none
-  other-none (heard.Note intermediate_status) = stays-none
-  other-none heard.Line = stays-none
-  other-none heard.Block = stays-none
-  other-none heard.Seen = stays-none
-  other-none (heard.Approved figures) = stays-none
-  other-none heard.Done = stays-none
-  other-none (heard.Told reported approved result_code) = stays-none
-  other-none (heard.Declined result_code reported) = stays-none
-  other-none heard.Unclear = breaks-none
-  other-none heard.Stray = stays-none
+  rests-none : (last before reported : ℕ) → IsAsideAt (with_terminal known.core number (done_with taken (Ready last))) number before reported → ⊥
+  rests-none last = becomes-none known number old (done_with taken (Ready last)) found (λ before reported e. cc)
+
+  day-none : (last : ℕ) (header : Header) (meant : Heard) → NoneAside number (serving_day known number taken last header meant)
+  day-none last header (heard.Begun true) = stops-none
+  day-none last header (heard.Begun false) = stays-none
+  day-none last header (heard.Note intermediate_status) = stays-none
+  day-none last header heard.Line = stays-none
+  day-none last header heard.Block = stays-none
+  day-none last header heard.Seen = stays-none
+  day-none last header (heard.Approved figures) = stays-none
+  day-none last header heard.Done = rests-none last
+  day-none last header (heard.Told reported approved result_code) = stays-none
+  day-none last header (heard.Declined result_code reported) = rests-none last
+  day-none last header heard.Unclear = breaks-none
+  day-none last header heard.Stray = stays-none
+
+  display-none : (last : ℕ) (header : Header) (results : Option (List Shown)) (meant : Heard) → NoneAside number (serving_display known number taken last header results meant)
+  display-none last header results (heard.Begun stop) = stays-none
+  display-none last header results (heard.Note intermediate_status) = stays-none
+  display-none last header results heard.Line = stays-none
+  display-none last header results heard.Block = stays-none
+  display-none last header results heard.Seen = stays-none
+  display-none last header results (heard.Approved figures) = stays-none
+  display-none last header results heard.Done = rests-none last
+  display-none last header results (heard.Told reported approved result_code) = stays-none
+  display-none last header results (heard.Declined result_code reported) = rests-none last
+  display-none last header results heard.Unclear = breaks-none
+  display-none last header results heard.Stray = stays-none
 
   -- a report that sets aside
   reported-so : (last heard_of : ℕ) (before reported : ℕ) → standing_reported last heard_of ≡ Aside before reported → (before ≡ last) × (reported ≡ heard_of) × (heard_of < last)
@@ -190,8 +215,8 @@ module _ (known : Known) (number : ℕ) (old taken : Terminal) (found : terminal
   consequence-so meant (Serving (Transaction slot) last) before reported was a =
       let so = transaction-so slot last meant before reported a in
       inr (slot, ap (λ (n : ℕ). Serving (Transaction slot) n) (sym so.0), so.1)
-  consequence-so meant (Serving (EndOfDay header period) last) before reported was a = absurd (other-none meant before reported a)
-  consequence-so meant (Serving (Display header outputs) last) before reported was a = absurd (other-none meant before reported a)
+  consequence-so meant (Serving (EndOfDay header period) last) before reported was a = absurd (day-none last header meant before reported a)
+  consequence-so meant (Serving (Display header results) last) before reported was a = absurd (display-none last header results meant before reported a)
   consequence-so meant (Aside last heard_of) before reported was a = absurd (stays-none before reported a)
 
 -- ---- each item
@@ -222,6 +247,7 @@ handle-aside known number apdu was before reported =
       why = as-cause known terminal message before reported
           (consequence-so known number terminal (taking terminal message known.moment) found (was-not known number terminal was found) (meaning_at terminal message) terminal.standing before reported was a);
     })
+    (λ terminal message found linked is taken at stays a. stays (record { terminal = a.terminal; found = a.found; standing_is = a.standing_is }))
 
 greet-none : (known : Known) (number : ℕ) (decoded : Result MessageValue PtFault) → WasNone known number → NoneAside number (greet_decoded known number decoded)
 greet-none known number (Ok message) was = each-linked (NoneAside number) known number (λ terminal. owing known (sending_calls number (greeting message))) was (λ terminal found linked. was)
@@ -235,8 +261,16 @@ made-none known number was = each-terminal (NoneAside number) known number (regi
 
 serve-none : (known : Known) (number till : ℕ) (header : Header) (request : SaleRequest) → WasNone known number → NoneAside number (terminal_row known (Serve number till header request))
 serve-none known number till header request was =
-    each-served (NoneAside number) known number till header request was (λ terminal last asking at. becomes-none known number terminal _ at.found (λ before reported e. cc))
-    (λ terminal talk at may. becomes-none known number terminal _ at.found (was-not known number terminal was at.found)) (λ terminal talk at may. becomes-none known number terminal _ at.found (was-not known number terminal was at.found))
+    each-served (NoneAside number) known number till header request (record {
+      none = was;
+      begins = λ terminal last asking at. becomes-none known number terminal _ at.found (λ before reported e. cc);
+      sent = λ terminal talk at may. becomes-none known number terminal _ at.found (was-not known number terminal was at.found);
+      wished = λ terminal talk at may. becomes-none known number terminal _ at.found (was-not known number terminal was at.found);
+      session = λ success before reported there. was before reported (record { terminal = there.terminal; found = there.found; standing_is = there.standing_is });
+      settles = λ terminal at. was;
+      day = λ terminal last at. becomes-none known number terminal _ at.found (λ before reported e. cc);
+      displays = λ terminal last outputs command at. becomes-none known number terminal _ at.found (λ before reported e. cc);
+    })
 
 late-none : (known : Known) (number : ℕ) → WasNone known number → NoneAside number (late_row known number)
 late-none known number was = each-terminal (NoneAside number) known number (λ terminal. owing_where (is_late known.moment terminal.talk) known (cutting known number)) was
@@ -302,23 +336,6 @@ enquired-is-set-aside known number apdu terminal report reports below =
 
 -- ---- one that is set aside stays so
 
--- the terminal of this number is set aside after the row, for which no record is kept and no command is sent
-record IsStillAside (number before reported : ℕ) (row : Row) : Type 0 where
-  pub aside : IsAsideAt row.core number before reported
-  pub kept_none : records_kept row.calls ≡ []
-  pub asked_none : commands_in row.calls ≡ 0
-
--- a row that changes nothing leaves it so
-still-aside : (known : Known) (number before reported : ℕ) (calls : List OwedCall) → IsAsideAt known.core number before reported → records_kept calls ≡ [] → commands_in calls ≡ 0
-    → IsStillAside number before reported (owing known calls)
-still-aside known number before reported calls was kept_none asked_none = record { aside = was; kept_none = kept_none; asked_none = asked_none }
-
-idle-aside : (known : Known) (number before reported : ℕ) → IsAsideAt known.core number before reported → IsStillAside number before reported (owing_nothing known)
-idle-aside known number before reported was = still-aside known number before reported [] was refl refl
-
-cut-aside : (known : Known) (at number before reported : ℕ) → IsAsideAt known.core number before reported → IsStillAside number before reported (cutting known at)
-cut-aside known at number before reported was = still-aside known number before reported (CutPt at ∷ []) was refl refl
-
 -- a greeting is no record and no command
 greeting-keeps-none : (number : ℕ) (sending : Option Sending) → records_kept (sending_calls number sending) ≡ []
 greeting-keeps-none number None = refl
@@ -335,80 +352,189 @@ greeting-asks-none number Completion = refl
 greeting-asks-none number (Abort result_code) = refl
 greeting-asks-none number Other = refl
 
-greet-stays : (known : Known) (at number before reported : ℕ) (decoded : Result MessageValue PtFault) → IsAsideAt known.core number before reported → IsStillAside number before reported (greet_decoded known at decoded)
-greet-stays known at number before reported (Ok message) was =
-    each-linked (IsStillAside number before reported) known at (λ terminal. owing known (sending_calls at (greeting message))) (idle-aside known number before reported was)
-    (λ terminal found linked. still-aside known number before reported (sending_calls at (greeting message)) was (greeting-keeps-none at (greeting message)) (greeting-asks-none at message))
-greet-stays known at number before reported (Err fault) was =
-    each-linked (IsStillAside number before reported) known at (λ terminal. cutting known at) (idle-aside known number before reported was) (λ terminal found linked. cut-aside known at number before reported was)
+module _ (known : Known) (number before reported : ℕ) (was : IsAsideAt known.core number before reported) where
+  -- the terminal that is set aside is the one of its number
+  stands-aside : (terminal : Terminal) → terminal_at known number ≡ Some terminal → terminal.standing ≡ Aside before reported
+  stands-aside terminal found = ap (λ (t : Terminal). t.standing) (same-some terminal was.terminal (sym found ∙ was.found)) ∙ was.standing_is
 
-oversized-stays : (known : Known) (at number before reported : ℕ) → IsAsideAt known.core number before reported → IsStillAside number before reported (oversized_row known at)
-oversized-stays known at number before reported was =
-    each-linked (IsStillAside number before reported) known at (λ terminal. cutting known at) (idle-aside known number before reported was) (λ terminal found linked. cut-aside known at number before reported was)
+  -- it isn't ready, and serves nothing
+  ready-apart : (terminal : Terminal) (last : ℕ) → terminal_at known number ≡ Some terminal → terminal.standing ≡ Ready last → ⊥
+  ready-apart terminal last found standing = let e : Ready last ≡ Aside before reported = sym standing ∙ stands-aside terminal found in cc
 
-late-stays : (known : Known) (at number before reported : ℕ) → IsAsideAt known.core number before reported → IsStillAside number before reported (late_row known at)
-late-stays known at number before reported was =
-    each-terminal (IsStillAside number before reported) known at (λ terminal. owing_where (is_late known.moment terminal.talk) known (cutting known at)) (idle-aside known number before reported was)
-    (λ terminal found. by-where (IsStillAside number before reported) known (cutting known at) (is_late known.moment terminal.talk) (idle-aside known number before reported was)
-    (λ late. cut-aside known at number before reported was))
+  serves-apart : (terminal : Terminal) (service : Service) (last : ℕ) → terminal_at known number ≡ Some terminal → terminal.standing ≡ Serving service last → ⊥
+  serves-apart terminal service last found standing = let e : Serving service last ≡ Aside before reported = sym standing ∙ stands-aside terminal found in cc
 
-due-stays : (known : Known) (at number before reported : ℕ) → IsAsideAt known.core number before reported → IsStillAside number before reported (due_row known at)
-due-stays known at number before reported was =
-    each-terminal (IsStillAside number before reported) known at (λ terminal. owing_where (is_due known.moment terminal.standing) known (owing known (LinkPt at ∷ []))) (idle-aside known number before reported was)
-    (λ terminal found. by-where (IsStillAside number before reported) known (owing known (LinkPt at ∷ [])) (is_due known.moment terminal.standing) (idle-aside known number before reported was)
-    (λ due. still-aside known number before reported (LinkPt at ∷ []) was refl refl))
+-- the terminal of this number is set aside after the row of an item: no record is kept but the Settled of a till's own reconciliation, and no command is sent
+record IsStillAside (known : Known) (item : RoundItem) (number before reported : ℕ) (row : Row) : Type 0 where
+  pub aside : IsAsideAt row.core number before reported
+  pub kept : (records_kept row.calls ≡ []) ⊎ KeepsSettled known item number row.calls
+  pub asked_none : commands_in row.calls ≡ 0
 
--- the terminal that is set aside is the one of its number
-stands-aside : (known : Known) (number : ℕ) (terminal : Terminal) (before reported : ℕ) → IsAsideAt known.core number before reported → terminal_at known number ≡ Some terminal → terminal.standing ≡ Aside before reported
-stands-aside known number terminal before reported was found = ap (λ (t : Terminal). t.standing) (same-some terminal was.terminal (sym found ∙ was.found)) ∙ was.standing_is
+module _ (known : Known) (item : RoundItem) (number before reported : ℕ) (was : IsAsideAt known.core number before reported) where
+  -- a row that changes nothing leaves it so
+  still-aside : (calls : List OwedCall) → records_kept calls ≡ [] → commands_in calls ≡ 0 → IsStillAside known item number before reported (owing known calls)
+  still-aside calls kept_none asked_none = record { aside = was; kept = inl kept_none; asked_none = asked_none }
 
--- a message changes nothing but what is awaited
-handle-stays : (known : Known) (number : ℕ) (apdu : ApduValue) (before reported : ℕ) → IsAsideAt known.core number before reported → IsStillAside number before reported (handle_row known number apdu)
-handle-stays known number apdu before reported was =
-    each-handled (IsStillAside number before reported) known number apdu (idle-aside known number before reported was)
-    (λ terminal message found linked is taken.
-    let stands = stands-aside known number terminal before reported was found in
-    subst (λ (at : Standing). IsStillAside number before reported (consequence known number (taking terminal message known.moment) (meaning_at terminal message) at)) (sym stands)
-    (record {
-      aside = record { terminal = _; found = new-is-there known.core.terminals number terminal _ found; standing_is = stands };
-      kept_none = refl;
-      asked_none = refl;
-    }))
+  idle-aside : IsStillAside known item number before reported (owing_nothing known)
+  idle-aside = still-aside [] refl refl
 
--- it serves nothing
-serves-apart : (known : Known) (number : ℕ) (header : Header) (request : SaleRequest) (terminal : Terminal) (talk : TalkFacts) (before reported : ℕ) → StopsAt known number header request terminal talk → IsAsideAt known.core number before reported → ⊥
-serves-apart known number header request terminal talk before reported at was =
-    let e : Serving (Transaction at.slot) at.last ≡ Aside before reported = sym at.standing_is ∙ stands-aside known number terminal before reported was at.found in cc
+  cut-aside : (at : ℕ) → IsStillAside known item number before reported (cutting known at)
+  cut-aside at = still-aside (CutPt at ∷ []) refl refl
 
--- and it begins nothing, and has nothing to stop
+  greet-stays : (at : ℕ) (decoded : Result MessageValue PtFault) → IsStillAside known item number before reported (greet_decoded known at decoded)
+  greet-stays at (Ok message) =
+      each-linked (IsStillAside known item number before reported) known at (λ terminal. owing known (sending_calls at (greeting message))) idle-aside
+      (λ terminal found linked. still-aside (sending_calls at (greeting message)) (greeting-keeps-none at (greeting message)) (greeting-asks-none at message))
+  greet-stays at (Err fault) = each-linked (IsStillAside known item number before reported) known at (λ terminal. cutting known at) idle-aside (λ terminal found linked. cut-aside at)
+
+  oversized-stays : (at : ℕ) → IsStillAside known item number before reported (oversized_row known at)
+  oversized-stays at = each-linked (IsStillAside known item number before reported) known at (λ terminal. cutting known at) idle-aside (λ terminal found linked. cut-aside at)
+
+  late-stays : (at : ℕ) → IsStillAside known item number before reported (late_row known at)
+  late-stays at =
+      each-terminal (IsStillAside known item number before reported) known at (λ terminal. owing_where (is_late known.moment terminal.talk) known (cutting known at)) idle-aside
+      (λ terminal found. by-where (IsStillAside known item number before reported) known (cutting known at) (is_late known.moment terminal.talk) idle-aside (λ late. cut-aside at))
+
+  due-stays : (at : ℕ) → IsStillAside known item number before reported (due_row known at)
+  due-stays at =
+      each-terminal (IsStillAside known item number before reported) known at (λ terminal. owing_where (is_due known.moment terminal.standing) known (owing known (LinkPt at ∷ []))) idle-aside
+      (λ terminal found. by-where (IsStillAside known item number before reported) known (owing known (LinkPt at ∷ [])) (is_due known.moment terminal.standing) idle-aside (λ due. still-aside (LinkPt at ∷ []) refl refl))
+
+  -- a message changes nothing but what is awaited
+  handle-stays : (apdu : ApduValue) → IsStillAside known item number before reported (handle_row known number apdu)
+  handle-stays apdu =
+      each-handled (IsStillAside known item number before reported) known number apdu idle-aside
+      (λ terminal message found linked is taken.
+      let stands = stands-aside known number before reported was terminal found in
+      subst (λ (at : Standing). IsStillAside known item number before reported (consequence known number (taking terminal message known.moment) (meaning_at terminal message) at)) (sym stands)
+      (record {
+        aside = record { terminal = _; found = new-is-there known.core.terminals number terminal _ found; standing_is = stands };
+        kept = inl refl;
+        asked_none = refl;
+      }))
+      (λ terminal message found linked is taken at stays. absurd (serves-apart known number before reported was terminal at.service at.last found at.standing_is))
+
+-- it begins nothing, and has nothing to stop; a reconciliation of a till's own is settled
 serve-stays : (known : Known) (number till : ℕ) (header : Header) (request : SaleRequest) (before reported : ℕ) → IsAsideAt known.core number before reported
-    → IsStillAside number before reported (terminal_row known (Serve number till header request))
+    → IsStillAside known (Serve number till header request) number before reported (terminal_row known (Serve number till header request))
 serve-stays known number till header request before reported was =
-    each-served (IsStillAside number before reported) known number till header request (idle-aside known number before reported was)
-    (λ terminal last asking at. absurd (let e : Ready last ≡ Aside before reported = sym at.standing_is ∙ stands-aside known number terminal before reported was at.found in cc))
-    (λ terminal talk at may. absurd (serves-apart known number header request terminal talk before reported at was)) (λ terminal talk at may. absurd (serves-apart known number header request terminal talk before reported at was))
+    each-served (IsStillAside known (Serve number till header request) number before reported) known number till header request (record {
+      none = idle-aside known _ number before reported was;
+      begins = λ terminal last asking at. absurd (ready-apart known number before reported was terminal last at.found at.standing_is);
+      sent = λ terminal talk at may. absurd (serves-apart known number before reported was terminal at.service at.last at.found at.standing_is);
+      wished = λ terminal talk at may. absurd (serves-apart known number before reported was terminal at.service at.last at.found at.standing_is);
+      session = λ success. record { aside = record { terminal = was.terminal; found = was.found; standing_is = was.standing_is }; kept = inl refl; asked_none = refl };
+      settles = λ terminal at. record {
+        aside = was;
+        kept = inr (record {
+          till = till;
+          header = header;
+          item_is = ap (Serve number till header) at.request_is;
+          terminal = terminal;
+          found = at.found;
+          kept_one = ap (λ (records : List Record). Settled (settled_of hows.Sale header terminal.pt.currency known.moment) ∷ records) (reply-keeps (Some till) (reply_to_settled known.kept (settled_of hows.Sale header terminal.pt.currency known.moment)));
+        });
+        asked_none = reply-commands (Some till) (reply_to_settled known.kept (settled_of hows.Sale header terminal.pt.currency known.moment));
+      };
+      day = λ terminal last at. absurd (ready-apart known number before reported was terminal last at.found at.standing_is);
+      displays = λ terminal last outputs command at. absurd (ready-apart known number before reported was terminal last at.found at.standing_is);
+    })
 
 -- so with each item
 item-stays : (known : Known) (item : RoundItem) (number before reported : ℕ) → terminal_of item ≡ Some number → is_link_lost item ≡ false → IsAsideAt known.core number before reported
-    → IsStillAside number before reported (terminal_row known item)
-item-stays known (Crowded till) number before reported about no_loss was = idle-aside known number before reported was
-item-stays known (Message till bytes) number before reported about no_loss was = idle-aside known number before reported was
-item-stays known (Asked till as_read) number before reported about no_loss was = idle-aside known number before reported was
-item-stays known (Unframed till) number before reported about no_loss was = idle-aside known number before reported was
-item-stays known (Gone till) number before reported about no_loss was = idle-aside known number before reported was
-item-stays known (Greet at apdu) number before reported about no_loss was = greet-stays known at number before reported (decode_pt_message apdu) was
+    → IsStillAside known item number before reported (terminal_row known item)
+item-stays known (Crowded till) number before reported about no_loss was = idle-aside known _ number before reported was
+item-stays known (Message till bytes) number before reported about no_loss was = idle-aside known _ number before reported was
+item-stays known (Asked till as_read) number before reported about no_loss was = idle-aside known _ number before reported was
+item-stays known (Unframed till) number before reported about no_loss was = idle-aside known _ number before reported was
+item-stays known (Gone till) number before reported about no_loss was = idle-aside known _ number before reported was
+item-stays known (Greet at apdu) number before reported about no_loss was = greet-stays known _ number before reported was at (decode_pt_message apdu)
 item-stays known (Handle at apdu) number before reported about no_loss was =
-    subst (λ (n : ℕ). IsStillAside number before reported (handle_row known n apdu)) (sym (same-number at number about)) (handle-stays known number apdu before reported was)
+    subst (λ (n : ℕ). IsStillAside known (Handle n apdu) number before reported (handle_row known n apdu)) (sym (same-number at number about)) (handle-stays known (Handle number apdu) number before reported was apdu)
 item-stays known (Serve at till header request) number before reported about no_loss was =
-    subst (λ (n : ℕ). IsStillAside number before reported (terminal_row known (Serve n till header request))) (sym (same-number at number about)) (serve-stays known number till header request before reported was)
-item-stays known (NextWaiting at) number before reported about no_loss was = idle-aside known number before reported was
-item-stays known (Oversized at) number before reported about no_loss was = oversized-stays known at number before reported was
+    subst (λ (n : ℕ). IsStillAside known (Serve n till header request) number before reported (terminal_row known (Serve n till header request))) (sym (same-number at number about)) (serve-stays known number till header request before reported was)
+item-stays known (NextWaiting at) number before reported about no_loss was = idle-aside known _ number before reported was
+item-stays known (Oversized at) number before reported about no_loss was = oversized-stays known _ number before reported was at
 item-stays known (LinkLost at) number before reported about no_loss was = absurd cc
-item-stays known (Late at) number before reported about no_loss was = late-stays known at number before reported was
-item-stays known (Overdue key) number before reported about no_loss was = idle-aside known number before reported was
-item-stays known (Due at) number before reported about no_loss was = due-stays known at number before reported was
+item-stays known (Late at) number before reported about no_loss was = late-stays known _ number before reported was at
+item-stays known (Overdue key) number before reported about no_loss was = idle-aside known _ number before reported was
+item-stays known (Due at) number before reported about no_loss was = due-stays known _ number before reported was at
 
 pub aside-stays-aside : AsideStaysAside
 aside-stays-aside known item number before reported about no_loss was =
     let still = item-stays known item number before reported about no_loss was in
-    record { aside = still.aside; kept_none = still.kept_none; asked_none = still.asked_none }
+    record { aside = still.aside; kept = still.kept; asked_none = still.asked_none }
+
+-- ---- what has no trace number
+
+module _ (known : Known) (number : ℕ) (old taken : Terminal) (service : Service) (last : ℕ) (found : terminal_at known number ≡ Some old) (serves : taken.standing ≡ Serving service last) where
+  goes-on : (calls : List OwedCall) → HasStandingAfter number (Serving service last) (terminal_becomes known number taken calls)
+  goes-on calls = record { terminal = taken; found = new-is-there known.core.terminals number old taken found; standing_is = serves }
+
+  stopped-goes-on : HasStandingAfter number (Serving service last) (stops known number taken)
+  stopped-goes-on = record { terminal = _; found = new-is-there known.core.terminals number old _ found; standing_is = serves }
+
+  rests : (calls : List OwedCall) → HasStandingAfter number (Ready last) (terminal_becomes known number (done_with taken (Ready last)) calls)
+  rests calls = record { terminal = _; found = new-is-there known.core.terminals number old _ found; standing_is = refl }
+
+  day-leaves : (header : Header) (meant : Heard) → HasStandingAfter number (if is_done_or_declined meant then Ready last else Serving service last) (serving_day known number taken last header meant)
+  day-leaves header (heard.Begun true) = stopped-goes-on
+  day-leaves header (heard.Begun false) = goes-on []
+  day-leaves header (heard.Note intermediate_status) = goes-on []
+  day-leaves header heard.Line = goes-on []
+  day-leaves header heard.Block = goes-on []
+  day-leaves header heard.Seen = goes-on []
+  day-leaves header (heard.Approved figures) = goes-on []
+  day-leaves header heard.Done = rests _
+  day-leaves header (heard.Told trace approved result_code) = goes-on []
+  day-leaves header (heard.Declined result_code trace) = rests _
+  day-leaves header heard.Unclear = goes-on _
+  day-leaves header heard.Stray = goes-on []
+
+  display-leaves : (header : Header) (results : Option (List Shown)) (meant : Heard)
+      → HasStandingAfter number (if is_done_or_declined meant then Ready last else Serving service last) (serving_display known number taken last header results meant)
+  display-leaves header results (heard.Begun stop) = goes-on []
+  display-leaves header results (heard.Note intermediate_status) = goes-on []
+  display-leaves header results heard.Line = goes-on []
+  display-leaves header results heard.Block = goes-on []
+  display-leaves header results heard.Seen = goes-on []
+  display-leaves header results (heard.Approved figures) = goes-on []
+  display-leaves header results heard.Done = rests _
+  display-leaves header results (heard.Told trace approved result_code) = goes-on []
+  display-leaves header results (heard.Declined result_code trace) = rests _
+  display-leaves header results heard.Unclear = goes-on _
+  display-leaves header results heard.Stray = goes-on []
+
+service-leaves : (known : Known) (number : ℕ) (old taken : Terminal) (service : Service) (last : ℕ) (meant : Heard) → terminal_at known number ≡ Some old → taken.standing ≡ Serving service last → HasNoTrace service
+    → HasStandingAfter number (if is_done_or_declined meant then Ready last else Serving service last) (serving known number taken service last meant)
+service-leaves known number old taken (Transaction slot) last meant found serves none = absurd none
+service-leaves known number old taken (EndOfDay header period) last meant found serves none = day-leaves known number old taken (EndOfDay header period) last found serves header meant
+service-leaves known number old taken (Display header results) last meant found serves none = display-leaves known number old taken (Display header results) last found serves header results meant
+
+-- what is done or declined was taken
+not-ended : (terminal : Terminal) (message : MessageValue) → is_taken message ≡ false → is_done_or_declined (meaning_at terminal message) ≡ false
+not-ended terminal message not = false_from_ne_true (is_done_or_declined (meaning_at terminal message)) (λ ends. apart (means-taken terminal message (meaning_at terminal message) refl (λ stray. contradicts (ap is_done_or_declined (sym stray) ∙ ends))))
+  where
+    contradicts : false ≡ true → ⊥
+    contradicts e = cc
+
+    apart : is_taken message ≡ true → ⊥
+    apart is = contradicts (sym not ∙ is)
+
+pub each-served-leaves-last : EachServedLeavesLast
+each-served-leaves-last known number apdu terminal service last message found serves none is =
+    subst (HasStandingAfter number (if is_done_or_declined (meaning_at terminal message) then Ready last else Serving service last))
+    (sym (handled-is known number apdu terminal message found (ap is_linked serves) is)) (by-taken (is_taken message) refl)
+  where
+    by-taken : (taken : Bool) → is_taken message ≡ taken
+        → HasStandingAfter number (if is_done_or_declined (meaning_at terminal message) then Ready last else Serving service last) (owing_where taken known (taken_row known number (taking terminal message known.moment) (meaning_at terminal message) message))
+    by-taken true is =
+        taken-cases (HasStandingAfter number (if is_done_or_declined (meaning_at terminal message) then Ready last else Serving service last)) known number (taking terminal message known.moment) (meaning_at terminal message) message
+        (subst (λ (at : Standing). HasStandingAfter number (if is_done_or_declined (meaning_at terminal message) then Ready last else Serving service last) (consequence known number (taking terminal message known.moment) (meaning_at terminal message) at)) (sym serves)
+        (service-leaves known number terminal (taking terminal message known.moment) service last (meaning_at terminal message) found serves none))
+        (λ at stays. record { terminal = stays.terminal; found = stays.found; standing_is = stays.standing_is })
+    by-taken false is = record {
+      terminal = terminal;
+      found = found;
+      standing_is = serves ∙ sym (ap (λ (ends : Bool). if ends then Ready last else Serving service last) (not-ended terminal message is));
+    }

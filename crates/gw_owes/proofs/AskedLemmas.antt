@@ -1,8 +1,13 @@
 -- What a till asks: what is accepted begins, an Abort stops what is served, and a repeated request begins nothing.
 use Rattle.std.proofs.Common.{◌≡◌, ◌⊎◌, ℕ, [], ◌∷◌, refl, sym, ◌∙◌, ap, subst, inl, inr, Bool, true, false}
-use Rattle.std.specs.Prelude.{not, Option, Some, None, Result, Ok, Err, ◌&&◌, is_some, option_and_then, if◌then◌else◌}
+use Rattle.std.specs.Prelude.{not, List, Option, Some, None, Result, Ok, Err, ◌&&◌, ◌||◌, is_some, option_and_then, if◌then◌else◌}
+use Rattle.std.proofs.lemmas.Bool.{or_right}
+use Rattle.gw_base.specs.declared.condition.Condition.TheVariants.{Busy, InProgress, NotAllowed}
+use Rattle.gw_base.specs.declared.key.Key.{Key}
 use Rattle.gw_site.specs.Outside.{is_connected}
 use Rattle.sale_values.specs.declared.header.Header.{Header}
+use Rattle.sale_values.specs.declared.names.Period.{Period}
+use Rattle.sale_values.specs.declared.request.Output.{Output}
 use Rattle.sale_values.specs.declared.request.SaleRequest.{SaleRequest}
 use Rattle.sale_values.specs.declared.request.SaleRequest.TheVariants as requests
 use Rattle.zvt_apdu.specs.Grammar.{ApduValue}
@@ -12,21 +17,24 @@ use Rattle.zvt_msg.specs.MessageDecode.{decode_pt_message}
 use Rattle.jrn_record.specs.declared.records.Outcome.{Outcome as TheOutcome}
 use Rattle.gw_ledger.specs.declared.entry.Found.{Found}
 use Rattle.gw_owes.specs.Calls.{LinkPt, CutTill}
+use Rattle.gw_owes.specs.Days.{is_day_key, named_serves_day, serves_day}
 use Rattle.gw_owes.specs.Deadlines.{is_late, is_due}
 use Rattle.gw_owes.specs.Diagnosis.{NamedTerminal, named_terminal}
+use Rattle.gw_owes.specs.Displays.{display_result, reply_of_display}
 use Rattle.gw_owes.specs.Greeting.{greeting, sending_calls, greet_decoded}
 use Rattle.gw_owes.specs.Handling.{handle_row}
 use Rattle.gw_owes.specs.Items.{Crowded, Message, Asked, Unframed, Gone, Greet, Handle, Serve, NextWaiting, Oversized, LinkLost, Late, Overdue, Due}
 use Rattle.gw_owes.specs.KeptReplies.{found_for, is_open_found, is_open_key}
 use Rattle.gw_owes.specs.Links.{cutting}
-use Rattle.gw_owes.specs.Payments.{is_beginning}
 use Rattle.gw_owes.specs.ReadAs.{ReadAs, Request, Silent, NoMessage, NoJson}
 use Rattle.gw_owes.specs.Requests.{begun_by, reply_to, abort_reply}
 use Rattle.gw_owes.specs.Row.{Known, Row, owing, owing_where}
 use Rattle.gw_owes.specs.Rows.{row_of, asked_row}
-use Rattle.gw_owes.specs.Steps.{StepResult, KeptReply, Fails, Begins, is_unserved, step_result, reply_of_result, items_of_result, service_items}
+use Rattle.gw_owes.specs.Sessions.{is_session}
+use Rattle.gw_owes.specs.SessionRows.{session_result}
+use Rattle.gw_owes.specs.Steps.{StepResult, KeptReply, Fails, Begins, is_beginning, first_result, steps, step_result, reply_of_result, items_of_result, service_items}
 use Rattle.gw_owes.specs.Terminals.{unlinks, reply_calls_to}
-use Rattle.gw_owes.specs.PaymentLaws.{BeginsThere, EachAcceptedBegins, RepeatBeginsNothing, AsksNoTerminal, EachAskedSendsNoTerminal, BeginsAtNamed, OnlyAskedBegins, EachAskedBegins, StopsAtNamed, is_transaction_request}
+use Rattle.gw_owes.specs.PaymentLaws.{BeginsThere, EachAcceptedBegins, RepeatBeginsNothing, AsksNoTerminal, EachAskedSendsNoTerminal, BeginsSomething, OnlyAskedBegins, EachAskedBegins, KeyOfDayIsNotAllowed, is_transaction_request}
 use Rattle.gw_owes.proofs.HandlingLemmas.{by-where, each-terminal, each-linked}
 use Rattle.gw_owes.proofs.PaymentLemmas.{each-served, passes-steps}
 use Rattle.sale_values.specs.declared.request.Reference.{Reference}
@@ -81,9 +89,9 @@ asked-sends-none tills known till as_read =
 -- a request begins at the terminal that its POIID names
 record BeginsRequest (known : Known) (till : ℕ) (header : Header) (request : SaleRequest) (row : Row) : Type 0 where
   pub unknown : found_for known.kept header ≡ None
-  pub served : is_unserved request ≡ false
   pub named : NamedTerminal
   pub named_is : named_terminal known.core header.poi ≡ Some named
+  pub no_day : is_day_key header (Some named) ≡ false
   pub items_are : row.items ≡ Serve named.number till header request ∷ []
   pub no_reply : row.calls ≡ []
 
@@ -99,11 +107,11 @@ begins-by known till header request (Some named) KeptReply named_is is = inl ref
 begins-by known till header request (Some named) (Fails condition) named_is is = inl refl
 begins-by known till header request (Some named) Begins named_is is =
     let passed = passes-steps known header request (Some named) (ap is_beginning is) in
-    inr (record { unknown = passed.unknown; served = passed.served; named = named; named_is = named_is; items_are = refl; no_reply = refl })
+    inr (record { unknown = passed.unknown; named = named; named_is = named_is; no_day = passed.no_day; items_are = refl; no_reply = refl })
 
--- what a message of a till begins or stops
+-- what a message of a till begins, also to stop another
 abbrev BeginsOrStops : Known → ℕ → ReadAs → Row → Type 0
-BeginsOrStops known till as_read row = (row.items ≡ []) ⊎ (BeginsAtNamed known till as_read row ⊎ StopsAtNamed known till as_read row)
+BeginsOrStops known till as_read row = (row.items ≡ []) ⊎ BeginsSomething known till as_read row
 
 transaction-only : (known : Known) (till : ℕ) (header : Header) (request : SaleRequest) (row : Row) → is_transaction_request request ≡ true → (row.items ≡ []) ⊎ BeginsRequest known till header request row
     → BeginsOrStops known till (Request header request) row
@@ -116,13 +124,40 @@ transaction-only known till header request row transaction (inr begins) = inr (i
   unknown = begins.unknown;
   named = begins.named;
   named_is = begins.named_is;
+  no_day = begins.no_day;
   items_are = begins.items_are;
   no_reply = begins.no_reply;
 }))
 
-never-begins : (known : Known) (till : ℕ) (header : Header) (request : SaleRequest) (row : Row) → is_unserved request ≡ true → (row.items ≡ []) ⊎ BeginsRequest known till header request row → BeginsOrStops known till (Request header request) row
-never-begins known till header request row unserved (inl none) = inl none
-never-begins known till header request row unserved (inr begins) = absurd (apart (sym begins.served ∙ unserved))
+reconciles-by : (known : Known) (till : ℕ) (header : Header) (period : Period) (row : Row) → (row.items ≡ []) ⊎ BeginsRequest known till header (requests.Reconciliation period) row
+    → BeginsOrStops known till (Request header (requests.Reconciliation period)) row
+reconciles-by known till header period row (inl none) = inl none
+reconciles-by known till header period row (inr begins) = inr (inr (inr (inr (inl (record {
+  header = header;
+  period = period;
+  request_is = refl;
+  unknown = begins.unknown;
+  named = begins.named;
+  named_is = begins.named_is;
+  no_day = begins.no_day;
+  items_are = begins.items_are;
+  no_reply = begins.no_reply;
+})))))
+
+-- ---- a Display
+
+-- the row of a Display, by the terminal that is named and what its steps say
+abbrev display-row-by : Known → ℕ → Header → List Output → Option NamedTerminal → StepResult → Row
+display-row-by known till header outputs named result =
+    record { core = known.core; calls = reply_calls_to (Some till) (reply_of_display header outputs result); items = items_of_result till header (requests.Display outputs) named result }
+
+shows-by : (known : Known) (till : ℕ) (header : Header) (outputs : List Output) (named : Option NamedTerminal) (result : StepResult) → named_terminal known.core header.poi ≡ named
+    → BeginsOrStops known till (Request header (requests.Display outputs)) (display-row-by known till header outputs named result)
+shows-by known till header outputs None result named_is = inl refl
+shows-by known till header outputs (Some named) KeptReply named_is = inl refl
+shows-by known till header outputs (Some named) (Fails condition) named_is = inl refl
+shows-by known till header outputs (Some named) Begins named_is =
+    inr (inr (inr (inr (inr (record { header = header; outputs = outputs; request_is = refl; named = named; named_is = named_is; items_are = refl; no_reply = refl })))))
 
 -- ---- an Abort
 
@@ -136,7 +171,15 @@ served-open standing None serves = absurd cc
 served-open standing (Some (Found.Entry entry)) serves = unresolved-open entry entry.result (serves_entry entry standing) serves
 served-open standing (Some (Found.Closed closed)) serves = absurd cc
 
--- the row of an Abort, by the terminal that is named, whether that serves the key, and whether the key is open
+-- what serves a key is open, or is an end of day that is served
+serving-aborts : (standing : Standing) (found : Option Found) (key : Key) → (serves_any standing found || serves_day key standing) ≡ true → (is_open_found found || serves_day key standing) ≡ true
+serving-aborts standing found key serves = by-either (serves_any standing found) refl serves
+  where
+    by-either : (any : Bool) → serves_any standing found ≡ any → (any || serves_day key standing) ≡ true → (is_open_found found || serves_day key standing) ≡ true
+    by-either true any is = ap (λ (b : Bool). b || serves_day key standing) (served-open standing found any)
+    by-either false any is = or_right (is_open_found found) (serves_day key standing) is
+
+-- the row of an Abort, by the terminal that is named, whether that serves the key, and whether the key is open or that of an end of day that is served
 abbrev abort-row : Known → ℕ → Header → Reference → Bool → Bool → ℕ → Row
 abort-row known till header reference open_key serves number =
     record { core = known.core; calls = reply_calls_to (Some till) (abort_reply open_key known header); items = if serves then Serve number till header (requests.Abort reference) ∷ [] else [] }
@@ -145,7 +188,7 @@ stops-served : (known : Known) (till : ℕ) (header : Header) (reference : Refer
     → serves_key known.kept (key_of header reference) named.terminal ≡ serves → (serves ≡ true → open_key ≡ true)
     → BeginsOrStops known till (Request header (requests.Abort reference)) (abort-row known till header reference open_key serves named.number)
 stops-served known till header reference named open_key false named_is serves opens = inl refl
-stops-served known till header reference named open_key true named_is serves opens = inr (inr (record {
+stops-served known till header reference named open_key true named_is serves opens = inr (inr (inl (record {
   header = header;
   reference = reference;
   request_is = refl;
@@ -154,25 +197,39 @@ stops-served known till header reference named open_key true named_is serves ope
   serves = serves;
   items_are = refl;
   no_reply = ap (λ (is_open : Bool). reply_calls_to (Some till) (abort_reply is_open known header)) (opens refl);
-}))
+})))
 
 -- the row of an Abort, by the terminal that is named
 abbrev abort-row-at : Known → ℕ → Header → Reference → Option NamedTerminal → Row
 abort-row-at known till header reference named =
-    record { core = known.core; calls = reply_calls_to (Some till) (abort_reply (is_open_key known.kept header reference) known header); items = stop_items_at known till header reference named }
+    record {
+      core = known.core;
+      calls = reply_calls_to (Some till) (abort_reply (is_open_key known.kept header reference || named_serves_day (key_of header reference) named) known header);
+      items = stop_items_at known till header reference named;
+    }
 
 stops-by : (known : Known) (till : ℕ) (header : Header) (reference : Reference) (named : Option NamedTerminal) → named_terminal known.core (key_of header reference).poi ≡ named
     → BeginsOrStops known till (Request header (requests.Abort reference)) (abort-row-at known till header reference named)
 stops-by known till header reference None named_is = inl refl
 stops-by known till header reference (Some named) named_is =
-    stops-served known till header reference named (is_open_key known.kept header reference) (serves_key known.kept (key_of header reference) named.terminal) named_is refl
-    (λ serves. served-open named.terminal.standing (found_of known.kept (key_of header reference)) serves)
+    stops-served known till header reference named (is_open_key known.kept header reference || serves_day (key_of header reference) named.terminal.standing) (serves_key known.kept (key_of header reference) named.terminal) named_is refl
+    (λ serves. serving-aborts named.terminal.standing (found_of known.kept (key_of header reference)) (key_of header reference) serves)
+
+-- ---- a Login and a Logout
+
+logs-by : (known : Known) (till : ℕ) (header : Header) (request : SaleRequest) (named : Option NamedTerminal) (result : StepResult) → is_session request ≡ true → named_terminal known.core header.poi ≡ named
+    → BeginsOrStops known till (Request header request) (row-by known till header request named result)
+logs-by known till header request None result session named_is = inl refl
+logs-by known till header request (Some named) KeptReply session named_is = inl refl
+logs-by known till header request (Some named) (Fails condition) session named_is = inl refl
+logs-by known till header request (Some named) Begins session named_is =
+    inr (inr (inr (inl (record { header = header; request = request; request_is = refl; session = session; named = named; named_is = named_is; items_are = refl; no_reply = refl }))))
 
 -- ---- each message of a till
 
 request-begins : (known : Known) (till : ℕ) (header : Header) (request : SaleRequest) → BeginsOrStops known till (Request header request) (asked_row known till (Request header request))
-request-begins known till header requests.Login = inl refl
-request-begins known till header requests.Logout = inl refl
+request-begins known till header requests.Login = logs-by known till header requests.Login (named_terminal known.core header.poi) (session_result known header requests.Login (named_terminal known.core header.poi)) refl refl
+request-begins known till header requests.Logout = logs-by known till header requests.Logout (named_terminal known.core header.poi) (session_result known header requests.Logout (named_terminal known.core header.poi)) refl refl
 request-begins known till header (requests.Payment payment) =
     transaction-only known till header (requests.Payment payment) _ refl (begins-by known till header (requests.Payment payment) (named_terminal known.core header.poi) _ refl refl)
 request-begins known till header (requests.Reversal reversal) =
@@ -180,8 +237,8 @@ request-begins known till header (requests.Reversal reversal) =
 request-begins known till header (requests.Abort reference) = stops-by known till header reference (named_terminal known.core (key_of header reference).poi) refl
 request-begins known till header (requests.Status reference) = inl refl
 request-begins known till header (requests.Reconciliation period) =
-    never-begins known till header (requests.Reconciliation period) _ refl (begins-by known till header (requests.Reconciliation period) (named_terminal known.core header.poi) _ refl refl)
-request-begins known till header (requests.Display outputs) = inl refl
+    reconciles-by known till header period _ (begins-by known till header (requests.Reconciliation period) (named_terminal known.core header.poi) _ refl refl)
+request-begins known till header (requests.Display outputs) = shows-by known till header outputs (named_terminal known.core header.poi) (display_result outputs (named_terminal known.core header.poi)) refl
 request-begins known till header (requests.Print qualifier) = inl refl
 request-begins known till header requests.Diagnosis = inl refl
 
@@ -204,13 +261,60 @@ some-found : (found : Found) → Some found ≡ None → ⊥
 some-found found e = cc
 
 pub repeat-begins-nothing : RepeatBeginsNothing
-repeat-begins-nothing tills known till header request found is no_abort = by-either (asked-begins tills known till (Request header request))
+repeat-begins-nothing tills known till header request found is no_abort no_display no_session = by-either (asked-begins tills known till (Request header request))
   where
+    -- one that begins on a key that isn't on record has this header
+    known-key : (other : Header) (another : SaleRequest) → Request header request ≡ Request other another → found_for known.kept other ≡ None → ⊥
+    known-key other another same unknown = some-found found (sym is ∙ ap (λ (h : Header). found_for known.kept h) (header-same header other request another same) ∙ unknown)
+
     by-either : BeginsOrStops known till (Request header request) (row_of tills known (Asked till (Request header request))) → (row_of tills known (Asked till (Request header request))).items ≡ []
     by-either (inl none) = none
-    by-either (inr (inl begins)) =
-        absurd (some-found found (sym is ∙ ap (λ (h : Header). found_for known.kept h) (header-same header begins.header request begins.request begins.request_is) ∙ begins.unknown))
-    by-either (inr (inr stops)) = absurd (no_abort stops.reference (request-same header stops.header request (requests.Abort stops.reference) stops.request_is))
+    by-either (inr (inl begins)) = absurd (known-key begins.header begins.request begins.request_is begins.unknown)
+    by-either (inr (inr (inl stops))) = absurd (no_abort stops.reference (request-same header stops.header request (requests.Abort stops.reference) stops.request_is))
+    by-either (inr (inr (inr (inl logs)))) = absurd (apart (sym no_session ∙ ap is_session (request-same header logs.header request logs.request logs.request_is) ∙ logs.session))
+    by-either (inr (inr (inr (inr (inl reconciles))))) = absurd (known-key reconciles.header (requests.Reconciliation reconciles.period) reconciles.request_is reconciles.unknown)
+    by-either (inr (inr (inr (inr (inr shows))))) = absurd (no_display shows.outputs (request-same header shows.header request (requests.Display shows.outputs) shows.request_is))
+
+-- ---- the key of an end of day
+
+-- the first step that applies to what isn't the end of day itself
+not-allowed : (day : Bool) (rest : StepResult) → day ≡ true → (if day && false then Fails InProgress else (if day then Fails NotAllowed else rest)) ≡ Fails NotAllowed
+not-allowed true rest is = refl
+not-allowed false rest is = absurd cc
+
+day-result : (known : Known) (header : Header) (request : SaleRequest) (named : NamedTerminal) → is_transaction_request request ≡ true → found_for known.kept header ≡ None → is_day_key header (Some named) ≡ true
+    → step_result known header request (Some named) ≡ Fails NotAllowed
+day-result known header requests.Login named is none day = absurd cc
+day-result known header requests.Logout named is none day = absurd cc
+day-result known header (requests.Payment payment) named is none day =
+    ap (λ (found : Option Found). first_result (Fails Busy) (steps known header (requests.Payment payment) found (Some named))) none ∙ not-allowed (is_day_key header (Some named)) _ day
+day-result known header (requests.Reversal reversal) named is none day =
+    ap (λ (found : Option Found). first_result (Fails Busy) (steps known header (requests.Reversal reversal) found (Some named))) none ∙ not-allowed (is_day_key header (Some named)) _ day
+day-result known header (requests.Abort reference) named is none day = absurd cc
+day-result known header (requests.Status reference) named is none day = absurd cc
+day-result known header (requests.Reconciliation period) named is none day = absurd cc
+day-result known header (requests.Display outputs) named is none day = absurd cc
+day-result known header (requests.Print qualifier) named is none day = absurd cc
+day-result known header requests.Diagnosis named is none day = absurd cc
+
+-- a payment and a reversal have steps
+transaction-steps : (request : SaleRequest) → is_transaction_request request ≡ true → has_steps request ≡ true
+transaction-steps requests.Login is = absurd cc
+transaction-steps requests.Logout is = absurd cc
+transaction-steps (requests.Payment payment) is = refl
+transaction-steps (requests.Reversal reversal) is = refl
+transaction-steps (requests.Abort reference) is = absurd cc
+transaction-steps (requests.Status reference) is = absurd cc
+transaction-steps (requests.Reconciliation period) is = absurd cc
+transaction-steps (requests.Display outputs) is = absurd cc
+transaction-steps (requests.Print qualifier) is = absurd cc
+transaction-steps requests.Diagnosis is = absurd cc
+
+pub key-of-day-not-allowed : KeyOfDayIsNotAllowed
+key-of-day-not-allowed known header request named is named_is none day =
+    each-service-has-steps known header request (transaction-steps request is)
+    ∙ ap (λ (found : Option NamedTerminal). reply_of_result known.kept header (step_result known header request found)) named_is
+    ∙ ap (reply_of_result known.kept header) (day-result known header request named is none day)
 
 -- ---- no other item begins anything
 
@@ -233,7 +337,17 @@ only-asked-begins tills known (Unframed till) other = by-where (λ (row : Row). 
 only-asked-begins tills known (Gone till) other = refl
 only-asked-begins tills known (Greet number apdu) other = greet-items known number (decode_pt_message apdu)
 only-asked-begins tills known (Handle number apdu) other = handle-items known number apdu
-only-asked-begins tills known (Serve number till header request) other = each-served (λ (row : Row). row.items ≡ []) known number till header request refl (λ terminal last asking at. refl) (λ terminal talk at may. refl) (λ terminal talk at may. refl)
+only-asked-begins tills known (Serve number till header request) other =
+    each-served (λ (row : Row). row.items ≡ []) known number till header request (record {
+      none = refl;
+      begins = λ terminal last asking at. refl;
+      sent = λ terminal talk at may. refl;
+      wished = λ terminal talk at may. refl;
+      session = λ success. refl;
+      settles = λ terminal at. refl;
+      day = λ terminal last at. refl;
+      displays = λ terminal last outputs command at. refl;
+    })
 only-asked-begins tills known (NextWaiting number) other = refl
 only-asked-begins tills known (Oversized number) other = each-linked (λ (row : Row). row.items ≡ []) known number (λ terminal. cutting known number) refl (λ terminal found linked. refl)
 only-asked-begins tills known (LinkLost number) other = each-terminal (λ (row : Row). row.items ≡ []) known number (unlinks known number) refl (λ terminal found. refl)

@@ -1,10 +1,11 @@
 -- How payments and reversals begin: an Intent is kept, and then its terminal is asked, and by no other row.
 use Rattle.std.proofs.Common.{◌≡◌, ◌⊎◌, ℕ, List, [], ◌∷◌, refl, sym, ◌∙◌, ap, subst, inl, inr, true, false}
-use Rattle.std.specs.Prelude.{bytes_eq, unwrap_or, option_map, slice_get, Option, Some, None, Result, Ok, Err, ◌++◌, length}
+use Rattle.std.specs.Prelude.{◌||◌, bytes_eq, unwrap_or, option_map, slice_get, Option, Some, None, Result, Ok, Err, ◌++◌, length}
 use Rattle.gw_base.specs.Currency.{currency_letters}
 use Rattle.gw_base.specs.declared.key.Key.{Key}
 use Rattle.gw_site.specs.Outside.{Connection, is_connected}
 use Rattle.sale_values.specs.declared.header.Header.{Header}
+use Rattle.sale_values.specs.declared.request.Output.{Output}
 use Rattle.sale_values.specs.declared.request.PaymentAsk.{PaymentAsk}
 use Rattle.sale_values.specs.declared.request.SaleRequest.{SaleRequest}
 use Rattle.sale_values.specs.declared.request.SaleRequest.TheVariants as requests
@@ -12,7 +13,9 @@ use Rattle.zvt_apdu.specs.Grammar.{ApduValue}
 use Rattle.zvt_msg.specs.declared.fault.PtFault.{PtFault}
 use Rattle.zvt_msg.specs.Message.{MessageValue, Ack, Nack, Intermediate, Line, Block, Status, Completion, Abort, Other}
 use Rattle.zvt_msg.specs.MessageDecode.{decode_pt_message}
+use Rattle.jrn_record.specs.declared.records.How.TheVariants as hows
 use Rattle.jrn_record.specs.declared.records.Outcome.{Outcome as TheOutcome}
+use Rattle.jrn_record.specs.declared.records.Settled.{Settled as TheSettled}
 use Rattle.jrn_record.specs.declared.records.Record.{Record}
 use Rattle.jrn_record.specs.declared.records.Record.TheVariants.{Intent, Outcome}
 use Rattle.gw_ledger.specs.Sums.{is_intent}
@@ -26,24 +29,27 @@ use Rattle.gw_owes.specs.Handling.{handle_row}
 use Rattle.gw_owes.specs.Items.{RoundItem, Crowded, Message, Asked, Unframed, Gone, Greet, Handle, Serve, NextWaiting, Oversized, LinkLost, Late, Overdue, Due}
 use Rattle.gw_owes.specs.KeptReplies.{found_for}
 use Rattle.gw_owes.specs.Links.{cutting}
-use Rattle.gw_owes.specs.Payments.{payment_intent, asked_for, beginning_row, begins_in, is_beginning, serve_row, Asking, payment_asking, reversal_asking, asking_of, begins_asking, begins_request}
+use Rattle.gw_owes.specs.Payments.{payment_intent, asked_for, beginning_row, begins_in, serve_row, Asking, payment_asking, reversal_asking, asking_of, begins_asking, begins_request}
 use Rattle.gw_owes.specs.ReadAs.{ReadAs}
+use Rattle.gw_owes.specs.Reconciliations.{settle_calls, settled_of}
 use Rattle.gw_owes.specs.Reply.{ReplyValue}
 use Rattle.gw_owes.specs.Reports.{outcome_reported}
 use Rattle.gw_owes.specs.Requests.{reply_to}
 use Rattle.gw_owes.specs.Row.{Known, Row, owing, owing_nothing, owing_where}
 use Rattle.gw_owes.specs.Rows.{row_of, asked_row}
-use Rattle.gw_owes.specs.Steps.{StepResult, Begins, step_result}
+use Rattle.gw_owes.specs.Steps.{StepResult, Begins, is_beginning, step_result}
 use Rattle.gw_owes.specs.Terminals.{terminal_at, of_terminal, unlinks, reply_calls_to, reply_to_lost}
-use Rattle.gw_owes.specs.PaymentLaws.{asks_for_transaction, BeginsPayment, BeginsToServe, EachBegunIsServed, EachIntentIsAsked, outcome_calls, ResolvesKey, SaysWhatIsAsked, SaysWhatIsReversed, IsReversible, BeginsReversal, BeginsTransaction, BeginsToReverse, EachBegunIsReversed, EachTransactionIsKeptFirst}
+use Rattle.gw_owes.specs.PaymentLaws.{asks_for_transaction, is_transaction_command, BeginsPayment, BeginsToServe, EachBegunIsServed, EachIntentIsAsked, outcome_calls, SendsTillOf, SaysWhatIsAsked, SaysWhatIsReversed, IsReversible, BeginsReversal, BeginsTransaction, BeginsToReverse, EachBegunIsReversed, EachTransactionIsKeptFirst}
 use Rattle.gw_owes.proofs.HandlingLemmas.{by-where, each-terminal, each-linked}
 use Rattle.gw_owes.proofs.PaymentLemmas.{each-served, passes-steps, BeginsAt}
 use Rattle.gw_owes.proofs.SetLemmas.{new-is-there, same-some}
 use Rattle.std.proofs.lemmas.Bool.{not-false}
 use Rattle.sale_values.specs.declared.request.ReversalAsk.{ReversalAsk}
+use Rattle.zvt_msg.specs.declared.command.Command.{Command}
 use Rattle.zvt_msg.specs.declared.command.Command.TheVariants as commands
 use Rattle.gw_ledger.specs.declared.entry.Entry.{Entry as TheEntry}
 use Rattle.xlate.specs.Ask.{ask, receipt_in}
+use Rattle.xlate.specs.Display.{customer_output, display_lines, show, show_lines}
 use Rattle.gw_owes.specs.Reversals.{original_of, amount_in, reversal_intent}
 use Rattle.gw_owes.proofs.PaymentLawLemmas.{IsPlainOrEnds, reply-asks, reply-keeps, handle-resolves, apart, none-more}
 use Rattle.gw_owes.proofs.ReversalLemmas.{HasOriginal, names-original}
@@ -85,28 +91,38 @@ not-intent outcome (Intent intent) more others kept is = cc
 not-intent outcome (Outcome other) more others kept is = cc
 not-intent outcome (Record.Settled settled) more others kept is = cc
 
+settled-no-intent : (settled : TheSettled) (the_record : Record) (more others : List Record) → Record.Settled settled ∷ others ≡ the_record ∷ more → is_intent the_record ≡ true → ⊥
+settled-no-intent settled (Intent intent) more others kept is = cc
+settled-no-intent settled (Outcome other) more others kept is = cc
+settled-no-intent settled (Record.Settled other) more others kept is = cc
+
 -- an Outcome is kept, and then its reply is sent
-record KeepsOutcome (known : Known) (calls : List OwedCall) : Type 0 where
-  pub terminal : Terminal
-  pub outcome : TheOutcome
-  pub calls_are : calls ≡ outcome_calls known terminal outcome
-
-either-keeps : (known : Known) (number : ℕ) (apdu : ApduValue) (calls : List OwedCall) → ResolvesKey known number apdu calls → KeepsOutcome known calls
-either-keeps known number apdu calls (inl ends) = record { terminal = ends.terminal; outcome = ends.outcome; calls_are = ends.calls_are }
-either-keeps known number apdu calls (inr reports) = record { terminal = reports.terminal; outcome = outcome_reported reports.entry reports.report known.moment; calls_are = reports.calls_are }
-
-keeping-begins : (known : Known) (row : Row) → KeepsOutcome known row.calls → BeginsNone row
-keeping-begins known row kept_with = record {
-  asks = ap asks_for_transaction kept_with.calls_are ∙ reply-asks kept_with.terminal.asker _;
-  keeps = λ the_record more kept intent. not-intent kept_with.outcome the_record more _ (sym (ap records_kept kept_with.calls_are) ∙ kept) intent;
+outcome-begins : (known : Known) (row : Row) (terminal : Terminal) (outcome : TheOutcome) → row.calls ≡ outcome_calls known terminal outcome → BeginsNone row
+outcome-begins known row terminal outcome is = record {
+  asks = ap asks_for_transaction is ∙ reply-asks terminal.asker _;
+  keeps = λ the_record more kept intent. not-intent outcome the_record more _ (sym (ap records_kept is) ∙ kept) intent;
 }
+
+-- so a Settled is
+settled-begins : (known : Known) (row : Row) (asker : Option ℕ) (settled : TheSettled) → row.calls ≡ settle_calls known.kept asker settled → BeginsNone row
+settled-begins known row asker settled is = record {
+  asks = ap asks_for_transaction is ∙ reply-asks asker _;
+  keeps = λ the_record more kept intent. settled-no-intent settled the_record more _ (sym (ap records_kept is) ∙ kept) intent;
+}
+
+sends-begins : (known : Known) (number : ℕ) (apdu : ApduValue) (row : Row) → SendsTillOf known number apdu row.calls → BeginsNone row
+sends-begins known number apdu row (inl (inl (inl ends))) = outcome-begins known row ends.terminal ends.outcome ends.calls_are
+sends-begins known number apdu row (inl (inl (inr reports))) = outcome-begins known row reports.terminal (outcome_reported reports.entry reports.report known.moment) reports.calls_are
+sends-begins known number apdu row (inl (inr day)) = settled-begins known row day.terminal.asker (settled_of hows.Acquirer day.header day.terminal.pt.currency known.moment) day.calls_are
+sends-begins known number apdu row (inr (inl replies)) = reply-begins known (Some replies.till) (Some replies.reply) row replies.calls_are
+sends-begins known number apdu row (inr (inr device)) = reply-begins known (Some device.till) (Some device.request) row device.calls_are
 
 handle-begins : (known : Known) (number : ℕ) (apdu : ApduValue) → BeginsNone (handle_row known number apdu)
 handle-begins known number apdu = by-either (handle-resolves known number apdu)
   where
     by-either : IsPlainOrEnds known number apdu (handle_row known number apdu) → BeginsNone (handle_row known number apdu)
     by-either (inl plain) = none-kept _ plain.asks plain.keeps
-    by-either (inr (ends, items)) = keeping-begins known _ (either-keeps known number apdu _ ends)
+    by-either (inr (sends, items)) = sends-begins known number apdu _ sends
 
 -- the key of a request is that of its Intent
 key-is : (sale poi : List ℕ) (service : Option (List ℕ)) (key : Key) → option_map (λ (s : List ℕ). record { sale = sale; poi = poi; service = s }) service ≡ Some key → record { sale = sale; poi = poi; service = unwrap_or service [] } ≡ key
@@ -227,13 +243,28 @@ transaction-begins known number till header (requests.Display outputs) terminal 
 transaction-begins known number till header (requests.Print qualifier) terminal last asking at = absurd (no-asking asking at.asking_is)
 transaction-begins known number till header requests.Diagnosis terminal last asking at = absurd (no-asking asking at.asking_is)
 
+-- what shows outputs asks for no payment and no reversal
+shown-asks : (outputs : List Output) (command : Command) → show outputs ≡ Some command → (is_transaction_command command || false) ≡ false
+shown-asks outputs command is = by-output (customer_output outputs) is
+  where
+    by-output : (output : Option Output) → option_map (λ (o : Output). show_lines (display_lines o.texts)) output ≡ Some command → (is_transaction_command command || false) ≡ false
+    by-output None none = absurd cc
+    by-output (Some output) some = ap (λ (c : Command). is_transaction_command c || false) (sym (same-some _ command some))
+
 -- what a terminal begins to serve or to stop: only a request that asks for something begins
 served-begins : (known : Known) (number till : ℕ) (header : Header) (request : SaleRequest)
     → BeginsNone (serve_row known number till header request) ⊎ BeginsTransaction known (Serve number till header request) (serve_row known number till header request).calls
 served-begins known number till header request =
-    each-served (λ (row : Row). BeginsNone row ⊎ BeginsTransaction known (Serve number till header request) row.calls) known number till header request (inl (nothing-begins known))
-    (λ terminal last asking at. inr (transaction-begins known number till header request terminal last asking at))
-    (λ terminal talk at may. inl (none-kept _ refl refl)) (λ terminal talk at may. inl (none-kept _ refl refl))
+    each-served (λ (row : Row). BeginsNone row ⊎ BeginsTransaction known (Serve number till header request) row.calls) known number till header request (record {
+      none = inl (nothing-begins known);
+      begins = λ terminal last asking at. inr (transaction-begins known number till header request terminal last asking at);
+      sent = λ terminal talk at may. inl (none-kept _ refl refl);
+      wished = λ terminal talk at may. inl (none-kept _ refl refl);
+      session = λ success. inl (none-kept _ refl refl);
+      settles = λ terminal at. inl (settled-begins known _ (Some till) (settled_of hows.Sale header terminal.pt.currency known.moment) refl);
+      day = λ terminal last at. inl (none-kept _ refl refl);
+      displays = λ terminal last outputs command at. inl (none-kept _ (shown-asks outputs command at.shown_is) refl);
+    })
 
 -- ---- a terminal that is ready serves what is asked
 

@@ -1,62 +1,87 @@
--- A payment or a reversal that begins, and a stop, keep what is known in order, and what a till's message begins was read and names its terminal.
-use Rattle.std.proofs.Common.{◌≡◌, ◌∙◌, ℕ, suc, ◌+◌, ◌^◌, ◌<◌, ◌*◌, ◌≤◌, max, Bool, true, false, ◌&&◌, List, [], ◌∷◌, ◌++◌, length, not, refl, sym, ap, subst, arith}
+-- What a terminal begins to serve, what is settled, and a stop keep what is known in order, and what a till's message begins was read and names its terminal.
+use Rattle.std.proofs.Common.{◌≡◌, ◌∙◌, ℕ, suc, ◌+◌, ◌^◌, ◌<◌, ◌≤◌, max, Bool, true, false, ◌&&◌, eqb, List, [], ◌∷◌, ◌++◌, length, not, refl, sym, ap, subst, arith}
 use Rattle.std.specs.Prelude.{All, IfSome, slice_get, map, Option, Some, None, option_and_then, option_map, if◌then◌else◌, bytes_eq, unwrap_or}
-use Rattle.std.proofs.lemmas.Bool.{and_parts, ltb-false, not-true, not-false}
+use Rattle.std.proofs.lemmas.Bool.{and_parts, eqb-true, eqb-false, ltb-false, not-true, not-false}
+use Rattle.std.proofs.lemmas.List.{length-map}
 use Rattle.std.proofs.lemmas.List.Elements.{All-nil, All-cons}
 use Rattle.std.proofs.lemmas.Option.{same_Some}
 use Rattle.std.proofs.lemmas.Slice.Eq.{bytes_eq-Decides}
+use Rattle.gw_base.specs.declared.condition.Condition.{Condition}
+use Rattle.gw_base.specs.declared.condition.Condition.TheVariants.{UnavailableDevice}
+use Rattle.gw_base.specs.declared.key.Key.{Key}
 use Rattle.gw_base.specs.declared.setup.Pt.{Pt}
+use Rattle.json_text.specs.Tree.{Tree}
 use Rattle.sale_values.specs.declared.header.Header.{Header}
+use Rattle.sale_values.specs.declared.names.Period.TheVariants.{SaleReconciliation, AcquirerReconciliation}
+use Rattle.sale_values.specs.declared.request.Output.{Output}
 use Rattle.sale_values.specs.declared.request.PaymentAsk.{PaymentAsk}
 use Rattle.sale_values.specs.declared.request.Reference.{Reference}
 use Rattle.sale_values.specs.declared.request.ReversalAsk.{ReversalAsk}
 use Rattle.sale_values.specs.declared.request.SaleRequest.{SaleRequest}
 use Rattle.sale_values.specs.declared.request.SaleRequest.TheVariants as requests
 use Rattle.sale_values.specs.Key.{key_of}
+use Rattle.sale_msg.specs.declared.category.Category.TheVariants as categories
+use Rattle.sale_msg.specs.declared.table.Envelope.TheVariants as envelopes
+use Rattle.sale_msg.specs.Grammar.{Asks, HasBody, parts_of}
+use Rattle.sale_reply.specs.declared.reply.Shown.{Shown}
+use Rattle.zvt_msg.specs.declared.command.Command.{Command}
+use Rattle.zvt_talk.specs.declared.phase.Phase.{Phase}
+use Rattle.zvt_talk.specs.declared.phase.Phase.TheVariants.{Asked, Begun, Ended}
 use Rattle.zvt_talk.specs.Talk.{TalkFacts}
-use Rattle.zvt_talk.specs.TalkSteps.{may_send_stop, talk_after_stop_wished}
+use Rattle.zvt_talk.specs.TalkSteps.{phase_after_stop_wished}
 use Rattle.jrn_record.specs.Limits.{IsIntent, IsOutcome}
+use Rattle.jrn_record.specs.declared.records.How.TheVariants as hows
+use Rattle.jrn_record.specs.declared.records.Settled.{Settled as TheSettled}
 use Rattle.jrn_record.specs.declared.records.Deal.{Deal}
 use Rattle.jrn_record.specs.declared.records.Deal.TheVariants as deals
 use Rattle.jrn_record.specs.declared.records.Intent.{Intent as TheIntent}
 use Rattle.jrn_record.specs.declared.records.Outcome.{Outcome as TheOutcome}
-use Rattle.jrn_record.specs.declared.records.Record.TheVariants.{Intent}
+use Rattle.jrn_record.specs.declared.records.Record.TheVariants.{Intent, Settled}
 use Rattle.gw_ledger.specs.declared.entry.Entry.{Entry as TheEntry}
 use Rattle.gw_ledger.specs.Accounts.{is_settled, last_number_of}
 use Rattle.gw_ledger.specs.Fold.{fits, found_of, open_entry}
 use Rattle.gw_ledger.specs.History.{same_text}
-use Rattle.gw_ledger.specs.Keys.{intent_key}
+use Rattle.gw_ledger.specs.Keys.{intent_key, is_key, settled_key}
 use Rattle.gw_ledger.specs.Laws.{HasApproval, IsEntryWithin}
 use Rattle.gw_ledger.specs.Slots.{asks_payment, is_reversed}
-use Rattle.gw_ledger.specs.Sums.{one_if, open_count_of}
+use Rattle.gw_ledger.specs.Sums.{open_count_of}
 use Rattle.gw_ledger.specs.Transaction.{is_text, text_of}
 use Rattle.xlate.specs.Ask.{HasItsOriginal, IsApproval, IsOriginalWithinLimits, ask}
-use Rattle.gw_owes.specs.declared.terminal.Standing.{Standing}
 use Rattle.gw_owes.specs.declared.terminal.Standing.TheVariants.{Ready}
 use Rattle.gw_owes.specs.declared.terminal.Terminal.{Terminal}
+use Rattle.gw_owes.specs.Awaited.{one_more_awaited}
 use Rattle.gw_owes.specs.Content.{is_same_amount}
+use Rattle.gw_owes.specs.Days.{day_served, days_served, has_key, is_key_of_day}
 use Rattle.gw_owes.specs.Diagnosis.{NamedTerminal, named_from, named_terminal}
+use Rattle.gw_owes.specs.Displays.{asked_to_show}
 use Rattle.gw_owes.specs.Items.{RoundItem, Serve}
-use Rattle.gw_owes.specs.KeptReplies.{found_for}
+use Rattle.gw_owes.specs.KeptReplies.{found_for, own_key}
 use Rattle.gw_owes.specs.Payments.{Asking, asked_for, beginning_row, payment_asking, payment_intent, reversal_asking, serve_row}
 use Rattle.gw_owes.specs.ReadAs.{ReadAs, Request, Silent, NoMessage, NoJson}
-use Rattle.gw_owes.specs.RecordLaws.{AreOfSetup, AreRecordsOf, HasNoneOpen, IsInOrder, IsReadFromTill, IsReadItem, IsReadRequest, IsTalkRead, IsTerminalInOrder, commands_left, poi_asked, stops_left}
+use Rattle.gw_owes.specs.Reconciliations.{asked_for_day, day_command, reply_to_settled, settled_of}
+use Rattle.gw_owes.specs.RecordLaws.{AreOfSetup, AreRecordsOf, AreResultsWithinLimits, HasNoneOpen, HasReadStatuses, IsInOrder, IsReadFromTill, IsReadItem, IsReadRequest, IsTalkRead, IsTerminalInOrder, poi_asked}
+use Rattle.gw_owes.specs.Replies.{is_response_required, output_refused, refused_results}
 use Rattle.gw_owes.specs.Requests.{begun_by}
 use Rattle.gw_owes.specs.Reversals.{amount_in, is_irreversible, is_whole_of, may_be_reversed, original_of, reversal_intent}
 use Rattle.gw_owes.specs.Row.{Known, Row}
 use Rattle.gw_owes.specs.Serving.{staying, stops}
 use Rattle.gw_owes.specs.Steps.{StepResult, KeptReply, Fails, Begins, items_of_result}
 use Rattle.gw_owes.specs.Stops.{serves_key, stop_items_at, wishing}
-use Rattle.gw_owes.specs.Terminals.{terminal_at}
+use Rattle.gw_owes.specs.Terminals.{reply_calls_to, terminal_at}
 use Rattle.gw_owes.specs.TerminalLaws.{owes_cut}
-use Rattle.gw_owes.proofs.FewLemmas.{command-begins, few-more, wished-left, wished-read}
+use Rattle.gw_owes.proofs.DayLemmas.{days-no-more, days-one-more}
 use Rattle.gw_owes.proofs.HeardLemmas.{of-both}
-use Rattle.gw_owes.proofs.KeepingLemmas.{RowKeeps, becomes-keeps, no-calls, nothing-keeps, record-keeps, setting-there}
-use Rattle.gw_owes.proofs.LimitLemmas.{IsHeaderWithin, IsPaymentWithin, intent-within, payment-within, reversal-intent-within, reversal-within}
-use Rattle.gw_owes.proofs.PaymentLemmas.{BeginsAt, PassesSteps, StopsAt, each-served, passes-steps}
-use Rattle.gw_owes.proofs.RecordLemmas.{LedgerLaws, entry-of-open, entry-parts, intent-number, intent-opens, intent-within as intent-inside, open_entry_of, same-text-is}
+use Rattle.gw_owes.proofs.KeepingLemmas.{LeavesDay, RowKeeps, apart-pois, becomes-keeps, begins-with, command-read, in-order-keeps, no-calls, nothing-keeps, other-leaves-day, owing-keeps, record-keeps, replies-keep-nothing, setting-there}
+use Rattle.gw_owes.proofs.LimitLemmas.{IsHeaderWithin, IsPaymentWithin, intent-within, own-key-is, payment-within, reconciliation-within, reversal-intent-within, reversal-within, settled-within}
+use Rattle.gw_owes.proofs.PaymentLemmas.{BeginsAt, BeginsDayAt, PassesSteps, SettlesAt, ShowsAt, StopsAt, day_row, each-served, passes-steps, settled_row, shown_row}
+use Rattle.gw_owes.proofs.ReadLimitLemmas.{all-refused-within, few-outputs, header-read}
+use Rattle.gw_owes.proofs.RecordLemmas.{LedgerLaws, apart-keys-turned, entry-of-open, entry-parts, intent-number, intent-opens, intent-within as intent-inside, open_entry_of, same-text-is, settled-leaves}
 
 -- ---- what is asked of a terminal that is ready
+
+-- two slots are free beside those of what is still to come
+abbrev pub HasRoomToBegin : Known → Type 0
+HasRoomToBegin known = length known.kept + (open_count_of known.kept + (days_served known.core.terminals + 2)) ≤ known.setup.slots
 
 -- the Intent of what this terminal is asked for may come next
 pub record IsAskedAnew (known : Known) (header : Header) (terminal : Terminal) (last : ℕ) (asking : Asking) : Type 0 where
@@ -69,7 +94,7 @@ pub record IsAskedAnew (known : Known) (header : Header) (terminal : Terminal) (
   -- it lies within its limits, fits the records, and leaves room for its Outcome
   pub within : IsIntent asking.intent
   pub fitting : fits known.kept (Intent asking.intent) ≡ true
-  pub room : length known.kept + (open_count_of known.kept + 2) ≤ known.setup.slots
+  pub room : HasRoomToBegin known
   -- a reversal has its original, within its limits
   pub its_original : HasItsOriginal asking.intent.what asking.intent.original asking.original
   pub original_within : IsOriginalWithinLimits asking.original
@@ -87,23 +112,24 @@ whole-approved : (amount : Option ℕ) (result : Option TheOutcome) → is_whole
 whole-approved amount None whole = absurd cc
 whole-approved amount (Some outcome) whole = let parts = and_parts outcome.approved (is_same_amount amount outcome.amount) whole in record { has = (parts.0, refl); is = parts.0 }
 
+-- the key of a request is unknown
+key-unknown : (known : Known) (header : Header) → IsHeaderWithin header → found_for known.kept header ≡ None → found_of known.kept (record { sale = header.sale; poi = header.poi; service = unwrap_or header.service [] }) ≡ None
+key-unknown known header heading unknown =
+    ap (λ (service : Option (List ℕ)). found_of known.kept (record { sale = header.sale; poi = header.poi; service = unwrap_or service [] })) heading.service_is
+    ∙ sym (ap (λ (service : Option (List ℕ)). option_and_then (found_of known.kept) (option_map (λ (s : List ℕ). record { sale = header.sale; poi = header.poi; service = s }) service)) heading.service_is)
+    ∙ unknown
+
 -- what is known as a request begins that was read and passes the steps
 module _ (laws : LedgerLaws) (known : Known) (order : IsInOrder known) (header : Header) (terminal : Terminal) (last : ℕ) (heading : IsHeaderWithin header) (names : terminal.pt.poi ≡ header.poi)
-    (unknown : found_for known.kept header ≡ None) (room : length known.kept + (open_count_of known.kept + 2) ≤ known.setup.slots) (has : HasNoneOpen known.kept header.poi last) where
-  key-unknown : found_of known.kept (record { sale = header.sale; poi = header.poi; service = unwrap_or header.service [] }) ≡ None
-  key-unknown =
-      ap (λ (service : Option (List ℕ)). found_of known.kept (record { sale = header.sale; poi = header.poi; service = unwrap_or service [] })) heading.service_is
-      ∙ sym (ap (λ (service : Option (List ℕ)). option_and_then (found_of known.kept) (option_map (λ (s : List ℕ). record { sale = header.sale; poi = header.poi; service = s }) service)) heading.service_is)
-      ∙ unknown
-
+    (unknown : found_for known.kept header ≡ None) (room : HasRoomToBegin known) (has : HasNoneOpen known.kept header.poi last) where
   payment-anew : (payment : PaymentAsk) → IsPaymentWithin header payment → IsAskedAnew known header terminal last (payment_asking known header payment terminal last)
   payment-anew payment asks = record {
     names = names;
     poi_is = sym names;
     before_is = refl;
-    unknown = key-unknown;
+    unknown = key-unknown known header heading unknown;
     within = intent-within header payment terminal.pt.currency last known.moment asks has.within order.moment;
-    fitting = laws.payment known.kept order.folded (payment_intent header payment terminal.pt.currency last known.moment) refl key-unknown has.none_open has.not_below;
+    fitting = laws.payment known.kept order.folded (payment_intent header payment terminal.pt.currency last known.moment) refl (key-unknown known header heading unknown) has.none_open has.not_below;
     room = room;
     its_original = tt;
     original_within = tt;
@@ -126,15 +152,31 @@ module _ (laws : LedgerLaws) (known : Known) (order : IsInOrder known) (header :
         names = names;
         poi_is = sym names;
         before_is = refl;
-        unknown = key-unknown;
+        unknown = key-unknown known header heading unknown;
         within = reversal-intent-within header original last known.moment heading within approved.is small has.within order.moment;
-        fitting = laws.reversal known.kept order.folded (reversal_intent header original last known.moment) original.slot original refl key-unknown has.none_open has.not_below entry.0
+        fitting = laws.reversal known.kept order.folded (reversal_intent header original last known.moment) original.slot original refl (key-unknown known header heading unknown) has.none_open has.not_below entry.0
             (record { what = is-payment original.intent.what paid.0; poi = sym (same-text-is header.poi original.intent.poi at_poi); currency = refl; approved = approved.has })
             (not-true (is_reversed known.kept original.slot) still.0) (not-true (is_settled known.kept original.slot) still.1);
         room = room;
         its_original = (refl, approved.is);
         original_within = λ outcome is. subst (λ (result : Option TheOutcome). IfSome result IsOutcome) is within.result;
       }
+
+-- ---- a display
+
+-- the results of a Display that was read, in which no output is shown, lie within their limits
+pub refused-within : (body : Tree) (condition : Condition) (outputs : List Output) → HasBody categories.Display body → Asks body (requests.Display outputs) → IfSome (refused_results condition outputs) AreResultsWithinLimits
+refused-within body condition outputs has asks =
+    of-both (λ (results : Option (List Shown)). IfSome results AreResultsWithinLimits) (is_response_required outputs) (Some (map (output_refused condition) outputs)) None
+    (omega (arith, length-map outputs (output_refused condition), few-outputs body outputs has.members asks), all-refused-within condition (parts_of categories.Display body) outputs has.parts asks) tt
+
+-- ---- a stop that is wished
+
+-- nothing is reported with it
+wished-read : (phase : Phase) → HasReadStatuses phase → HasReadStatuses (phase_after_stop_wished phase)
+wished-read (Asked stop_wished) read = tt
+wished-read (Begun stop_sent statuses) read = read
+wished-read (Ended stop_sent) read = tt
 
 -- ---- the beginning
 
@@ -150,8 +192,8 @@ module _ (laws : LedgerLaws) (known : Known) (order : IsInOrder known) (number t
       subst (λ (p : List ℕ). HasNoneOpen known.kept p last) names (subst (AreRecordsOf known.kept terminal.pt.poi) standing (order.terminals number terminal here).records)
 
   -- and room is left
-  room-left : (request : SaleRequest) (named : Option NamedTerminal) → PassesSteps known header request named → length known.kept + (open_count_of known.kept + 2) ≤ known.setup.slots
-  room-left request named passes = ltb-false known.setup.slots (length known.kept + (open_count_of known.kept + 2)) passes.room
+  room-left : (request : SaleRequest) (named : Option NamedTerminal) → PassesSteps known header request named → HasRoomToBegin known
+  room-left request named passes = ltb-false known.setup.slots (length known.kept + (open_count_of known.kept + (days_served known.core.terminals + 2))) passes.room
 
   payment-begins-anew : (payment : PaymentAsk) (terminal : Terminal) (last : ℕ) (asking : Asking) → IsReadRequest known.setup number header (requests.Payment payment)
       → BeginsAt known number header (requests.Payment payment) terminal last asking → IsAskedAnew known header terminal last asking
@@ -209,11 +251,9 @@ module _ (laws : LedgerLaws) (known : Known) (order : IsInOrder known) (number t
       let after : last_number_of (known.kept ++ Intent intent ∷ []) intent.poi ≡ max (last_number_of known.kept intent.poi) intent.before = intent-number laws known.kept intent in
       let before : intent.before ≡ last = anew.before_is in
       let room = anew.room in
-      let begins = command-begins terminal.pt (ask intent asking.original terminal.pt) known.moment in
-      let left = begins.left in
-      let more = few-more known.kept (Intent intent) (terminal.awaited + commands_left terminal.standing terminal.talk) was.few in
-      record-keeps known order number laws terminal (asked_for known till terminal last intent asking.original) (Intent intent) _ (record { no_records = refl; no_cut = refl }) here
-      anew.within anew.fitting (omega (arith, room)) (ap Some anew.poi_is)
+      let new : Terminal = asked_for known till terminal last intent asking.original in
+      let days = days-no-more known.core.terminals number terminal new here (omega arith) in
+      record-keeps known order number laws (Intent intent) anew.within anew.fitting terminal new _ (record { no_records = refl; no_cut = refl }) here (omega (arith, room, days)) (ap Some anew.poi_is)
       (record {
         records = record {
           intent = intent;
@@ -222,51 +262,142 @@ module _ (laws : LedgerLaws) (known : Known) (order : IsInOrder known) (number t
           before = anew.before_is;
           not_below = subst (λ (p : List ℕ). last_number_of (known.kept ++ Intent intent ∷ []) p ≤ last) anew.poi_is (omega (arith, not_below, after, before));
         };
-        read = begins.read;
-        few = omega (arith, more, left);
+        read = command-read terminal.pt (ask intent asking.original terminal.pt) known.moment;
+      })
+
+  -- ---- what is settled
+
+  -- a reconciliation of the till's own is settled: whatever the terminal serves isn't finished with it
+  settles-keeps : (terminal : Terminal) (request : SaleRequest) → IsReadRequest known.setup number header request → SettlesAt known number header request terminal → RowKeeps known number (settled_row known till header terminal)
+  settles-keeps terminal request read at =
+      owing-keeps known order number laws (Settled settled) (settled-within hows.Sale header terminal.pt.currency known.moment heading order.moment)
+      (laws.settled known.kept order.folded settled (key-unknown known header heading passes.unknown)) (reply_calls_to (Some till) (reply_to_settled known.kept settled)) (replies-keep-nothing (Some till) (reply_to_settled known.kept settled))
+      (let room = room-left request named passes in omega (arith, room)) (λ other left found. (settled-leaves laws known.kept settled left.pt.poi, leaves-day other left found))
+    where
+      settled : TheSettled
+      settled = settled_of hows.Sale header terminal.pt.currency known.moment
+
+      named : Option NamedTerminal
+      named = Some (record { number = number; terminal = terminal })
+
+      read-as : IsReadRequest known.setup number header (requests.Reconciliation SaleReconciliation)
+      read-as = subst (IsReadRequest known.setup number header) at.request_is read
+
+      heading : IsHeaderWithin header
+      heading = reconciliation-within header SaleReconciliation read-as.read
+
+      passes : PassesSteps known header request named
+      passes = passes-steps known header request named at.begins_is
+
+      -- the key of the Settled
+      key_is : own_key header ≡ Some (settled_key settled)
+      key_is = own-key-is header heading ∙ ap (λ (service : Option (List ℕ)). Some (record { sale = header.sale; poi = header.poi; service = unwrap_or service [] })) (sym heading.service_is)
+
+      -- isn't that of an end of day that the terminal serves
+      own-day : LeavesDay terminal.standing (Settled settled)
+      own-day served key day its_key =
+          let no_day : has_key (settled_key settled) (day_served terminal.standing) ≡ false = sym (ap (λ (k : Option Key). is_key_of_day k named) key_is) ∙ passes.no_day in
+          apart-keys-turned (settled_key settled) key (sym (ap (is_key (settled_key settled)) its_key) ∙ sym (ap (has_key (settled_key settled)) day) ∙ no_day)
+
+      -- nor that of another
+      leaves-day : (other : ℕ) (left : Terminal) → terminal_at known other ≡ Some left → LeavesDay left.standing (Settled settled)
+      leaves-day other left found = by-number (eqb other number) refl
+        where
+          by-number : (b : Bool) → eqb other number ≡ b → LeavesDay left.standing (Settled settled)
+          by-number true same =
+              subst (λ (t : Terminal). LeavesDay t.standing (Settled settled)) (same_Some terminal left (sym at.found ∙ ap (terminal_at known) (sym (eqb-true other number same)) ∙ found)) own-day
+          by-number false apart =
+              other-leaves-day known.kept (Settled settled) left.pt.poi left.standing
+              (subst (λ (poi : List ℕ). same_text left.pt.poi poi ≡ false) (asked-names (requests.Reconciliation SaleReconciliation) terminal read-as at.found)
+              (apart-pois known number other terminal left order.of_setup (eqb-false other number apart) at.found found)) (order.terminals other left found).records
+
+  -- ---- ends of day and displays
+
+  -- an end of day is begun, whose Settled may come next
+  day-keeps : (terminal : Terminal) (last : ℕ) (request : SaleRequest) → IsReadRequest known.setup number header request → BeginsDayAt known number header request terminal last → RowKeeps known number (day_row known number till header terminal last)
+  day-keeps terminal last request read at =
+      let named : Option NamedTerminal = Some (record { number = number; terminal = terminal }) in
+      let read-as : IsReadRequest known.setup number header (requests.Reconciliation AcquirerReconciliation) = subst (IsReadRequest known.setup number header) at.request_is read in
+      let message = read-as.read.1 in
+      let is = message.read in
+      let heading : IsHeaderWithin header = reconciliation-within header AcquirerReconciliation read-as.read in
+      let passes = passes-steps known header request named at.begins_is in
+      let names = asked-names (requests.Reconciliation AcquirerReconciliation) terminal read-as at.found in
+      let room = room-left request named passes in
+      let days = days-one-more known.core.terminals number terminal (asked_for_day known till terminal last header) at.found (omega arith) in
+      begins-with known order number (asked_for_day known till terminal last header) _ (record { no_records = refl; no_cut = refl }) (omega (arith, room, days)) (record {
+        records = record {
+          rests = subst (λ (poi : List ℕ). HasNoneOpen known.kept poi last) (sym names) (ready-records terminal last at.found at.standing_is names);
+          heading = header-read envelopes.Request is.0 header is.1.request_of.header_is;
+          names = sym names;
+          period_is = refl;
+          key = record { sale = header.sale; poi = header.poi; service = heading.service };
+          key_is = own-key-is header heading;
+          unknown = sym (ap (option_and_then (found_of known.kept)) (own-key-is header heading)) ∙ passes.unknown;
+        };
+        read = command-read terminal.pt (day_command terminal.pt) known.moment;
+      })
+
+  -- a display is begun
+  display-keeps : (terminal : Terminal) (last : ℕ) (outputs : List Output) (command : Command) (request : SaleRequest) → IsReadRequest known.setup number header request → ShowsAt known number header request terminal last outputs command
+      → RowKeeps known number (shown_row known number till header terminal last outputs command)
+  display-keeps terminal last outputs command request read at =
+      let read-as : IsReadRequest known.setup number header (requests.Display outputs) = subst (IsReadRequest known.setup number header) at.request_is read in
+      let message = read-as.read.1 in
+      let is = message.read in
+      let names = asked-names (requests.Display outputs) terminal read-as at.found in
+      becomes-keeps known order number terminal (asked_to_show known till terminal last header outputs command) _ at.found (record { no_records = refl; no_cut = refl }) (omega arith) (record {
+        records = record {
+          rests = subst (λ (poi : List ℕ). HasNoneOpen known.kept poi last) (sym names) (ready-records terminal last at.found at.standing_is names);
+          heading = header-read envelopes.Request is.0 header is.1.request_of.header_is;
+          results_within = refused-within is.0 UnavailableDevice outputs is.1.members is.1.asks;
+        };
+        read = command-read terminal.pt command known.moment;
       })
 
   -- ---- a stop
 
-  -- the terminal is in order once a stop is wished, sent or not
-  stopped-in-order : (request : SaleRequest) (terminal : Terminal) (talk : TalkFacts) (sent : Bool) → StopsAt known number header request terminal talk → may_send_stop talk.phase ≡ sent
-      → IsTerminalInOrder known.kept (record (wishing terminal talk) { awaited = terminal.awaited + one_if sent })
-  stopped-in-order request terminal talk sent at may =
+  -- the terminal is in order once a stop is wished
+  stopped-in-order : (request : SaleRequest) (terminal : Terminal) (talk : TalkFacts) → StopsAt known number header request terminal talk → IsTerminalInOrder known.kept (wishing terminal talk)
+  stopped-in-order request terminal talk at =
       let was = order.terminals number terminal at.found in
-      let runs : terminal.awaited + commands_left terminal.standing (Some talk) ≤ 2 * length known.kept + 2 =
-      subst (λ (t : Option TalkFacts). terminal.awaited + commands_left terminal.standing t ≤ 2 * length known.kept + 2) at.talk_is was.few in
-      let serves : terminal.awaited + stops_left (Some talk) ≤ 2 * length known.kept + 2 =
-      subst (λ (s : Standing). terminal.awaited + commands_left s (Some talk) ≤ 2 * length known.kept + 2) at.standing_is runs in
-      let left : one_if sent + stops_left (Some (talk_after_stop_wished talk)) ≡ stops_left (Some talk) =
-      subst (λ (b : Bool). one_if b + stops_left (Some (talk_after_stop_wished talk)) ≡ stops_left (Some talk)) may (wished-left talk) in
-      record {
-        records = was.records;
-        read = wished-read talk.phase (subst IsTalkRead at.talk_is was.read);
-        few = subst (λ (s : Standing). terminal.awaited + one_if sent + commands_left s (Some (talk_after_stop_wished talk)) ≤ 2 * length known.kept + 2) (sym at.standing_is) (omega (arith, serves, left));
-      }
+      record { records = was.records; read = wished-read talk.phase (subst IsTalkRead at.talk_is was.read) }
 
-  sent-keeps : (request : SaleRequest) (terminal : Terminal) (talk : TalkFacts) → StopsAt known number header request terminal talk → may_send_stop talk.phase ≡ true → RowKeeps known number (stops known number (wishing terminal talk))
-  sent-keeps request terminal talk at may =
-      becomes-keeps known order number (record (wishing terminal talk) { awaited = terminal.awaited + 1 }) _ (record { no_records = refl; no_cut = refl }) (stopped-in-order request terminal talk true at may)
+  sent-keeps : (request : SaleRequest) (terminal : Terminal) (talk : TalkFacts) → StopsAt known number header request terminal talk → RowKeeps known number (stops known number (wishing terminal talk))
+  sent-keeps request terminal talk at =
+      let stopped = stopped-in-order request terminal talk at in
+      becomes-keeps known order number terminal (record (wishing terminal talk) { awaited = one_more_awaited terminal.awaited }) _ at.found (record { no_records = refl; no_cut = refl }) (omega arith) (record { records = stopped.records; read = stopped.read })
 
-  wished-keeps : (request : SaleRequest) (terminal : Terminal) (talk : TalkFacts) → StopsAt known number header request terminal talk → may_send_stop talk.phase ≡ false → RowKeeps known number (staying known number (wishing terminal talk))
-  wished-keeps request terminal talk at may =
-      let stopped = stopped-in-order request terminal talk false at may in
-      let few = stopped.few in
-      becomes-keeps known order number (wishing terminal talk) [] no-calls (record { records = stopped.records; read = stopped.read; few = omega (arith, few) })
+  wished-keeps : (request : SaleRequest) (terminal : Terminal) (talk : TalkFacts) → StopsAt known number header request terminal talk → RowKeeps known number (staying known number (wishing terminal talk))
+  wished-keeps request terminal talk at = becomes-keeps known order number terminal (wishing terminal talk) [] at.found no-calls (omega arith) (stopped-in-order request terminal talk at)
 
-  -- a request that begins, and one that stops
+  -- a request that begins, one that is settled, one that stops, and a Login or Logout
   pub serve-keeps : (request : SaleRequest) → IsReadRequest known.setup number header request → RowKeeps known number (serve_row known number till header request)
   serve-keeps request read =
-      each-served (RowKeeps known number) known number till header request (nothing-keeps known order number)
-      (λ terminal last asking at. begins-keeps terminal last asking at.found at.standing_is (begins-anew request terminal last asking read at))
-      (λ terminal talk at may. sent-keeps request terminal talk at may)
-      (λ terminal talk at may. wished-keeps request terminal talk at may)
+      each-served (RowKeeps known number) known number till header request (record {
+        none = nothing-keeps known order number;
+        begins = λ terminal last asking at. begins-keeps terminal last asking at.found at.standing_is (begins-anew request terminal last asking read at);
+        sent = λ terminal talk at may. sent-keeps request terminal talk at;
+        wished = λ terminal talk at may. wished-keeps request terminal talk at;
+        session = λ success. in-order-keeps known order number _ (record { no_records = refl; no_cut = refl }) order.room order.numbered order.terminals refl;
+        settles = λ terminal at. settles-keeps terminal request read at;
+        day = λ terminal last at. day-keeps terminal last request read at;
+        displays = λ terminal last outputs command at. display-keeps terminal last outputs command request read at;
+      })
 
 -- and it cuts nothing
 pub serve-never-cuts : (known : Known) (number till : ℕ) (header : Header) (request : SaleRequest) → owes_cut (serve_row known number till header request).calls ≡ false
 serve-never-cuts known number till header request =
-    each-served (λ (row : Row). owes_cut row.calls ≡ false) known number till header request refl (λ terminal last asking at. refl) (λ terminal talk at may. refl) (λ terminal talk at may. refl)
+    each-served (λ (row : Row). owes_cut row.calls ≡ false) known number till header request (record {
+      none = refl;
+      begins = λ terminal last asking at. refl;
+      sent = λ terminal talk at may. refl;
+      wished = λ terminal talk at may. refl;
+      session = λ success. refl;
+      settles = λ terminal at. (replies-keep-nothing (Some till) (reply_to_settled known.kept (settled_of hows.Sale header terminal.pt.currency known.moment))).no_cut;
+      day = λ terminal last at. refl;
+      displays = λ terminal last outputs command at. refl;
+    })
 
 -- ---- what a till's message begins
 
@@ -324,14 +455,14 @@ module _ (known : Known) (of_setup : AreOfSetup known.core known.setup) (till : 
       (serve-read (requests.Abort reference) named is read) (All-nil (IsReadItem known.setup))
 
   request-read : (request : SaleRequest) → IsReadFromTill (Request header request) → All (IsReadItem known.setup) (begun_by known till (Request header request))
-  request-read requests.Login read = All-nil (IsReadItem known.setup)
-  request-read requests.Logout read = All-nil (IsReadItem known.setup)
+  request-read requests.Login read = named-read requests.Login (named_terminal known.core header.poi) _ refl read
+  request-read requests.Logout read = named-read requests.Logout (named_terminal known.core header.poi) _ refl read
   request-read (requests.Payment payment) read = named-read (requests.Payment payment) (named_terminal known.core header.poi) _ refl read
   request-read (requests.Reversal reversal) read = named-read (requests.Reversal reversal) (named_terminal known.core header.poi) _ refl read
   request-read (requests.Abort reference) read = stop-read reference (named_terminal known.core (key_of header reference).poi) refl read
   request-read (requests.Status reference) read = All-nil (IsReadItem known.setup)
   request-read (requests.Reconciliation period) read = named-read (requests.Reconciliation period) (named_terminal known.core header.poi) _ refl read
-  request-read (requests.Display outputs) read = All-nil (IsReadItem known.setup)
+  request-read (requests.Display outputs) read = named-read (requests.Display outputs) (named_terminal known.core header.poi) _ refl read
   request-read (requests.Print qualifier) read = All-nil (IsReadItem known.setup)
   request-read requests.Diagnosis read = All-nil (IsReadItem known.setup)
 

@@ -1,12 +1,16 @@
 -- Each terminal has the dialogue of its standing.
-use Rattle.std.proofs.Common.{◌≡◌, ◌≢◌, ℕ, zero, suc, ◌+◌, List, [], ◌∷◌, refl, sym, ◌∙◌, ap, subst, arith, Bool, true, false, cond, eqb}
-use Rattle.std.specs.Prelude.{map, set, nat_lt, slice_get, pos, ◌+ℤ◌, nat_le, Option, Some, None, if◌then◌else◌}
+use Rattle.std.proofs.Common.{◌≡◌, ◌≢◌, ℕ, zero, suc, List, [], ◌∷◌, refl, sym, ◌∙◌, ap, subst, arith, Bool, true, false, cond, eqb}
+use Rattle.std.specs.Prelude.{length, map, set, nat_lt, slice_get, pos, ◌+ℤ◌, nat_le, Option, Some, None, if◌then◌else◌}
 use Rattle.std.specs.Option.{option_map}
+use Rattle.gw_base.specs.declared.condition.Condition.TheVariants.{UnavailableDevice}
 use Rattle.gw_base.specs.declared.figures.Figures.{Figures}
 use Rattle.gw_base.specs.declared.setup.Pt.{Pt}
 use Rattle.sale_values.specs.declared.header.Header.{Header}
+use Rattle.sale_values.specs.declared.request.Output.{Output}
 use Rattle.sale_values.specs.declared.request.SaleRequest.{SaleRequest}
+use Rattle.sale_reply.specs.declared.reply.Shown.{Shown}
 use Rattle.zvt_bmp.specs.declared.fields.Fields.{Fields}
+use Rattle.zvt_msg.specs.declared.command.Command.{Command}
 use Rattle.zvt_msg.specs.Message.{MessageValue, Ack, Nack, Intermediate, Line, Block, Status, Completion, Abort, Other}
 use Rattle.zvt_talk.specs.declared.dialogue_kind.DialogueKind.{DialogueKind}
 use Rattle.zvt_talk.specs.declared.dialogue_kind.DialogueKind.TheVariants.{Registration, Enquiry, Payment, Reversal, EndOfDay as EndOfDayDialogue, Display as DisplayDialogue}
@@ -24,11 +28,14 @@ use Rattle.jrn_record.specs.declared.records.Deal.TheVariants as deals
 use Rattle.jrn_record.specs.declared.records.Intent.{Intent as TheIntent}
 use Rattle.gw_ledger.specs.declared.entry.Entry.{Entry as TheEntry}
 use Rattle.xlate.specs.Ask.{ask_for}
+use Rattle.xlate.specs.Display.{customer_output, display_lines, show_lines, show}
+use Rattle.gw_owes.specs.Awaited.{one_more_awaited, one_less_awaited}
 use Rattle.gw_owes.specs.declared.terminal.Service.{Service}
 use Rattle.gw_owes.specs.declared.terminal.Service.TheVariants.{Transaction, EndOfDay, Display}
 use Rattle.gw_owes.specs.declared.terminal.Standing.{Standing}
 use Rattle.gw_owes.specs.declared.terminal.Standing.TheVariants.{Unlinked, Registering, Enquiring, Ready, Serving, Aside}
 use Rattle.gw_owes.specs.declared.terminal.Terminal.{Terminal}
+use Rattle.gw_owes.specs.AbortLaws.{IsStoppable}
 use Rattle.gw_owes.specs.Core.{Core, new_terminal}
 use Rattle.gw_owes.specs.Items.{Crowded, Message, Asked as AskedItem, Unframed, Gone, Greet, Handle, Serve, NextWaiting, Oversized, LinkLost, Late, Overdue, Due}
 use Rattle.gw_owes.specs.Row.{Known, Row}
@@ -41,8 +48,12 @@ use Rattle.gw_owes.specs.Greeting.{greet_row, oversized_row}
 use Rattle.gw_owes.specs.Stops.{wishing}
 use Rattle.gw_owes.specs.Deadlines.{late_row, due_row}
 use Rattle.gw_owes.specs.TerminalLaws.{owes_cut}
-use Rattle.gw_owes.specs.Dialogues.{AwaitedIn, RunsDialogue, runs_transaction, AwaitedServing, RunsTransaction, IsDialogueOfService, IsDialogueOf, HasItsDialogue, AllHaveDialogues, OthersHaveDialogues, NewCoreHasDialogues, EachRowKeepsDialogues, EachLinkGivesDialogues}
+use Rattle.gw_owes.specs.Displays.{serving_display}
+use Rattle.gw_owes.specs.Reconciliations.{serving_day}
+use Rattle.gw_owes.specs.Replies.{refused_results}
+use Rattle.gw_owes.specs.Dialogues.{AwaitedIn, RunsDialogue, runs_transaction, AwaitedServing, AwaitedShowing, IsKindOfService, AwaitedOfService, RunsService, IsDialogueOf, HasItsDialogue, AllHaveDialogues, OthersHaveDialogues, NewCoreHasDialogues, EachRowKeepsDialogues, EachLinkGivesDialogues}
 use Rattle.gw_owes.proofs.HandlingLemmas.{each-handled}
+use Rattle.gw_owes.proofs.CountLemmas.{more-some}
 use Rattle.gw_owes.proofs.PaymentLemmas.{StopsAt, each-served}
 use Rattle.gw_owes.proofs.TerminalLemmas.{greeting-changes-nothing, late-same, due-same, oversized-same}
 
@@ -90,7 +101,7 @@ service-next phase awaited statuses (Some status) e = service-result-next phase 
 
 registration-next : (none : ℕ) (phase : Phase) (message : MessageValue) (awaited : ℕ) → AwaitedIn phase awaited → is_taken message ≡ true
     → RegistrationNext (next_phase Registration phase (taken_as awaited message)) (awaited_after message awaited) (meaning_in_phase Registration none phase (taken_as awaited message))
-registration-next none (Asked stop_wished) Ack awaited e taken = (e.0, omega arith)
+registration-next none (Asked stop_wished) Ack awaited e taken = (e.0, ap one_less_awaited e.1)
 registration-next none (Asked stop_wished) (Nack error_code) awaited e taken =
     let handed : ℕ = if nat_le 2 awaited then 0 else error_code in
     either (RegistrationNext (Ended false) (awaited_after (Nack error_code) awaited)) (eqb handed 0) heard.Unclear (heard.Declined handed None) tt tt
@@ -101,8 +112,8 @@ registration-next none (Asked stop_wished) (Status fields) awaited e taken = tt
 registration-next none (Asked stop_wished) Completion awaited e taken = tt
 registration-next none (Asked stop_wished) (Abort result_code) awaited e taken = tt
 registration-next none (Asked stop_wished) Other awaited e taken = absurd cc
-registration-next none (Begun stop_sent statuses) Ack awaited e taken = (e.0, omega arith)
-registration-next none (Begun stop_sent statuses) (Nack error_code) awaited e taken = (e.0, omega arith)
+registration-next none (Begun stop_sent statuses) Ack awaited e taken = (e.0, ap one_less_awaited e.1)
+registration-next none (Begun stop_sent statuses) (Nack error_code) awaited e taken = (e.0, ap one_less_awaited e.1)
 registration-next none (Begun stop_sent statuses) (Intermediate intermediate_status) awaited e taken = e
 registration-next none (Begun stop_sent statuses) (Line text) awaited e taken = e
 registration-next none (Begun stop_sent statuses) (Block objects) awaited e taken = e
@@ -133,7 +144,7 @@ enquiry-aborted-next phase awaited none (Some status) result_code = tt
 
 enquiry-next : (none : ℕ) (phase : Phase) (message : MessageValue) (awaited : ℕ) → AwaitedIn phase awaited → is_taken message ≡ true
     → EnquiryNext (next_phase Enquiry phase (taken_as awaited message)) (awaited_after message awaited) (meaning_in_phase Enquiry none phase (taken_as awaited message))
-enquiry-next none (Asked stop_wished) Ack awaited e taken = (e.0, omega arith)
+enquiry-next none (Asked stop_wished) Ack awaited e taken = (e.0, ap one_less_awaited e.1)
 enquiry-next none (Asked stop_wished) (Nack error_code) awaited e taken =
     let handed : ℕ = if nat_le 2 awaited then 0 else error_code in
     either (EnquiryNext (Ended false) (awaited_after (Nack error_code) awaited)) (eqb handed 0) heard.Unclear (heard.Declined handed None) tt tt
@@ -144,8 +155,8 @@ enquiry-next none (Asked stop_wished) (Status fields) awaited e taken = tt
 enquiry-next none (Asked stop_wished) Completion awaited e taken = tt
 enquiry-next none (Asked stop_wished) (Abort result_code) awaited e taken = tt
 enquiry-next none (Asked stop_wished) Other awaited e taken = absurd cc
-enquiry-next none (Begun stop_sent statuses) Ack awaited e taken = (e.0, omega arith)
-enquiry-next none (Begun stop_sent statuses) (Nack error_code) awaited e taken = (e.0, omega arith)
+enquiry-next none (Begun stop_sent statuses) Ack awaited e taken = (e.0, ap one_less_awaited e.1)
+enquiry-next none (Begun stop_sent statuses) (Nack error_code) awaited e taken = (e.0, ap one_less_awaited e.1)
 enquiry-next none (Begun stop_sent statuses) (Intermediate intermediate_status) awaited e taken = e
 enquiry-next none (Begun stop_sent statuses) (Line text) awaited e taken = e
 enquiry-next none (Begun stop_sent statuses) (Block objects) awaited e taken = e
@@ -255,6 +266,81 @@ transaction-next Reversal none phase message awaited transaction e taken =
 transaction-next EndOfDayDialogue none phase message awaited transaction e taken = absurd cc
 transaction-next DisplayDialogue none phase message awaited transaction e taken = absurd cc
 
+-- the same of an end of day, which is done or declined, and in which a stop may be wished
+abbrev DayNext : Phase → ℕ → Heard → Type 0
+DayNext phase awaited (heard.Begun stop) = AwaitedServing phase awaited
+DayNext phase awaited (heard.Note intermediate_status) = AwaitedServing phase awaited
+DayNext phase awaited heard.Line = AwaitedServing phase awaited
+DayNext phase awaited heard.Block = AwaitedServing phase awaited
+DayNext phase awaited heard.Seen = AwaitedServing phase awaited
+DayNext phase awaited (heard.Approved figures) = ⊥
+DayNext phase awaited heard.Done = Unit {0}
+DayNext phase awaited (heard.Told reported approved result_code) = ⊥
+DayNext phase awaited (heard.Declined result_code reported) = Unit {0}
+DayNext phase awaited heard.Unclear = Unit {0}
+DayNext phase awaited heard.Stray = AwaitedServing phase awaited
+
+day-result-next : (phase : Phase) (awaited : ℕ) (statuses : Statuses) (result : Option ℕ) → DayNext phase awaited (service_result statuses result)
+day-result-next phase awaited statuses None = tt
+day-result-next phase awaited statuses (Some result_code) = either (DayNext phase awaited) (eqb result_code 0) heard.Done (declined statuses result_code) tt tt
+
+day-completed-next : (phase : Phase) (awaited : ℕ) (statuses : Statuses) (last : Option Fields) → DayNext phase awaited (service_completed statuses last)
+day-completed-next phase awaited statuses None = tt
+day-completed-next phase awaited statuses (Some status) = day-result-next phase awaited statuses status.result
+
+day-next : (none : ℕ) (phase : Phase) (message : MessageValue) (awaited : ℕ) → AwaitedServing phase awaited → is_taken message ≡ true
+    → DayNext (next_phase EndOfDayDialogue phase (taken_as awaited message)) (awaited_after message awaited) (meaning_in_phase EndOfDayDialogue none phase (taken_as awaited message))
+day-next none (Asked stop_wished) Ack awaited e taken = tt
+day-next none (Asked stop_wished) (Nack error_code) awaited e taken =
+    let handed : ℕ = if nat_le 2 awaited then 0 else error_code in
+    either (DayNext (Ended false) (awaited_after (Nack error_code) awaited)) (eqb handed 0) heard.Unclear (heard.Declined handed None) tt tt
+day-next none (Asked stop_wished) (Intermediate intermediate_status) awaited e taken = tt
+day-next none (Asked stop_wished) (Line text) awaited e taken = tt
+day-next none (Asked stop_wished) (Block objects) awaited e taken = tt
+day-next none (Asked stop_wished) (Status fields) awaited e taken = tt
+day-next none (Asked stop_wished) Completion awaited e taken = tt
+day-next none (Asked stop_wished) (Abort result_code) awaited e taken = tt
+day-next none (Asked stop_wished) Other awaited e taken = absurd cc
+day-next none (Begun stop_sent statuses) Ack awaited e taken = tt
+day-next none (Begun stop_sent statuses) (Nack error_code) awaited e taken = tt
+day-next none (Begun stop_sent statuses) (Intermediate intermediate_status) awaited e taken = tt
+day-next none (Begun stop_sent statuses) (Line text) awaited e taken = tt
+day-next none (Begun stop_sent statuses) (Block objects) awaited e taken = tt
+day-next none (Begun stop_sent statuses) (Status fields) awaited e taken = tt
+day-next none (Begun stop_sent statuses) Completion awaited e taken = day-completed-next (Ended stop_sent) awaited statuses statuses.last
+day-next none (Begun stop_sent statuses) (Abort None) awaited e taken = tt
+day-next none (Begun stop_sent statuses) (Abort (Some result_code)) awaited e taken = either (DayNext (Ended stop_sent) awaited) (eqb result_code 0) heard.Unclear (declined statuses result_code) tt tt
+day-next none (Begun stop_sent statuses) Other awaited e taken = absurd cc
+day-next none (Ended stop_sent) message awaited e taken = absurd e
+
+-- a message that a display takes ends it
+abbrev DisplayNext : Heard → Type 0
+DisplayNext (heard.Begun stop) = ⊥
+DisplayNext (heard.Note intermediate_status) = ⊥
+DisplayNext heard.Line = ⊥
+DisplayNext heard.Block = ⊥
+DisplayNext heard.Seen = ⊥
+DisplayNext (heard.Approved figures) = ⊥
+DisplayNext heard.Done = Unit {0}
+DisplayNext (heard.Told reported approved result_code) = ⊥
+DisplayNext (heard.Declined result_code reported) = Unit {0}
+DisplayNext heard.Unclear = Unit {0}
+DisplayNext heard.Stray = ⊥
+
+display-next : (none : ℕ) (phase : Phase) (message : MessageValue) (awaited : ℕ) → AwaitedShowing phase awaited → is_taken message ≡ true → DisplayNext (meaning_in_phase DisplayDialogue none phase (taken_as awaited message))
+display-next none (Asked stop_wished) Ack awaited e taken = tt
+display-next none (Asked stop_wished) (Nack error_code) awaited e taken =
+    let handed : ℕ = if nat_le 2 awaited then 0 else error_code in either DisplayNext (eqb handed 0) heard.Unclear (heard.Declined handed None) tt tt
+display-next none (Asked stop_wished) (Intermediate intermediate_status) awaited e taken = tt
+display-next none (Asked stop_wished) (Line text) awaited e taken = tt
+display-next none (Asked stop_wished) (Block objects) awaited e taken = tt
+display-next none (Asked stop_wished) (Status fields) awaited e taken = tt
+display-next none (Asked stop_wished) Completion awaited e taken = tt
+display-next none (Asked stop_wished) (Abort result_code) awaited e taken = tt
+display-next none (Asked stop_wished) Other awaited e taken = absurd cc
+display-next none (Begun stop_sent statuses) message awaited e taken = absurd e
+display-next none (Ended stop_sent) message awaited e taken = absurd e
+
 some-same : {A : Type 0} (one other : A) → Some one ≡ Some other → one ≡ other
 some-same one other same = cc
 
@@ -296,54 +382,82 @@ means-in dialogue_kind terminal message runs =
     ap (λ (talk : Option TalkFacts). meaning_for talk (taken_as terminal.awaited message)) runs.talk_is
     ∙ ap (λ (k : DialogueKind). meaning_in_phase k runs.facts.none runs.facts.phase (taken_as terminal.awaited message)) runs.kind_is
 
--- ---- the dialogue of a payment or a reversal
+-- ---- the dialogue of what is served
 
 -- it goes on after a message
-serves-on : (terminal : Terminal) (message : MessageValue) (moment : ℕ) (runs : RunsTransaction terminal.talk terminal.awaited) (awaited : ℕ) → is_taken message ≡ true
-    → AwaitedServing (next_phase (RunsTransaction.facts runs).dialogue_kind (RunsTransaction.facts runs).phase (taken_as terminal.awaited message)) awaited
-    → RunsTransaction (taking terminal message moment).talk awaited
-serves-on terminal message moment runs awaited taken awaits =
+serves-on : (service : Service) (terminal : Terminal) (message : MessageValue) (moment : ℕ) (runs : RunsService service terminal.talk terminal.awaited) (awaited : ℕ) → is_taken message ≡ true
+    → AwaitedOfService service (next_phase (RunsService.facts runs).dialogue_kind (RunsService.facts runs).phase (taken_as terminal.awaited message)) awaited
+    → RunsService service (taking terminal message moment).talk awaited
+serves-on service terminal message moment runs awaited taken awaits =
     let next = next-is runs.facts (taken_as terminal.awaited message) moment (still-taken terminal.awaited message taken) in
     record {
       facts = next.0;
       talk_is = ap (λ (talk : Option TalkFacts). option_map (λ t. next_talk t (taken_as terminal.awaited message) (pos moment)) talk) runs.talk_is ∙ ap (λ (t : TalkFacts). Some t) next.1;
-      kind_is = ap runs_transaction next.2 ∙ runs.kind_is;
-      awaited_is = subst (λ (phase : Phase). AwaitedServing phase awaited) (sym next.3) awaits;
+      kind_is = subst (IsKindOfService service) (sym next.2) runs.kind_is;
+      awaited_is = subst (λ (phase : Phase). AwaitedOfService service phase awaited) (sym next.3) awaits;
     }
 
 -- one more is awaited
-one-more : (phase : Phase) (awaited : ℕ) → AwaitedServing phase awaited → AwaitedServing phase (awaited + 1)
-one-more (Asked stop_wished) awaited e = omega arith
-one-more (Begun stop_sent statuses) awaited e = tt
-one-more (Ended stop_sent) awaited e = absurd e
+serves-more : (phase : Phase) (awaited : ℕ) → AwaitedServing phase awaited → AwaitedServing phase (one_more_awaited awaited)
+serves-more (Asked stop_wished) awaited e = more-some awaited
+serves-more (Begun stop_sent statuses) awaited e = tt
+serves-more (Ended stop_sent) awaited e = absurd e
+
+-- the same of what may be stopped
+stoppable-more : (service : Service) (phase : Phase) (awaited : ℕ) → IsStoppable service → AwaitedOfService service phase awaited → AwaitedOfService service phase (one_more_awaited awaited)
+stoppable-more (Transaction slot) phase awaited stoppable e = serves-more phase awaited e
+stoppable-more (EndOfDay header period) phase awaited stoppable e = serves-more phase awaited e
+stoppable-more (Display header results) phase awaited stoppable e = absurd stoppable
 
 -- a stop is wished
-wished-on : (phase : Phase) (awaited : ℕ) → AwaitedServing phase awaited → AwaitedServing (phase_after_stop_wished phase) awaited
-wished-on (Asked stop_wished) awaited e = e
-wished-on (Begun stop_sent statuses) awaited e = tt
-wished-on (Ended stop_sent) awaited e = absurd e
+serves-wished : (phase : Phase) (awaited : ℕ) → AwaitedServing phase awaited → AwaitedServing (phase_after_stop_wished phase) awaited
+serves-wished (Asked stop_wished) awaited e = e
+serves-wished (Begun stop_sent statuses) awaited e = tt
+serves-wished (Ended stop_sent) awaited e = absurd e
+
+stoppable-wished : (service : Service) (phase : Phase) (awaited : ℕ) → IsStoppable service → AwaitedOfService service phase awaited → AwaitedOfService service (phase_after_stop_wished phase) awaited
+stoppable-wished (Transaction slot) phase awaited stoppable e = serves-wished phase awaited e
+stoppable-wished (EndOfDay header period) phase awaited stoppable e = serves-wished phase awaited e
+stoppable-wished (Display header results) phase awaited stoppable e = absurd stoppable
 
 -- it goes on with the wish, with whatever may be awaited then
-wish-runs : (terminal : Terminal) (talk : TalkFacts) (awaited : ℕ) → RunsTransaction terminal.talk terminal.awaited → terminal.talk ≡ Some talk
-    → (AwaitedServing talk.phase terminal.awaited → AwaitedServing talk.phase awaited) → RunsTransaction (Some (talk_after_stop_wished talk)) awaited
-wish-runs terminal talk awaited runs is more =
+wish-runs : (service : Service) (terminal : Terminal) (talk : TalkFacts) (awaited : ℕ) → IsStoppable service → RunsService service terminal.talk terminal.awaited → terminal.talk ≡ Some talk
+    → (AwaitedOfService service talk.phase terminal.awaited → AwaitedOfService service talk.phase awaited) → RunsService service (Some (talk_after_stop_wished talk)) awaited
+wish-runs service terminal talk awaited stoppable runs is more =
     let same : runs.facts ≡ talk = some-same runs.facts talk (sym runs.talk_is ∙ is) in
     record {
       facts = talk_after_stop_wished talk;
       talk_is = refl;
-      kind_is = ap (λ (t : TalkFacts). runs_transaction t.dialogue_kind) (sym same) ∙ runs.kind_is;
-      awaited_is = wished-on talk.phase awaited (more (subst (λ (t : TalkFacts). AwaitedServing t.phase terminal.awaited) same runs.awaited_is));
+      kind_is = subst (λ (t : TalkFacts). IsKindOfService service t.dialogue_kind) same runs.kind_is;
+      awaited_is = stoppable-wished service talk.phase awaited stoppable (more (subst (λ (t : TalkFacts). AwaitedOfService service t.phase terminal.awaited) same runs.awaited_is));
     }
 
 -- the command for an Intent begins one
-asked-runs : (what : Deal) (intent : TheIntent) (original : Option TheEntry) (password : List ℕ) (pt : Pt) (moment awaited : ℕ) → RunsTransaction (talk_of_command pt (ask_for what intent original password) moment) (awaited + 1)
-asked-runs deals.Payment intent original password pt moment awaited = record { facts = _; talk_is = refl; kind_is = refl; awaited_is = omega arith }
-asked-runs deals.Reversal intent original password pt moment awaited = record { facts = _; talk_is = refl; kind_is = refl; awaited_is = omega arith }
+asked-runs : (what : Deal) (intent : TheIntent) (original : Option TheEntry) (password : List ℕ) (pt : Pt) (moment awaited slot : ℕ)
+    → RunsService (Transaction slot) (talk_of_command pt (ask_for what intent original password) moment) (one_more_awaited awaited)
+asked-runs deals.Payment intent original password pt moment awaited slot = record { facts = _; talk_is = refl; kind_is = refl; awaited_is = more-some awaited }
+asked-runs deals.Reversal intent original password pt moment awaited slot = record { facts = _; talk_is = refl; kind_is = refl; awaited_is = more-some awaited }
+
+-- what is shown is lines
+pub shown-lines : (outputs : List Output) (command : Command) → show outputs ≡ Some command → (lines : List (List ℕ)) × (command ≡ show_lines lines)
+shown-lines outputs command is = of-output (customer_output outputs) is
+  where
+    of-output : (found : Option Output) → option_map (λ (output : Output). show_lines (display_lines output.texts)) found ≡ Some command → (lines : List (List ℕ)) × (command ≡ show_lines lines)
+    of-output None is = absurd cc
+    of-output (Some output) is = (display_lines output.texts, sym (some-same (show_lines (display_lines output.texts)) command is))
+
+-- the command that shows outputs begins a display
+shown-runs : (header : Header) (results : Option (List Shown)) (outputs : List Output) (command : Command) (pt : Pt) (moment awaited : ℕ) → show outputs ≡ Some command
+    → RunsService (Display header results) (talk_of_command pt command moment) (one_more_awaited awaited)
+shown-runs header results outputs command pt moment awaited is =
+    let lines = shown-lines outputs command is in
+    subst (λ (c : Command). RunsService (Display header results) (talk_of_command pt c moment) (one_more_awaited awaited)) (sym lines.1)
+    (record { facts = _; talk_is = refl; kind_is = refl; awaited_is = (refl, more-some awaited) })
 
 -- ---- one terminal of a list
 
 -- what holds of every other element, and of the new one, holds of all
-with-new : {A : Type 0} (P : A → Type 0) (all : List A) (at : ℕ) (new : A) → ((number : ℕ) (one : A) → number ≢ at → slice_get all number ≡ Some one → P one) → P new
+pub with-new : {A : Type 0} (P : A → Type 0) (all : List A) (at : ℕ) (new : A) → ((number : ℕ) (one : A) → number ≢ at → slice_get all number ≡ Some one → P one) → P new
     → (number : ℕ) (one : A) → slice_get (set all at new) number ≡ Some one → P one
 with-new P [] at new others holds number one found = absurd cc
 with-new P (first ∷ rest) zero new others holds zero one found = subst P (some-same new one found) holds
@@ -372,7 +486,7 @@ registering-keeps known number terminal phase heard.Block all next has no_cut = 
 registering-keeps known number terminal phase heard.Seen all next has no_cut = all-with known.core number terminal (but-one known.core number all) (has next)
 registering-keeps known number terminal phase (heard.Approved figures) all next has no_cut = absurd next
 registering-keeps known number terminal phase heard.Done all next has no_cut =
-    all-with known.core number _ (but-one known.core number all) (record { facts = _; talk_is = refl; kind_is = refl; awaited_is = (refl, ap (λ (n : ℕ). n + 1) next) })
+    all-with known.core number _ (but-one known.core number all) (record { facts = _; talk_is = refl; kind_is = refl; awaited_is = (refl, ap one_more_awaited next) })
 registering-keeps known number terminal phase (heard.Told reported approved result_code) all next has no_cut = absurd next
 registering-keeps known number terminal phase (heard.Declined result_code reported) all next has no_cut = absurd cc
 registering-keeps known number terminal phase heard.Unclear all next has no_cut = absurd cc
@@ -421,7 +535,7 @@ resolved-keeps known number terminal slot last figures all = by-number (nat_lt l
 transaction-keeps : (known : Known) (number : ℕ) (terminal : Terminal) (slot last : ℕ) (phase : Phase) (meant : Heard) → AllHaveDialogues known.core → TransactionNext phase terminal.awaited meant
     → ((awaited : ℕ) → AwaitedServing phase awaited → HasItsDialogue (record terminal { awaited = awaited })) → Keeps (serving_transaction known number terminal slot last meant)
 transaction-keeps known number terminal slot last phase (heard.Begun true) all next has no_cut =
-    all-with known.core number _ (but-one known.core number all) (has (terminal.awaited + 1) (one-more phase terminal.awaited next))
+    all-with known.core number _ (but-one known.core number all) (has (one_more_awaited terminal.awaited) (serves-more phase terminal.awaited next))
 transaction-keeps known number terminal slot last phase (heard.Begun false) all next has no_cut = all-with known.core number terminal (but-one known.core number all) (has terminal.awaited next)
 transaction-keeps known number terminal slot last phase (heard.Note intermediate_status) all next has no_cut = all-with known.core number terminal (but-one known.core number all) (has terminal.awaited next)
 transaction-keeps known number terminal slot last phase heard.Line all next has no_cut = all-with known.core number terminal (but-one known.core number all) (has terminal.awaited next)
@@ -434,21 +548,70 @@ transaction-keeps known number terminal slot last phase (heard.Declined result_c
 transaction-keeps known number terminal slot last phase heard.Unclear all next has no_cut = absurd cc
 transaction-keeps known number terminal slot last phase heard.Stray all next has no_cut = all-with known.core number terminal (but-one known.core number all) (has terminal.awaited next)
 
+day-keeps : (known : Known) (number : ℕ) (terminal : Terminal) (last : ℕ) (header : Header) (phase : Phase) (meant : Heard) → AllHaveDialogues known.core → DayNext phase terminal.awaited meant
+    → ((awaited : ℕ) → AwaitedServing phase awaited → HasItsDialogue (record terminal { awaited = awaited })) → Keeps (serving_day known number terminal last header meant)
+day-keeps known number terminal last header phase (heard.Begun true) all next has no_cut =
+    all-with known.core number _ (but-one known.core number all) (has (one_more_awaited terminal.awaited) (serves-more phase terminal.awaited next))
+day-keeps known number terminal last header phase (heard.Begun false) all next has no_cut = all-with known.core number terminal (but-one known.core number all) (has terminal.awaited next)
+day-keeps known number terminal last header phase (heard.Note intermediate_status) all next has no_cut = all-with known.core number terminal (but-one known.core number all) (has terminal.awaited next)
+day-keeps known number terminal last header phase heard.Line all next has no_cut = all-with known.core number terminal (but-one known.core number all) (has terminal.awaited next)
+day-keeps known number terminal last header phase heard.Block all next has no_cut = all-with known.core number terminal (but-one known.core number all) (has terminal.awaited next)
+day-keeps known number terminal last header phase heard.Seen all next has no_cut = all-with known.core number terminal (but-one known.core number all) (has terminal.awaited next)
+day-keeps known number terminal last header phase (heard.Approved figures) all next has no_cut = absurd next
+day-keeps known number terminal last header phase heard.Done all next has no_cut = all-with known.core number _ (but-one known.core number all) refl
+day-keeps known number terminal last header phase (heard.Told reported approved result_code) all next has no_cut = absurd next
+day-keeps known number terminal last header phase (heard.Declined result_code reported) all next has no_cut = all-with known.core number _ (but-one known.core number all) refl
+day-keeps known number terminal last header phase heard.Unclear all next has no_cut = absurd cc
+day-keeps known number terminal last header phase heard.Stray all next has no_cut = all-with known.core number terminal (but-one known.core number all) (has terminal.awaited next)
+
+display-keeps : (known : Known) (number : ℕ) (terminal : Terminal) (last : ℕ) (header : Header) (results : Option (List Shown)) (meant : Heard) → AllHaveDialogues known.core → DisplayNext meant
+    → Keeps (serving_display known number terminal last header results meant)
+display-keeps known number terminal last header results (heard.Begun stop) all next no_cut = absurd next
+display-keeps known number terminal last header results (heard.Note intermediate_status) all next no_cut = absurd next
+display-keeps known number terminal last header results heard.Line all next no_cut = absurd next
+display-keeps known number terminal last header results heard.Block all next no_cut = absurd next
+display-keeps known number terminal last header results heard.Seen all next no_cut = absurd next
+display-keeps known number terminal last header results (heard.Approved figures) all next no_cut = absurd next
+display-keeps known number terminal last header results heard.Done all next no_cut = all-with known.core number _ (but-one known.core number all) refl
+display-keeps known number terminal last header results (heard.Told reported approved result_code) all next no_cut = absurd next
+display-keeps known number terminal last header results (heard.Declined result_code reported) all next no_cut = all-with known.core number _ (but-one known.core number all) refl
+display-keeps known number terminal last header results heard.Unclear all next no_cut = absurd cc
+display-keeps known number terminal last header results heard.Stray all next no_cut = absurd next
+
 -- a terminal without a dialogue takes a message
 rests-on : (terminal : Terminal) (message : MessageValue) (moment : ℕ) → terminal.talk ≡ None → (taking terminal message moment).talk ≡ None
 rests-on terminal message moment none = ap (λ (talk : Option TalkFacts). option_map (λ t. next_talk t (taken_as terminal.awaited message) (pos moment)) talk) none
 
+-- what a message means in the dialogue of what is served
+service-means : (service : Service) (terminal : Terminal) (message : MessageValue) (runs : RunsService service terminal.talk terminal.awaited)
+    → meaning_at terminal message ≡ meaning_in_phase (RunsService.facts runs).dialogue_kind (RunsService.facts runs).none (RunsService.facts runs).phase (taken_as terminal.awaited message)
+service-means service terminal message runs = ap (λ (talk : Option TalkFacts). meaning_for talk (taken_as terminal.awaited message)) runs.talk_is
+
+-- the terminal goes on to serve it
+still-serves : (terminal : Terminal) (message : MessageValue) (moment : ℕ) (service : Service) (last : ℕ) (runs : RunsService service terminal.talk terminal.awaited) → is_taken message ≡ true → terminal.standing ≡ Serving service last
+    → (awaited : ℕ) → AwaitedOfService service (next_phase (RunsService.facts runs).dialogue_kind (RunsService.facts runs).phase (taken_as terminal.awaited message)) awaited
+    → HasItsDialogue (record (taking terminal message moment) { awaited = awaited })
+still-serves terminal message moment service last runs taken is awaited awaits =
+    subst (λ (s : Standing). IsDialogueOf s (taking terminal message moment).talk awaited) (sym is) (serves-on service terminal message moment runs awaited taken awaits)
+
 serving-keeps : (known : Known) (number : ℕ) (terminal : Terminal) (message : MessageValue) (service : Service) (last : ℕ) → AllHaveDialogues known.core → is_taken message ≡ true → terminal.standing ≡ Serving service last
-    → IsDialogueOfService service terminal.talk terminal.awaited → Keeps (serving known number (taking terminal message known.moment) service last (meaning_at terminal message))
-serving-keeps known number terminal message (Transaction slot) last all taken is runs no_cut =
+    → RunsService service terminal.talk terminal.awaited → Keeps (serving known number (taking terminal message known.moment) service last (meaning_at terminal message))
+serving-keeps known number terminal message (Transaction slot) last all taken is runs =
     transaction-keeps known number (taking terminal message known.moment) slot last _ (meaning_at terminal message) all
-    (subst (TransactionNext (next_phase runs.facts.dialogue_kind runs.facts.phase (taken_as terminal.awaited message)) (awaited_after message terminal.awaited))
-    (sym (ap (λ (talk : Option TalkFacts). meaning_for talk (taken_as terminal.awaited message)) runs.talk_is))
+    (subst (TransactionNext (next_phase runs.facts.dialogue_kind runs.facts.phase (taken_as terminal.awaited message)) (awaited_after message terminal.awaited)) (sym (service-means (Transaction slot) terminal message runs))
     (transaction-next runs.facts.dialogue_kind runs.facts.none runs.facts.phase message terminal.awaited runs.kind_is runs.awaited_is taken))
-    (λ awaited awaits. subst (λ (s : Standing). IsDialogueOf s (taking terminal message known.moment).talk awaited) (sym is) (serves-on terminal message known.moment runs awaited taken awaits))
-    no_cut
-serving-keeps known number terminal message (EndOfDay header period) last all taken is never no_cut = absurd never
-serving-keeps known number terminal message (Display header outputs) last all taken is never no_cut = absurd never
+    (still-serves terminal message known.moment (Transaction slot) last runs taken is)
+serving-keeps known number terminal message (EndOfDay header period) last all taken is runs =
+    day-keeps known number (taking terminal message known.moment) last header (next_phase runs.facts.dialogue_kind runs.facts.phase (taken_as terminal.awaited message)) (meaning_at terminal message) all
+    (subst (DayNext (next_phase runs.facts.dialogue_kind runs.facts.phase (taken_as terminal.awaited message)) (awaited_after message terminal.awaited)) (sym (service-means (EndOfDay header period) terminal message runs))
+    (subst (λ (k : DialogueKind). DayNext (next_phase k runs.facts.phase (taken_as terminal.awaited message)) (awaited_after message terminal.awaited) (meaning_in_phase k runs.facts.none runs.facts.phase (taken_as terminal.awaited message))) (sym runs.kind_is)
+    (day-next runs.facts.none runs.facts.phase message terminal.awaited runs.awaited_is taken)))
+    (still-serves terminal message known.moment (EndOfDay header period) last runs taken is)
+serving-keeps known number terminal message (Display header results) last all taken is runs =
+    display-keeps known number (taking terminal message known.moment) last header results (meaning_at terminal message) all
+    (subst DisplayNext (sym (service-means (Display header results) terminal message runs))
+    (subst (λ (k : DialogueKind). DisplayNext (meaning_in_phase k runs.facts.none runs.facts.phase (taken_as terminal.awaited message))) (sym runs.kind_is)
+    (display-next runs.facts.none runs.facts.phase message terminal.awaited runs.awaited_is taken)))
 
 consequence-keeps : (known : Known) (number : ℕ) (terminal : Terminal) (message : MessageValue) (standing : Standing) → AllHaveDialogues known.core → is_taken message ≡ true → terminal.standing ≡ standing
     → IsDialogueOf standing terminal.talk terminal.awaited → Keeps (consequence known number (taking terminal message known.moment) (meaning_at terminal message) standing)
@@ -501,17 +664,18 @@ links-give known number LinkIsMade others = made-gives known number others
 links-give known number LinkHasFailed others = lost-gives known number others
 links-give known number LinkIsLost others = lost-gives known number others
 
--- what a terminal that serves a payment or a reversal runs
-served-runs : (terminal : Terminal) (slot last : ℕ) → terminal.standing ≡ Serving (Transaction slot) last → HasItsDialogue terminal → RunsTransaction terminal.talk terminal.awaited
-served-runs terminal slot last is has = subst (λ (s : Standing). IsDialogueOf s terminal.talk terminal.awaited) is has
+-- what a terminal that serves runs
+served-runs : (terminal : Terminal) (service : Service) (last : ℕ) → terminal.standing ≡ Serving service last → HasItsDialogue terminal → RunsService service terminal.talk terminal.awaited
+served-runs terminal service last is has = subst (λ (s : Standing). IsDialogueOf s terminal.talk terminal.awaited) is has
 
 -- each has its dialogue once a stop is wished, with whatever may be awaited then
-wish-keeps : (known : Known) (number : ℕ) (header : Header) (request : SaleRequest) (terminal : Terminal) (talk : TalkFacts) (awaited : ℕ) → StopsAt known number header request terminal talk → AllHaveDialogues known.core
-    → (AwaitedServing talk.phase terminal.awaited → AwaitedServing talk.phase awaited) → AllHaveDialogues (with_terminal known.core number (record (wishing terminal talk) { awaited = awaited }))
+wish-keeps : (known : Known) (number : ℕ) (header : Header) (request : SaleRequest) (terminal : Terminal) (talk : TalkFacts) (awaited : ℕ) (at : StopsAt known number header request terminal talk) → AllHaveDialogues known.core
+    → (AwaitedOfService (StopsAt.service at) talk.phase terminal.awaited → AwaitedOfService (StopsAt.service at) talk.phase awaited)
+    → AllHaveDialogues (with_terminal known.core number (record (wishing terminal talk) { awaited = awaited }))
 wish-keeps known number header request terminal talk awaited at all more =
     all-with known.core number _ (but-one known.core number all)
     (subst (λ (s : Standing). IsDialogueOf s (Some (talk_after_stop_wished talk)) awaited) (sym at.standing_is)
-    (wish-runs terminal talk awaited (served-runs terminal at.slot at.last at.standing_is (all number terminal at.found)) at.talk_is more))
+    (wish-runs at.service terminal talk awaited at.stoppable (served-runs terminal at.service at.last at.standing_is (all number terminal at.found)) at.talk_is more))
 
 pub rows-keep : EachRowKeepsDialogues
 rows-keep known (Crowded till) all = λ no_cut. all
@@ -523,11 +687,22 @@ rows-keep known (Greet number apdu) all = same-keeps known (greet_row known numb
 rows-keep known (Handle number apdu) all =
     each-handled Keeps known number apdu (λ no_cut. all)
     (λ terminal message found linked is taken. consequence-keeps known number terminal message terminal.standing all taken refl (all number terminal found))
+    (λ terminal message found linked is taken at stays no_cut. stays refl)
 rows-keep known (Serve number till header request) all =
-    each-served Keeps known number till header request (λ no_cut. all)
-    (λ terminal last asking at no_cut. all-with known.core number _ (but-one known.core number all) (asked-runs asking.intent.what asking.intent asking.original terminal.pt.password terminal.pt known.moment terminal.awaited))
-    (λ terminal talk at may no_cut. wish-keeps known number header request terminal talk (terminal.awaited + 1) at all (one-more talk.phase terminal.awaited))
-    (λ terminal talk at may no_cut. wish-keeps known number header request terminal talk terminal.awaited at all (λ awaits. awaits))
+    each-served Keeps known number till header request
+    (record {
+      none = λ no_cut. all;
+      begins = λ terminal last asking at no_cut.
+          all-with known.core number _ (but-one known.core number all) (asked-runs asking.intent.what asking.intent asking.original terminal.pt.password terminal.pt known.moment terminal.awaited (length known.kept));
+      sent = λ terminal talk at may no_cut. wish-keeps known number header request terminal talk (one_more_awaited terminal.awaited) at all (stoppable-more at.service talk.phase terminal.awaited at.stoppable);
+      wished = λ terminal talk at may no_cut. wish-keeps known number header request terminal talk terminal.awaited at all (λ awaits. awaits);
+      session = λ success no_cut. all;
+      settles = λ terminal at no_cut. all;
+      day = λ terminal last at no_cut. all-with known.core number _ (but-one known.core number all) (record { facts = _; talk_is = refl; kind_is = refl; awaited_is = more-some terminal.awaited });
+      displays = λ terminal last outputs command at no_cut.
+          all-with known.core number _ (but-one known.core number all)
+          (shown-runs header (refused_results UnavailableDevice outputs) outputs command terminal.pt known.moment terminal.awaited at.shown_is);
+    })
 rows-keep known (NextWaiting number) all = λ no_cut. all
 rows-keep known (Oversized number) all = same-keeps known (oversized_row known number) all (oversized-same known number)
 rows-keep known (LinkLost number) all = λ no_cut. lost-gives known number (but-one known.core number all)

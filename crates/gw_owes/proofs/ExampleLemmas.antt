@@ -1,10 +1,11 @@
 -- The examples of what terminals are owed are computed.
 use Rattle.std.proofs.Common.{refl}
+use Rattle.std.specs.Str.{chars}
 use Rattle.gw_ledger.specs.History.{history}
 use Rattle.zvt_apdu.specs.DecodeStream.{decode_apdus, decode_apdus_within}
 use Rattle.zvt_bmp.specs.Decode.{decode_field_value, decode_status_field, decode_status_within, decode_status}
 use Rattle.zvt_msg.specs.MessageDecode.{decode_pt_message}
-use Rattle.gw_owes.specs.TerminalExample.{ExampleBecomesReady, ExampleReportsLast, ExampleRegistrationFails, ExampleEnquiryFails, ExampleLinkFails, ExampleSilence, ExampleStrayMessages, ExampleForeignCommand, ExampleOutside, ExampleFailedSend, ExampleUnlinked, ExampleAside, ExampleStop, ExampleLateStop, ExampleComparedReports, ExampleManyTerminals, ExampleDiagnosis, ExampleUnserved}
+use Rattle.gw_owes.specs.TerminalExample.{ExampleBecomesReady, ExampleReportsLast, ExampleRegistrationFails, ExampleEnquiryFails, ExampleLinkFails, ExampleSilence, ExampleStrayMessages, ExampleForeignCommand, ExampleOutside, ExampleFailedSend, ExampleUnlinked, ExampleAside, ExampleStop, ExampleLateStop, ExampleComparedReports, ExampleManyTerminals, ExampleDiagnosis, ExampleEndOfDay, ExampleDayLost, ExampleDayStopped, ExampleDisplay, ExampleDisplayLost, ExampleOutputs, ExampleLostServing}
 
 pub becomes-ready : ExampleBecomesReady
 unfolding decode_apdus decode_apdus_within decode_pt_message history
@@ -154,8 +155,73 @@ diagnosis = record {
   unknown = refl;
 }
 
-pub unserved : ExampleUnserved
-unserved = record {
-  configured = refl;
+pub end-of-day : ExampleEndOfDay
+unfolding decode_apdus decode_apdus_within decode_pt_message decode_status decode_status_within decode_status_field decode_field_value history
+end-of-day = record {
+  begun = record { calls_are = refl; standing_is = refl; awaited_is = refl };
+  acknowledged = record { calls_are = refl; standing_is = refl; awaited_is = refl };
+  done = record { calls_are = refl; standing_is = refl; awaited_is = refl };
+  declined = record { calls_are = refl; standing_is = refl; awaited_is = refl };
+  refused = record { calls_are = refl; standing_is = refl; awaited_is = refl };
+  by_status = record { calls_are = refl; standing_is = refl; awaited_is = refl };
+}
+
+pub day-lost : ExampleDayLost
+unfolding decode_apdus decode_apdus_within decode_pt_message decode_status decode_status_within decode_status_field decode_field_value history
+day-lost = record {
+  unclear = record { calls_are = refl; standing_is = refl; awaited_is = refl };
+  too_early = record { calls_are = refl; standing_is = refl; awaited_is = refl };
+  not_acknowledged = record { calls_are = refl; standing_is = refl; awaited_is = refl };
+  silent = record { calls_are = refl; standing_is = refl; awaited_is = refl };
+  lost = record { calls_are = refl; standing_is = refl; awaited_is = refl };
+  outside = record { calls_are = refl; standing_is = refl; awaited_is = refl };
+}
+
+pub day-stopped : ExampleDayStopped
+unfolding decode_apdus decode_apdus_within decode_pt_message decode_status decode_status_within decode_status_field decode_field_value history
+day-stopped = record {
+  sent = record { calls_are = refl; standing_is = refl; awaited_is = refl };
+  once = record { calls_are = refl; standing_is = refl; awaited_is = refl };
+  wished = record { calls_are = refl; standing_is = refl; awaited_is = refl };
+  sent_later = record { calls_are = refl; standing_is = refl; awaited_is = refl };
+  aborted = record { calls_are = refl; standing_is = refl; awaited_is = refl };
+  done = record { calls_are = refl; standing_is = refl; awaited_is = refl };
+}
+
+pub display : ExampleDisplay
+unfolding decode_apdus decode_apdus_within decode_pt_message decode_status decode_status_within decode_status_field decode_field_value history chars
+display = record {
+  begun = record { calls_are = refl; standing_is = refl; awaited_is = refl };
+  done = record { calls_are = refl; standing_is = refl; awaited_is = refl };
+  refused = record { calls_are = refl; standing_is = refl; awaited_is = refl };
+  not_stopped = record { calls_are = refl; standing_is = refl; awaited_is = refl };
+  without_response = record { calls_are = refl; standing_is = refl; awaited_is = refl };
+}
+
+pub display-lost : ExampleDisplayLost
+unfolding decode_apdus decode_apdus_within decode_pt_message decode_status decode_status_within decode_status_field decode_field_value history chars
+display-lost = record {
+  unclear = record { calls_are = refl; standing_is = refl; awaited_is = refl };
+  code_0 = record { calls_are = refl; standing_is = refl; awaited_is = refl };
+  silent = record { calls_are = refl; standing_is = refl; awaited_is = refl };
+  lost = record { calls_are = refl; standing_is = refl; awaited_is = refl };
+}
+
+pub outputs : ExampleOutputs
+outputs = record {
   unknown = refl;
+  no_customer = refl;
+  unlinked = refl;
+  aside = refl;
+  busy = refl;
+  begins = refl;
+  print = refl;
+}
+
+pub lost-serving : ExampleLostServing
+lost-serving = record {
+  transaction = record { comes = record { calls_are = refl; standing_is = refl; awaited_is = refl }; asker_is = refl };
+  end_of_day = record { comes = record { calls_are = refl; standing_is = refl; awaited_is = refl }; asker_is = refl };
+  display = record { comes = record { calls_are = refl; standing_is = refl; awaited_is = refl }; asker_is = refl };
+  without_results = record { comes = record { calls_are = refl; standing_is = refl; awaited_is = refl }; asker_is = refl };
 }

@@ -1,6 +1,6 @@
 -- What a till's request asks for lies within the limits of a record, where it was read.
-use Rattle.std.proofs.Common.{◌≡◌, ◌∙◌, ℕ, ◌^◌, ◌<◌, ◌≤◌, Bool, true, false, ◌&&◌, eqb, leb, List, [], ◌∷◌, refl, sym, subst, arith}
-use Rattle.std.specs.Prelude.{◌==◌, Option, Some, None, IfSome, MatchOption, if◌then◌else◌, option_and_then, drop, codes, pos, unwrap_or}
+use Rattle.std.proofs.Common.{◌≡◌, ◌∙◌, ℕ, ◌^◌, ◌<◌, ◌≤◌, Bool, true, false, ◌&&◌, eqb, leb, List, [], ◌∷◌, refl, sym, ap, subst, arith}
+use Rattle.std.specs.Prelude.{◌==◌, Option, Some, None, IfSome, MatchOption, if◌then◌else◌, option_and_then, option_map, drop, codes, pos, unwrap_or}
 use Rattle.std.specs.List.{list_all}
 use Rattle.std.proofs.lemmas.Bool.{and_parts, leb-true}
 use Rattle.std.proofs.lemmas.Option.{same_Some}
@@ -9,11 +9,13 @@ use Rattle.gw_base.specs.declared.condition.Condition.{Condition}
 use Rattle.gw_base.specs.declared.condition.Condition.TheVariants.{Aborted}
 use Rattle.gw_base.specs.declared.currency.Currency.{Currency}
 use Rattle.gw_base.specs.declared.figures.Figures.{Figures}
+use Rattle.gw_base.specs.declared.key.Key.{Key}
 use Rattle.gw_base.specs.Ident.{IsIdent}
 use Rattle.gw_base.specs.Limits.{IsAmount, IsTrace}
 use Rattle.gw_base.specs.Moment.{IsMoment}
 use Rattle.json_text.specs.Tree.{Tree, string_of}
 use Rattle.sale_values.specs.declared.header.Header.{Header}
+use Rattle.sale_values.specs.declared.names.Period.{Period}
 use Rattle.sale_values.specs.declared.request.PaymentAsk.{PaymentAsk}
 use Rattle.sale_values.specs.declared.request.ReversalAsk.{ReversalAsk}
 use Rattle.sale_values.specs.declared.request.SaleRequest.TheVariants as requests
@@ -22,15 +24,20 @@ use Rattle.sale_msg.specs.Form.{HasForm}
 use Rattle.sale_msg.specs.Grammar.{IsRequest, IsRequestOf}
 use Rattle.sale_msg.specs.Path.{text_at, tree_at}
 use Rattle.sale_msg.specs.Table.{MemberRow, service_row}
-use Rattle.jrn_record.specs.Limits.{IsIntent, IsOutcome, IsPresentAs, reason_code}
+use Rattle.sale_reply.specs.Limits.{IsHeaderWithinLimits}
+use Rattle.jrn_record.specs.Limits.{IsIntent, IsOutcome, IsPresentAs, IsSettled, reason_code}
+use Rattle.jrn_record.specs.declared.records.How.{How}
 use Rattle.jrn_record.specs.declared.records.Outcome.{Outcome as TheOutcome}
 use Rattle.zvt_talk.specs.Limits.{FiguresFitRecord}
 use Rattle.gw_ledger.specs.declared.entry.Entry.{Entry as TheEntry}
+use Rattle.gw_ledger.specs.Keys.{settled_key}
 use Rattle.gw_ledger.specs.Laws.{IsEntryWithin}
 use Rattle.xlate.specs.Ask.{IsApproval}
 use Rattle.xlate.specs.Codes.{CodeRow, abort_result_code, code_rows, condition_in_rows, condition_of_code}
+use Rattle.gw_owes.specs.KeptReplies.{own_key}
 use Rattle.gw_owes.specs.Payments.{payment_intent}
 use Rattle.gw_owes.specs.ReadAs.{Request}
+use Rattle.gw_owes.specs.Reconciliations.{settled_of}
 use Rattle.gw_owes.specs.RecordLaws.{IsReadFromTill}
 use Rattle.gw_owes.specs.Reversals.{amount_in, reversal_intent}
 use Rattle.gw_owes.specs.Serving.{approved_outcome, declined_outcome, refused_outcome}
@@ -196,6 +203,43 @@ reversal-intent-within header original last moment within entry approved small t
   original = small;
   moment = at;
 }
+
+-- ---- a Reconciliation
+
+-- the header of a Reconciliation that was read lies within its limits
+pub reconciliation-within : (header : Header) (period : Period) → IsReadFromTill (Request header (requests.Reconciliation period)) → IsHeaderWithin header
+reconciliation-within header period read =
+    let message = read.1 in
+    let request = message.read in
+    let asked = request.1 in
+    header-of message.tree request.0 header asked.request_of asked.members.members.0
+
+-- a header within the limits of a reply that has a key lies within those of a record
+pub keyed-within : (header : Header) (key : Key) → IsHeaderWithinLimits header → own_key header ≡ Some key → IsHeaderWithin header
+keyed-within header key within is = by-service header.service refl is within.service
+  where
+    by-service : (service : Option (List ℕ)) → header.service ≡ service → option_map (λ (s : List ℕ). record { sale = header.sale; poi = header.poi; service = s }) service ≡ Some key → IfSome service (λ (id : List ℕ). IsIdent 10 id)
+        → IsHeaderWithin header
+    by-service None there none ident = absurd cc
+    by-service (Some service) there same ident = record { service = service; service_is = there; service_within = ident; sale = within.sale; poi = within.poi }
+
+-- the Settled of a reconciliation does, too
+pub settled-within : (how : How) (header : Header) (currency : Currency) (moment : ℕ) → IsHeaderWithin header → IsMoment (pos moment) → IsSettled (settled_of how header currency moment)
+settled-within how header currency moment within at = record { sale = within.sale; poi = within.poi; service = service-within header within; moment = at }
+
+-- and has the key of its request
+pub settled-key-is : (how : How) (header : Header) (currency : Currency) (moment : ℕ) (key : Key) → own_key header ≡ Some key → settled_key (settled_of how header currency moment) ≡ key
+settled-key-is how header currency moment key is = by-service header.service is
+  where
+    by-service : (service : Option (List ℕ)) → option_map (λ (s : List ℕ). record { sale = header.sale; poi = header.poi; service = s }) service ≡ Some key → record { sale = header.sale; poi = header.poi; service = unwrap_or service [] } ≡ key
+    by-service None none = absurd cc
+    by-service (Some service) same = same_Some (record { sale = header.sale; poi = header.poi; service = service }) key same
+
+-- ---- the key of a request
+
+-- a header with a ServiceID has one
+pub own-key-is : (header : Header) (within : IsHeaderWithin header) → own_key header ≡ Some (record { sale = header.sale; poi = header.poi; service = within.service })
+own-key-is header within = ap (option_map (λ (service : List ℕ). record { sale = header.sale; poi = header.poi; service = service })) within.service_is
 
 -- ---- an Outcome
 

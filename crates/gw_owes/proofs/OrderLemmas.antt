@@ -1,5 +1,5 @@
 -- Each item, and each event of a link, keeps what is known in order.
-use Rattle.std.proofs.Common.{◌≡◌, ◌≢◌, ◌∙◌, ℕ, zero, suc, Bool, true, false, List, [], ◌∷◌, refl, sym, ap, subst, arith}
+use Rattle.std.proofs.Common.{◌≡◌, ◌≢◌, ◌∙◌, ◌≤◌, ℕ, zero, suc, Bool, true, false, List, [], ◌∷◌, refl, sym, ap, subst, arith}
 use Rattle.std.specs.Prelude.{All, map, slice_get, Option, Some, None, pos, Result, Ok, Err, unwrap_or}
 use Rattle.std.proofs.lemmas.List.Elements.{All-nil}
 use Rattle.std.proofs.lemmas.Option.{same_Some}
@@ -14,24 +14,27 @@ use Rattle.zvt_msg.specs.Numbers.{NumbersFitFields}
 use Rattle.zvt_talk.specs.Came.{is_taken}
 use Rattle.gw_owes.specs.declared.terminal.Standing.TheVariants.{Registering}
 use Rattle.gw_owes.specs.declared.terminal.Terminal.{Terminal}
-use Rattle.gw_owes.specs.Calls.{CutTill, LinkPt, records_kept}
+use Rattle.gw_owes.specs.Calls.{CutTill, LinkPt}
 use Rattle.gw_owes.specs.Core.{new_terminal}
+use Rattle.gw_owes.specs.Days.{days_served}
 use Rattle.gw_owes.specs.Deadlines.{due_row, is_due, is_late, late_row}
+use Rattle.gw_owes.specs.DeviceRequests.{greatest_device_number}
 use Rattle.gw_owes.specs.Greeting.{greet_decoded, greeting, outside_row, sending_calls}
-use Rattle.gw_owes.specs.Handling.{consequence, handle_decoded, handle_message, meaning_at, taken_as, taking}
+use Rattle.gw_owes.specs.Handling.{handle_decoded, handle_message, meaning_at, taken_as, taken_row, taking}
 use Rattle.gw_owes.specs.Items.{RoundItem, Crowded, Message, Asked, Unframed, Gone, Greet, Handle, Serve, NextWaiting, Oversized, LinkLost, Late, Overdue, Due}
 use Rattle.gw_owes.specs.Links.{cutting, is_linked, LinkIsMade, LinkHasFailed, LinkIsLost, of_linked}
 use Rattle.gw_owes.specs.Payments.{serve_row}
-use Rattle.gw_owes.specs.RecordLaws.{AreTerminalsInOrder, AreOthersInOrder, EachCutKeepsInOrder, EachLinkKeepsInOrder, EachRowBringsReadItems, EachRowKeepsInOrder, IsInOrder, IsReadItem, IsTerminalInOrder, NewCoreIsInOrder}
+use Rattle.gw_owes.specs.RecordLaws.{CutKeepsInOrder, EachCutKeepsInOrder, EachLinkKeepsInOrder, EachRowBringsReadItems, EachRowKeepsInOrder, IsInOrder, IsReadItem, IsTerminalInOrder, NewCoreIsInOrder, LinkKeepsInOrder}
 use Rattle.gw_owes.specs.Row.{Known, Row, owing, owing_where}
 use Rattle.gw_owes.specs.Rows.{asked_row}
 use Rattle.gw_owes.specs.TerminalLaws.{owes_cut}
 use Rattle.gw_owes.specs.TerminalRows.{terminal_of, terminal_row}
 use Rattle.gw_owes.specs.Terminals.{after_command, link_lost, link_made, of_terminal, registers, registration, reply_to_lost, terminal_at, unlinked_terminal, unlinks}
 use Rattle.gw_owes.proofs.BeginLemmas.{begun-read, serve-keeps, serve-never-cuts}
-use Rattle.gw_owes.proofs.FewLemmas.{command-begins, taken-few}
+use Rattle.gw_owes.proofs.DayLemmas.{days-no-more}
+use Rattle.gw_owes.proofs.HandlingLemmas.{taken-cases}
 use Rattle.gw_owes.proofs.HeardLemmas.{meant-fits, taken-read}
-use Rattle.gw_owes.proofs.KeepingLemmas.{KeepNothing, RowKeeps, cutting-keeps, in-order-keeps, no-calls, nothing-keeps, others-with, replies-keep-nothing}
+use Rattle.gw_owes.proofs.KeepingLemmas.{KeepNothing, RowKeeps, command-read, cutting-keeps, device-keeps, in-order-keeps, no-calls, nothing-keeps, others-with, replies-keep-nothing, same-room}
 use Rattle.gw_owes.proofs.RecordLemmas.{LedgerLaws}
 use Rattle.gw_owes.proofs.ServingLemmas.{consequence-keeps}
 
@@ -44,27 +47,35 @@ MessagesFit = (apdu : ApduValue) (message : MessageValue) → decode_pt_message 
 missing : (known : Known) (number other : ℕ) (terminal : Terminal) → terminal_at known number ≡ None → terminal_at known other ≡ Some terminal → other ≢ number
 missing known number other terminal none found = λ e. let k : Some terminal ≡ None = sym found ∙ ap (terminal_at known) e ∙ none in cc
 
-lost-in-order : (known : Known) (number : ℕ) → AreOthersInOrder number known.kept known.core → AreTerminalsInOrder known.kept (link_lost known number).core
-lost-in-order known number others = by-found (terminal_at known number) refl
+lost-in-order : (known : Known) (number : ℕ) → LinkKeepsInOrder known number (link_lost known number).core
+lost-in-order known number = by-found (terminal_at known number) refl
   where
-    by-found : (found : Option Terminal) → terminal_at known number ≡ found → AreTerminalsInOrder known.kept (of_terminal known (unlinks known number) found).core
-    by-found None none = λ other terminal found. others other terminal (missing known number other terminal none found) found
-    by-found (Some terminal) is = others-with known.kept known.core number (unlinked_terminal terminal known.moment) others (record { records = tt; read = tt; few = omega arith })
+    by-found : (found : Option Terminal) → terminal_at known number ≡ found → LinkKeepsInOrder known number (of_terminal known (unlinks known number) found).core
+    by-found None none = record { terminals = λ others other terminal found. others other terminal (missing known number other terminal none found) found; days = omega arith; device_requests = refl }
+    by-found (Some terminal) is = record {
+      terminals = λ others. others-with known.kept known.core number (unlinked_terminal terminal known.moment) others (record { records = tt; read = tt });
+      days = days-no-more known.core.terminals number terminal (unlinked_terminal terminal known.moment) is (omega arith);
+      device_requests = refl;
+    }
 
-made-in-order : (known : Known) (number : ℕ) → AreOthersInOrder number known.kept known.core → AreTerminalsInOrder known.kept (link_made known number).core
-made-in-order known number others = by-found (terminal_at known number) refl
+made-in-order : (known : Known) (number : ℕ) → LinkKeepsInOrder known number (link_made known number).core
+made-in-order known number = by-found (terminal_at known number) refl
   where
-    by-found : (found : Option Terminal) → terminal_at known number ≡ found → AreTerminalsInOrder known.kept (of_terminal known (registers known number) found).core
-    by-found None none = λ other terminal found. others other terminal (missing known number other terminal none found) found
+    by-found : (found : Option Terminal) → terminal_at known number ≡ found → LinkKeepsInOrder known number (of_terminal known (registers known number) found).core
+    by-found None none = record { terminals = λ others other terminal found. others other terminal (missing known number other terminal none found) found; days = omega arith; device_requests = refl }
     by-found (Some terminal) is =
-        let begins = command-begins terminal.pt (registration terminal.pt) known.moment in
-        others-with known.kept known.core number (after_command (record terminal { awaited = 0 }) (registration terminal.pt) Registering known.moment) others (record { records = tt; read = begins.read; few = omega arith })
+        let new : Terminal = after_command (record terminal { awaited = 0 }) (registration terminal.pt) Registering known.moment in
+        record {
+          terminals = λ others. others-with known.kept known.core number new others (record { records = tt; read = command-read terminal.pt (registration terminal.pt) known.moment });
+          days = days-no-more known.core.terminals number terminal new is (omega arith);
+          device_requests = refl;
+        }
 
 -- each event of a link
 pub links-in-order : EachLinkKeepsInOrder
-links-in-order known number LinkIsMade others = made-in-order known number others
-links-in-order known number LinkHasFailed others = lost-in-order known number others
-links-in-order known number LinkIsLost others = lost-in-order known number others
+links-in-order known number LinkIsMade = made-in-order known number
+links-in-order known number LinkHasFailed = lost-in-order known number
+links-in-order known number LinkIsLost = lost-in-order known number
 
 -- ---- the rows of a terminal
 
@@ -99,7 +110,7 @@ module _ (known : Known) (order : IsInOrder known) (number : ℕ) where
 
   greet-keeps : (decoded : Result MessageValue PtFault) → RowKeeps known number (greet_decoded known number decoded)
   greet-keeps (Ok message) =
-      linked-keeps (λ terminal. owing known (sending_calls number (greeting message))) (λ terminal found. in-order-keeps known order number (owing known (sending_calls number (greeting message))) (greeting-keeps-nothing message) order.terminals refl)
+      linked-keeps (λ terminal. owing known (sending_calls number (greeting message))) (λ terminal found. in-order-keeps known order number (owing known (sending_calls number (greeting message))) (greeting-keeps-nothing message) order.room order.numbered order.terminals refl)
   greet-keeps (Err fault) = outside-keeps
 
   late-keeps : RowKeeps known number (late_row known number)
@@ -109,10 +120,13 @@ module _ (known : Known) (order : IsInOrder known) (number : ℕ) where
   due-keeps : RowKeeps known number (due_row known number)
   due-keeps = terminal-keeps (λ terminal. owing_where (is_due known.moment terminal.standing) known (owing known (LinkPt number ∷ [])))
       (λ terminal found. where-keeps (owing known (LinkPt number ∷ [])) (is_due known.moment terminal.standing)
-      (in-order-keeps known order number (owing known (LinkPt number ∷ [])) (record { no_records = refl; no_cut = refl }) order.terminals refl))
+      (in-order-keeps known order number (owing known (LinkPt number ∷ [])) (record { no_records = refl; no_cut = refl }) order.room order.numbered order.terminals refl))
 
   lost-keeps : RowKeeps known number (link_lost known number)
-  lost-keeps = in-order-keeps known order number (link_lost known number) nothing (lost-in-order known number (λ other terminal apart found. order.terminals other terminal found)) no_items
+  lost-keeps =
+      let left = lost-in-order known number in
+      in-order-keeps known order number (link_lost known number) nothing (same-room known order (link_lost known number).core left.days) (subst (λ (n : ℕ). n ≤ greatest_device_number) (sym left.device_requests) order.numbered)
+      (left.terminals (λ other terminal apart found. order.terminals other terminal found)) no_items
     where
       nothing : KeepNothing (link_lost known number).calls
       nothing = by-found (terminal_at known number)
@@ -135,14 +149,13 @@ module _ (known : Known) (order : IsInOrder known) (number : ℕ) where
       message-keeps : (terminal : Terminal) → terminal_at known number ≡ Some terminal → RowKeeps known number (handle_message known number terminal message)
       message-keeps terminal found =
           let was = order.terminals number terminal found in
-          let numbers : NumbersFitFields message = fits message refl in
           let meant = meaning_at terminal message in
           let now = taking terminal message known.moment in
-          let before = was.few in
-          let after = taken-few terminal message known.moment terminal.standing in
-          where-keeps (consequence known number now meant terminal.standing) (is_taken message)
-          (consequence-keeps laws known order number terminal now found refl (taken-read terminal.talk terminal.awaited message (pos known.moment) was.read numbers) (omega (arith, before, after))
-          meant terminal.standing (record { standing_is = refl; records = was.records; few = omega (arith, before, after) }) (meant-fits terminal.talk (taken_as terminal.awaited message) was.read))
+          where-keeps (taken_row known number now meant message) (is_taken message)
+          (taken-cases (RowKeeps known number) known number now meant message
+          (consequence-keeps laws known order number terminal now found refl refl (record { records = was.records; read = taken-read terminal.talk terminal.awaited message (pos known.moment) was.read (fits message refl) })
+          meant terminal.standing refl was.records (meant-fits terminal.talk (taken_as terminal.awaited message) was.read))
+          (λ at stays. device-keeps known order number now at.till at.request stays))
 
 -- the number of an item's terminal; 0 where it is about none
 abbrev number_in : RoundItem → ℕ
@@ -173,7 +186,7 @@ rows-in-order laws messages known item order read uncut = (row-keeps laws messag
 -- what a row leaves that cuts the connection of the terminal of this number
 abbrev LeavesOthers : Known → Option ℕ → Row → Type 0
 LeavesOthers known None row = Unit {0}
-LeavesOthers known (Some number) row = (records_kept row.calls ≡ []) × AreOthersInOrder number known.kept row.core
+LeavesOthers known (Some number) row = CutKeepsInOrder known number row
 
 cut-leaves : (laws : LedgerLaws) (messages : MessagesFit) (known : Known) (order : IsInOrder known) (item : RoundItem) → owes_cut (terminal_row known item).calls ≡ true → LeavesOthers known (terminal_of item) (terminal_row known item)
 cut-leaves laws messages known order (Crowded till) cut = tt
@@ -227,9 +240,13 @@ items-read laws messages tills known (Due number) order read = no-items-read kno
 -- ---- as a run begins
 
 pub new-in-order : NewCoreIsInOrder
-new-in-order setup kept number terminal found = in-list setup.terminals number found
+new-in-order setup kept = (λ number terminal found. in-list setup.terminals number terminal found, no-days setup.terminals)
   where
-    in-list : (pts : List Pt) (number : ℕ) → slice_get (map new_terminal pts) number ≡ Some terminal → IsTerminalInOrder kept terminal
-    in-list [] number f = absurd cc
-    in-list (pt ∷ pts) zero f = subst (IsTerminalInOrder kept) (same_Some (new_terminal pt) terminal f) (record { records = tt; read = tt; few = omega arith })
-    in-list (pt ∷ pts) (suc number) f = in-list pts number f
+    in-list : (pts : List Pt) (number : ℕ) (terminal : Terminal) → slice_get (map new_terminal pts) number ≡ Some terminal → IsTerminalInOrder kept terminal
+    in-list [] number terminal f = absurd cc
+    in-list (pt ∷ pts) zero terminal f = subst (IsTerminalInOrder kept) (same_Some (new_terminal pt) terminal f) (record { records = tt; read = tt })
+    in-list (pt ∷ pts) (suc number) terminal f = in-list pts number terminal f
+
+    no-days : (pts : List Pt) → days_served (map new_terminal pts) ≡ 0
+    no-days [] = refl
+    no-days (pt ∷ pts) = let rest = no-days pts in omega (arith, rest)

@@ -4,7 +4,7 @@ use Rattle.gw_ledger.specs.History.{history}
 use Rattle.zvt_apdu.specs.DecodeStream.{decode_apdus, decode_apdus_within}
 use Rattle.zvt_bmp.specs.Decode.{decode_field_value, decode_status_field, decode_status_within, decode_status}
 use Rattle.zvt_msg.specs.MessageDecode.{decode_pt_message}
-use Rattle.gw_owes.specs.PaymentExample.{intent_after, ExamplePaymentAccepted, ExamplePaymentBegins, ExampleCommandFails, ExampleApproved, ExampleNotAbove, ExampleUnclearEnd, ExampleReportsOfOpen, ExampleReportBelowOpen, ExampleReportBelow, ExampleDeclined, ExampleSecondRequest, ExampleRoom}
+use Rattle.gw_owes.specs.PaymentExample.{intent_after, ExampleBesideDay, ExamplePaymentAccepted, ExamplePaymentBegins, ExampleCommandFails, ExampleApproved, ExampleNotAbove, ExampleUnclearEnd, ExampleReportsOfOpen, ExampleReportBelowOpen, ExampleReportBelow, ExampleDeclined, ExampleSecondRequest, ExampleRoom}
 use Rattle.gw_owes.proofs.SetLemmas.{same-some}
 
 pub payment-begins : ExamplePaymentBegins
@@ -123,4 +123,13 @@ room = record {
   enough = record { calls_are = refl; standing_is = refl };
   too_few = record { calls_are = refl; standing_is = refl };
   second = record { calls_are = refl; standing_is = refl };
+}
+
+pub beside-day : ExampleBesideDay
+unfolding history
+beside-day = record {
+  same_key = record { fails = record { calls_are = refl; standing_is = refl } };
+  other_till = record { fails = record { calls_are = refl; standing_is = refl } };
+  other_key = record { fails = record { calls_are = refl; standing_is = refl } };
+  no_room = record { fails = record { calls_are = refl; standing_is = refl } };
 }

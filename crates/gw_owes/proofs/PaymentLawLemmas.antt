@@ -4,6 +4,10 @@ use Rattle.std.proofs.lemmas.Bool.{lt-ltb, le-ltb, le-leb, ltb-true, leb-true}
 use Rattle.std.specs.Prelude.{pos, ◌+ℤ◌, nat_le, nat_lt, option_map, if◌then◌else◌, Option, Some, None, Ok}
 use Rattle.gw_base.specs.declared.condition.Condition.TheVariants.{Aborted}
 use Rattle.gw_base.specs.declared.figures.Figures.{Figures}
+use Rattle.gw_base.specs.declared.key.Key.{Key}
+use Rattle.sale_values.specs.declared.header.Header.{Header}
+use Rattle.sale_values.specs.declared.names.Period.{Period}
+use Rattle.sale_reply.specs.declared.reply.Shown.{Shown}
 use Rattle.zvt_apdu.specs.Grammar.{ApduValue}
 use Rattle.zvt_msg.specs.Message.{MessageValue, Ack, Nack, Intermediate, Line, Block, Status, Completion, Abort, Other}
 use Rattle.zvt_msg.specs.MessageDecode.{decode_pt_message}
@@ -18,25 +22,30 @@ use Rattle.zvt_talk.specs.Dialogue.{is_display}
 use Rattle.zvt_talk.specs.Table.{acknowledged}
 use Rattle.zvt_talk.specs.Talk.{TalkFacts}
 use Rattle.zvt_talk.specs.TalkSteps.{meaning_in_phase, next_phase, next_talk, with_status, was_stop_sent}
+use Rattle.jrn_record.specs.declared.records.How.TheVariants as hows
 use Rattle.jrn_record.specs.declared.records.Outcome.{Outcome as TheOutcome}
 use Rattle.jrn_record.specs.declared.records.Record.{Record}
 use Rattle.gw_ledger.specs.declared.entry.Entry.{Entry as TheEntry}
+use Rattle.gw_owes.specs.declared.terminal.Service.{Service}
 use Rattle.gw_owes.specs.declared.terminal.Service.TheVariants.{Transaction, EndOfDay, Display}
 use Rattle.gw_owes.specs.declared.terminal.Standing.{Standing}
 use Rattle.gw_owes.specs.declared.terminal.Standing.TheVariants.{Unlinked, Registering, Enquiring, Ready, Serving, Aside}
 use Rattle.gw_owes.specs.declared.terminal.Terminal.{Terminal}
-use Rattle.gw_owes.specs.Calls.{OwedCall, records_kept}
-use Rattle.gw_owes.specs.Handling.{taken_as, meaning_for, meaning_at, taking, enquires, registering, enquiring, serving_other, consequence, handle_row}
+use Rattle.gw_owes.specs.Calls.{OwedCall, SendTill, records_kept}
+use Rattle.gw_owes.specs.DeviceRequests.{device_request_of, requests_device}
+use Rattle.gw_owes.specs.Displays.{serving_display}
+use Rattle.gw_owes.specs.Handling.{taken_as, meaning_for, meaning_at, taking, enquires, registering, enquiring, serving, consequence, handle_row}
 use Rattle.gw_owes.specs.Links.{is_linked}
+use Rattle.gw_owes.specs.Reconciliations.{serving_day, settle_calls, settled_of}
 use Rattle.gw_owes.specs.Reply.{ReplyValue}
 use Rattle.gw_owes.specs.Reports.{Report, on_record, outcome_as_last, outcome_reported, report_of_open, report_against}
 use Rattle.gw_owes.specs.Row.{Known, Row}
-use Rattle.gw_owes.specs.Serving.{at_rest, staying, breaking, stops, approved_outcome, refused_outcome, declined_outcome, was_stopped, resolves, approved_row, last_after_decline, serving_transaction}
+use Rattle.gw_owes.specs.Serving.{at_rest, staying, breaking, stops, approved_outcome, refused_outcome, declined_outcome, was_stopped, done_with, resolves, approved_row, last_after_decline, serving_transaction}
 use Rattle.gw_owes.specs.TerminalLaws.{GoesOnTo}
 use Rattle.gw_owes.specs.Terminals.{terminal_at, terminal_becomes, reply_calls_to}
-use Rattle.gw_owes.specs.PaymentLaws.{asks_for_transaction, sends_terminal, sends_till, MeansAt, outcome_calls, ApprovalIsKept, NotAboveIsSetAside, DeclineIsKept, UnclearKeepsNothing, IsOutcomeOf, ReportsOfOpen, ResolvesKey, EachTillHasItsOutcomeKept, EachRecordIsOfAnEnd, ReportedApprovalIsKept, ReportedDeclineIsKept, UnperformedIsAborted}
-use Rattle.gw_owes.proofs.HandlingLemmas.{each-handled, leads-by, means-taken, reported-leads}
-use Rattle.gw_owes.proofs.SetLemmas.{new-is-there}
+use Rattle.gw_owes.specs.PaymentLaws.{asks_for_transaction, is_device_request, sends_terminal, sends_till, KeepsAtEnd, MeansServed, SendsTillOf, outcome_calls, ApprovalIsKept, NotAboveIsSetAside, DeclineIsKept, UnclearKeepsNothing, IsOutcomeOf, ReportsOfOpen, EachTillHasItsOutcomeKept, EachRecordIsOfAnEnd, ReportedApprovalIsKept, ReportedDeclineIsKept, UnperformedIsAborted}
+use Rattle.gw_owes.proofs.HandlingLemmas.{IsShown, RequestsDevice, each-handled, leads-by, means-taken, reported-leads}
+use Rattle.gw_owes.proofs.SetLemmas.{new-is-there, same-some}
 
 -- ---- replies
 
@@ -93,9 +102,37 @@ record ReportsIn (known : Known) (number : ℕ) (terminal : Terminal) (meant : H
   pub meant_is : meant ≡ heard.Told report.trace report.approved report.result_code
   pub resolved : ResolvesOpen known number terminal report row
 
--- nothing that concerns a payment or a reversal is owed, or what is served is resolved, or what is open
+-- the row settles the end of day that a terminal of this standing serves
+record SettlesIn (known : Known) (terminal : Terminal) (meant : Heard) (standing : Standing) (row : Row) : Type 0 where
+  pub header : Header
+  pub period : Period
+  pub last : ℕ
+  pub standing_is : standing ≡ Serving (EndOfDay header period) last
+  pub meant_is : meant ≡ heard.Done
+  pub calls_are : row.calls ≡ settle_calls known.kept terminal.asker (settled_of hows.Acquirer header terminal.pt.currency known.moment)
+  pub items : row.items ≡ []
+
+-- a reply alone is owed to the till that asked, of what is no payment and no reversal, and no end of day that is done
+record RepliesIn (terminal : Terminal) (meant : Heard) (standing : Standing) (row : Row) : Type 0 where
+  pub service : Service
+  pub last : ℕ
+  pub standing_is : standing ≡ Serving service last
+  pub no_transaction : (slot : ℕ) → service ≢ Transaction slot
+  pub none_done : (header : Header) (period : Period) → service ≡ EndOfDay header period → meant ≢ heard.Done
+  pub till : ℕ
+  pub asker_is : terminal.asker ≡ Some till
+  pub reply : ReplyValue
+  pub calls_are : row.calls ≡ SendTill till reply ∷ []
+  pub items : row.items ≡ []
+
+-- an end of day is settled, or a reply alone is owed
+abbrev EndsOther : Known → Terminal → Heard → Standing → Row → Type 0
+EndsOther known terminal meant standing row = SettlesIn known terminal meant standing row ⊎ RepliesIn terminal meant standing row
+
+-- nothing that concerns a payment or a reversal is owed, or what is served is resolved, or what is open, or another service ends
 abbrev IsPlainOrResolved : Known → ℕ → Terminal → Heard → Standing → Row → Type 0
-IsPlainOrResolved known number terminal meant standing row = IsPlain row ⊎ (ResolvesIn known number terminal meant standing row ⊎ ReportsIn known number terminal meant standing row)
+IsPlainOrResolved known number terminal meant standing row =
+    IsPlain row ⊎ (ResolvesIn known number terminal meant standing row ⊎ (ReportsIn known number terminal meant standing row ⊎ EndsOther known terminal meant standing row))
 
 plain-stays : (known : Known) (number : ℕ) (terminal : Terminal) → IsPlain (staying known number terminal)
 plain-stays known number terminal = record { asks = refl; keeps = refl; sends = refl; items = refl }
@@ -160,19 +197,46 @@ enquiring-resolves known number terminal (heard.Declined result_code reported) =
 enquiring-resolves known number terminal heard.Unclear = inl (plain-breaks known number terminal)
 enquiring-resolves known number terminal heard.Stray = inl (plain-stays known number terminal)
 
-other-plain : (known : Known) (number : ℕ) (terminal : Terminal) (meant : Heard) → IsPlain (serving_other known number terminal meant)
-other-plain known number terminal (heard.Begun true) = plain-stops known number terminal
-other-plain known number terminal (heard.Begun false) = plain-stays known number terminal
-other-plain known number terminal (heard.Note intermediate_status) = plain-stays known number terminal
-other-plain known number terminal heard.Line = plain-stays known number terminal
-other-plain known number terminal heard.Block = plain-stays known number terminal
-other-plain known number terminal heard.Seen = plain-stays known number terminal
-other-plain known number terminal (heard.Approved figures) = plain-stays known number terminal
-other-plain known number terminal heard.Done = plain-stays known number terminal
-other-plain known number terminal (heard.Told reported approved result_code) = plain-stays known number terminal
-other-plain known number terminal (heard.Declined result_code reported) = plain-stays known number terminal
-other-plain known number terminal heard.Unclear = plain-breaks known number terminal
-other-plain known number terminal heard.Stray = plain-stays known number terminal
+-- a reply to what is no payment and no reversal, where its till is there
+replies-alone : (known : Known) (number : ℕ) (terminal new : Terminal) (meant : Heard) (service : Service) (last : ℕ) (asker : Option ℕ) (reply : Option ReplyValue) → terminal.asker ≡ asker → ((slot : ℕ) → service ≢ Transaction slot)
+    → ((header : Header) (period : Period) → service ≡ EndOfDay header period → meant ≢ heard.Done)
+    → IsPlain (terminal_becomes known number new (reply_calls_to asker reply)) ⊎ EndsOther known terminal meant (Serving service last) (terminal_becomes known number new (reply_calls_to asker reply))
+replies-alone known number terminal new meant service last None reply asks other undone = inl (record { asks = refl; keeps = refl; sends = refl; items = refl })
+replies-alone known number terminal new meant service last (Some till) None asks other undone = inl (record { asks = refl; keeps = refl; sends = refl; items = refl })
+replies-alone known number terminal new meant service last (Some till) (Some reply) asks other undone =
+    inr (inr (record { service = service; last = last; standing_is = refl; no_transaction = other; none_done = undone; till = till; asker_is = asks; reply = reply; calls_are = refl; items = refl }))
+
+day-ends : (known : Known) (number : ℕ) (terminal : Terminal) (header : Header) (period : Period) (last : ℕ) (meant : Heard)
+    → IsPlain (serving_day known number terminal last header meant) ⊎ EndsOther known terminal meant (Serving (EndOfDay header period) last) (serving_day known number terminal last header meant)
+day-ends known number terminal header period last (heard.Begun true) = inl (plain-stops known number terminal)
+day-ends known number terminal header period last (heard.Begun false) = inl (plain-stays known number terminal)
+day-ends known number terminal header period last (heard.Note intermediate_status) = inl (plain-stays known number terminal)
+day-ends known number terminal header period last heard.Line = inl (plain-stays known number terminal)
+day-ends known number terminal header period last heard.Block = inl (plain-stays known number terminal)
+day-ends known number terminal header period last heard.Seen = inl (plain-stays known number terminal)
+day-ends known number terminal header period last (heard.Approved figures) = inl (plain-stays known number terminal)
+day-ends known number terminal header period last heard.Done =
+    inr (inl (record { header = header; period = period; last = last; standing_is = refl; meant_is = refl; calls_are = refl; items = refl }))
+day-ends known number terminal header period last (heard.Told reported approved result_code) = inl (plain-stays known number terminal)
+day-ends known number terminal header period last (heard.Declined result_code reported) =
+    replies-alone known number terminal (done_with terminal (Ready last)) (heard.Declined result_code reported) (EndOfDay header period) last terminal.asker _ refl (λ slot e. cc) (λ asked of_period e done. cc)
+day-ends known number terminal header period last heard.Unclear = inl (plain-breaks known number terminal)
+day-ends known number terminal header period last heard.Stray = inl (plain-stays known number terminal)
+
+display-ends : (known : Known) (number : ℕ) (terminal : Terminal) (header : Header) (results : Option (List Shown)) (last : ℕ) (meant : Heard)
+    → IsPlain (serving_display known number terminal last header results meant) ⊎ EndsOther known terminal meant (Serving (Display header results) last) (serving_display known number terminal last header results meant)
+display-ends known number terminal header results last (heard.Begun stop) = inl (plain-stays known number terminal)
+display-ends known number terminal header results last (heard.Note intermediate_status) = inl (plain-stays known number terminal)
+display-ends known number terminal header results last heard.Line = inl (plain-stays known number terminal)
+display-ends known number terminal header results last heard.Block = inl (plain-stays known number terminal)
+display-ends known number terminal header results last heard.Seen = inl (plain-stays known number terminal)
+display-ends known number terminal header results last (heard.Approved figures) = inl (plain-stays known number terminal)
+display-ends known number terminal header results last heard.Done = replies-alone known number terminal (done_with terminal (Ready last)) heard.Done (Display header results) last terminal.asker _ refl (λ slot e. cc) (λ asked of_period e done. cc)
+display-ends known number terminal header results last (heard.Told reported approved result_code) = inl (plain-stays known number terminal)
+display-ends known number terminal header results last (heard.Declined result_code reported) =
+    replies-alone known number terminal (done_with terminal (Ready last)) (heard.Declined result_code reported) (Display header results) last terminal.asker _ refl (λ slot e. cc) (λ asked of_period e done. cc)
+display-ends known number terminal header results last heard.Unclear = inl (plain-breaks known number terminal)
+display-ends known number terminal header results last heard.Stray = inl (plain-stays known number terminal)
 
 approved-resolves : (known : Known) (number : ℕ) (terminal : Terminal) (slot last : ℕ) (figures : Figures)
     → IsPlain (approved_row known number terminal slot last figures) ⊎ Resolves known number terminal slot last (heard.Approved figures) (approved_row known number terminal slot last figures)
@@ -207,7 +271,12 @@ of-served known number terminal slot last meant row (inr resolved) = inr (inl (r
 of-enquired : (known : Known) (number : ℕ) (terminal : Terminal) (meant : Heard) (row : Row)
     → IsPlain row ⊎ ReportsIn known number terminal meant Enquiring row → IsPlainOrResolved known number terminal meant Enquiring row
 of-enquired known number terminal meant row (inl plain) = inl plain
-of-enquired known number terminal meant row (inr reports) = inr (inr reports)
+of-enquired known number terminal meant row (inr reports) = inr (inr (inl reports))
+
+of-other : (known : Known) (number : ℕ) (terminal : Terminal) (meant : Heard) (standing : Standing) (row : Row)
+    → IsPlain row ⊎ EndsOther known terminal meant standing row → IsPlainOrResolved known number terminal meant standing row
+of-other known number terminal meant standing row (inl plain) = inl plain
+of-other known number terminal meant standing row (inr ends) = inr (inr (inr ends))
 
 consequence-resolves : (known : Known) (number : ℕ) (terminal : Terminal) (meant : Heard) (standing : Standing) → IsPlainOrResolved known number terminal meant standing (consequence known number terminal meant standing)
 consequence-resolves known number terminal meant (Unlinked due) = inl (record { asks = refl; keeps = refl; sends = refl; items = refl })
@@ -216,51 +285,121 @@ consequence-resolves known number terminal meant Enquiring = of-enquired known n
 consequence-resolves known number terminal meant (Ready last) = inl (plain-stays known number terminal)
 consequence-resolves known number terminal meant (Serving (Transaction slot) last) =
     of-served known number terminal slot last meant _ (transaction-resolves known number terminal slot last meant)
-consequence-resolves known number terminal meant (Serving (EndOfDay header period) last) = inl (other-plain known number terminal meant)
-consequence-resolves known number terminal meant (Serving (Display header outputs) last) = inl (other-plain known number terminal meant)
+consequence-resolves known number terminal meant (Serving (EndOfDay header period) last) =
+    of-other known number terminal meant _ _ (day-ends known number terminal header period last meant)
+consequence-resolves known number terminal meant (Serving (Display header results) last) =
+    of-other known number terminal meant _ _ (display-ends known number terminal header results last meant)
 consequence-resolves known number terminal meant (Aside before reported) = inl (plain-stays known number terminal)
 
 -- ---- the row of a message
 
--- nothing that concerns a payment or a reversal is owed, or what is served has ended, or a report resolves what is open
+-- what a message means that becomes a device request: it is one
+device-is : (meant : Heard) (message : MessageValue) (number : ℕ) (key : Key) (request : ReplyValue) → device_request_of meant message number key ≡ Some request → is_device_request request ≡ true
+device-is (heard.Begun stop) message number key request is = absurd cc
+device-is (heard.Note intermediate_status) message number key request is = ap is_device_request (sym (same-some _ request is))
+device-is heard.Line message number key request is = ap is_device_request (sym (same-some _ request is))
+device-is heard.Block message number key request is = ap is_device_request (sym (same-some _ request is))
+device-is heard.Seen message number key request is = absurd cc
+device-is (heard.Approved figures) message number key request is = absurd cc
+device-is heard.Done message number key request is = absurd cc
+device-is (heard.Told reported approved result_code) message number key request is = absurd cc
+device-is (heard.Declined result_code reported) message number key request is = absurd cc
+device-is heard.Unclear message number key request is = absurd cc
+device-is heard.Stray message number key request is = absurd cc
+
+-- nothing that concerns a payment or a reversal is owed, or a till is sent what ends, or is on its way
 abbrev pub IsPlainOrEnds : Known → ℕ → ApduValue → Row → Type 0
-IsPlainOrEnds known number apdu row = IsPlain row ⊎ (ResolvesKey known number apdu row.calls × (row.items ≡ []))
+IsPlainOrEnds known number apdu row = IsPlain row ⊎ (SendsTillOf known number apdu row.calls × (row.items ≡ []))
+
+module _ (known : Known) (number : ℕ) (apdu : ApduValue) (terminal : Terminal) (message : MessageValue) (found : terminal_at known number ≡ Some terminal) (is : decode_pt_message apdu ≡ Ok message) where
+  -- what the message means for what the terminal serves
+  means-served : (service : Service) (last : ℕ) (meant : Heard) → terminal.standing ≡ Serving service last → meaning_at terminal message ≡ meant → MeansServed known number apdu terminal service last meant
+  means-served service last meant serves means = record { found = found; standing_is = serves; message = message; decoded = is; means = means }
+
+  ends : (row : Row) → IsPlainOrResolved known number (taking terminal message known.moment) (meaning_at terminal message) terminal.standing row → IsPlainOrEnds known number apdu row
+  ends row (inl plain) = inl plain
+  ends row (inr (inl within)) =
+      inr (
+        inl (inl (inl (record {
+          terminal = terminal;
+          slot = within.slot;
+          last = within.last;
+          meant = meaning_at terminal message;
+          means = means-served (Transaction within.slot) within.last _ within.standing_is refl;
+          outcome = within.resolved.outcome;
+          slot_is = within.resolved.slot_is;
+          end_is = within.resolved.end_is;
+          calls_are = ap (λ (r : Row). r.calls) within.resolved.row_is;
+        }))),
+        ap (λ (r : Row). r.items) within.resolved.row_is,
+      )
+  ends row (inr (inr (inl within))) =
+      inr (
+        inl (inl (inr (record {
+          terminal = terminal;
+          report = within.report;
+          entry = within.resolved.entry;
+          of_open = record { reports = record { found = found; standing_is = within.standing_is; message = message; decoded = is; means = within.meant_is }; opened = within.resolved.opened };
+          not_below = within.resolved.not_below;
+          calls_are = ap (λ (r : Row). r.calls) within.resolved.row_is;
+        }))),
+        ap (λ (r : Row). r.items) within.resolved.row_is,
+      )
+  ends row (inr (inr (inr (inl settles)))) =
+      inr (
+        inl (inr (record {
+          terminal = terminal;
+          header = settles.header;
+          period = settles.period;
+          last = settles.last;
+          means = means-served (EndOfDay settles.header settles.period) settles.last heard.Done settles.standing_is settles.meant_is;
+          calls_are = settles.calls_are;
+        })),
+        settles.items,
+      )
+  ends row (inr (inr (inr (inr replies)))) =
+      inr (
+        inr (inl (record {
+          terminal = terminal;
+          service = replies.service;
+          last = replies.last;
+          meant = meaning_at terminal message;
+          means = means-served replies.service replies.last _ replies.standing_is refl;
+          no_transaction = replies.no_transaction;
+          none_done = replies.none_done;
+          till = replies.till;
+          asker_is = replies.asker_is;
+          reply = replies.reply;
+          calls_are = replies.calls_are;
+        })),
+        replies.items,
+      )
+
+  -- a message that becomes a device request
+  requests : (at : RequestsDevice known number (taking terminal message known.moment) (meaning_at terminal message) message)
+      → IsPlainOrEnds known number apdu (requests_device known number (taking terminal message known.moment) (RequestsDevice.till at) (RequestsDevice.request at))
+  requests at =
+      inr (
+        inr (inr (record {
+          terminal = terminal;
+          service = at.service;
+          last = at.last;
+          meant = meaning_at terminal message;
+          means = means-served at.service at.last _ at.standing_is refl;
+          till = at.till;
+          asker_is = at.asker_is;
+          request = at.request;
+          device = device-is (meaning_at terminal message) message known.core.device_requests at.key at.request at.request_is;
+          calls_are = refl;
+        })),
+        refl,
+      )
 
 pub handle-resolves : (known : Known) (number : ℕ) (apdu : ApduValue) → IsPlainOrEnds known number apdu (handle_row known number apdu)
 handle-resolves known number apdu =
     each-handled (IsPlainOrEnds known number apdu) known number apdu (inl (record { asks = refl; keeps = refl; sends = refl; items = refl }))
-    (λ terminal message found linked is taken. ends terminal message found is _ (consequence-resolves known number (taking terminal message known.moment) (meaning_at terminal message) terminal.standing))
-  where
-    ends : (terminal : Terminal) (message : MessageValue) → terminal_at known number ≡ Some terminal → decode_pt_message apdu ≡ Ok message → (row : Row)
-        → IsPlainOrResolved known number (taking terminal message known.moment) (meaning_at terminal message) terminal.standing row → IsPlainOrEnds known number apdu row
-    ends terminal message found is row (inl plain) = inl plain
-    ends terminal message found is row (inr (inl within)) =
-        inr (
-          inl (record {
-            terminal = terminal;
-            slot = within.slot;
-            last = within.last;
-            meant = meaning_at terminal message;
-            means = record { found = found; standing_is = within.standing_is; message = message; decoded = is; means = refl };
-            outcome = within.resolved.outcome;
-            slot_is = within.resolved.slot_is;
-            end_is = within.resolved.end_is;
-            calls_are = ap (λ (r : Row). r.calls) within.resolved.row_is;
-          }),
-          ap (λ (r : Row). r.items) within.resolved.row_is,
-        )
-    ends terminal message found is row (inr (inr within)) =
-        inr (
-          inr (record {
-            terminal = terminal;
-            report = within.report;
-            entry = within.resolved.entry;
-            of_open = record { reports = record { found = found; standing_is = within.standing_is; message = message; decoded = is; means = within.meant_is }; opened = within.resolved.opened };
-            not_below = within.resolved.not_below;
-            calls_are = ap (λ (r : Row). r.calls) within.resolved.row_is;
-          }),
-          ap (λ (r : Row). r.items) within.resolved.row_is,
-        )
+    (λ terminal message found linked is taken. ends known number apdu terminal message found is _ (consequence-resolves known number (taking terminal message known.moment) (meaning_at terminal message) terminal.standing))
+    (λ terminal message found linked is taken at stays. requests known number apdu terminal message found is at)
 
 pub apart : false ≡ true → ⊥
 apart e = cc
@@ -268,33 +407,39 @@ apart e = cc
 pub each-kept-before-reply : EachTillHasItsOutcomeKept
 each-kept-before-reply known number apdu sends = by-either (handle-resolves known number apdu)
   where
-    by-either : IsPlainOrEnds known number apdu (handle_row known number apdu) → ResolvesKey known number apdu (handle_row known number apdu).calls
+    by-either : IsPlainOrEnds known number apdu (handle_row known number apdu) → SendsTillOf known number apdu (handle_row known number apdu).calls
     by-either (inl plain) = absurd (apart (sym plain.sends ∙ sends))
     by-either (inr ends) = ends.0
 
 pub none-more : (the_record : Record) (more : List Record) → [] ≡ the_record ∷ more → ⊥
 none-more the_record more e = cc
 
+-- one message to a till keeps no record
+sends-alone : (calls : List OwedCall) (till : ℕ) (reply : ReplyValue) (the_record : Record) (more : List Record) → calls ≡ SendTill till reply ∷ [] → records_kept calls ≡ the_record ∷ more → ⊥
+sends-alone calls till reply the_record more is kept = none-more the_record more (sym (ap records_kept is) ∙ kept)
+
 pub each-record-of-an-end : EachRecordIsOfAnEnd
 each-record-of-an-end known number apdu the_record more kept = by-either (handle-resolves known number apdu)
   where
-    by-either : IsPlainOrEnds known number apdu (handle_row known number apdu) → ResolvesKey known number apdu (handle_row known number apdu).calls
+    by-either : IsPlainOrEnds known number apdu (handle_row known number apdu) → KeepsAtEnd known number apdu (handle_row known number apdu).calls
     by-either (inl plain) = absurd (none-more the_record more (sym plain.keeps ∙ kept))
-    by-either (inr ends) = ends.0
+    by-either (inr (inl ends, items)) = ends
+    by-either (inr (inr (inl replies), items)) = absurd (sends-alone _ replies.till replies.reply the_record more replies.calls_are kept)
+    by-either (inr (inr (inr device), items)) = absurd (sends-alone _ device.till device.request the_record more device.calls_are kept)
 
 -- ---- each end
 
 -- the row of what is served, by what the message means
-served-leads : (known : Known) (number : ℕ) (apdu : ApduValue) (terminal : Terminal) (slot last : ℕ) (meant : Heard) (after : Standing) (calls : List OwedCall) → (at : MeansAt known number apdu terminal slot last meant) → meant ≢ heard.Stray
-    → GoesOnTo number after calls (serving_transaction known number (taking terminal (MeansAt.message at) known.moment) slot last meant) → GoesOnTo number after calls (handle_row known number apdu)
-served-leads known number apdu terminal slot last meant after calls at some leads =
-    leads-by known number after calls apdu terminal at.message at.found (ap is_linked at.standing_is) at.decoded (is_taken at.message) refl (means-taken terminal at.message meant at.means some)
+pub served-leads : (known : Known) (number : ℕ) (apdu : ApduValue) (terminal : Terminal) (service : Service) (last : ℕ) (meant : Heard) (after : Standing) (calls : List OwedCall) → (at : MeansServed known number apdu terminal service last meant)
+    → meant ≢ heard.Stray → (IsShown meant → ⊥) → GoesOnTo number after calls (serving known number (taking terminal (MeansServed.message at) known.moment) service last meant) → GoesOnTo number after calls (handle_row known number apdu)
+served-leads known number apdu terminal service last meant after calls at some plain leads =
+    leads-by known number after calls apdu terminal at.message at.found (ap is_linked at.standing_is) at.decoded (means-taken terminal at.message meant at.means some) (λ is_shown. plain (subst IsShown at.means is_shown))
     (subst (λ (standing : Standing). GoesOnTo number after calls (consequence known number (taking terminal at.message known.moment) (meaning_at terminal at.message) standing)) (sym at.standing_is)
-    (subst (λ (m : Heard). GoesOnTo number after calls (serving_transaction known number (taking terminal at.message known.moment) slot last m)) (sym at.means) leads))
+    (subst (λ (m : Heard). GoesOnTo number after calls (serving known number (taking terminal at.message known.moment) service last m)) (sym at.means) leads))
 
 pub approval-is-kept : ApprovalIsKept
 approval-is-kept known number apdu terminal slot last figures at above =
-    served-leads known number apdu terminal slot last (heard.Approved figures) _ _ at (λ e. cc)
+    served-leads known number apdu terminal (Transaction slot) last (heard.Approved figures) _ _ at (λ e. cc) (λ is_shown. is_shown)
     (subst (λ (is_above : Bool). GoesOnTo number (Ready figures.number) (outcome_calls known terminal (approved_outcome slot figures known.moment))
     (if is_above then resolves known number (taking terminal at.message known.moment) (Ready figures.number) (approved_outcome slot figures known.moment) else terminal_becomes known number (at_rest (taking terminal at.message known.moment) (Aside last figures.number)) []))
     (sym (lt-ltb last figures.number above))
@@ -302,7 +447,7 @@ approval-is-kept known number apdu terminal slot last figures at above =
 
 pub not-above-is-aside : NotAboveIsSetAside
 not-above-is-aside known number apdu terminal slot last figures at below =
-    served-leads known number apdu terminal slot last (heard.Approved figures) _ _ at (λ e. cc)
+    served-leads known number apdu terminal (Transaction slot) last (heard.Approved figures) _ _ at (λ e. cc) (λ is_shown. is_shown)
     (subst (λ (is_above : Bool). GoesOnTo number (Aside last figures.number) []
     (if is_above then resolves known number (taking terminal at.message known.moment) (Ready figures.number) (approved_outcome slot figures known.moment) else terminal_becomes known number (at_rest (taking terminal at.message known.moment) (Aside last figures.number)) []))
     (sym (le-ltb last figures.number below))
@@ -310,7 +455,7 @@ not-above-is-aside known number apdu terminal slot last figures at below =
 
 pub unclear-keeps-nothing : UnclearKeepsNothing
 unclear-keeps-nothing known number apdu terminal slot last at =
-    served-leads known number apdu terminal slot last heard.Unclear _ _ at (λ e. cc)
+    served-leads known number apdu terminal (Transaction slot) last heard.Unclear _ _ at (λ e. cc) (λ is_shown. is_shown)
     (record { terminal = _; found = new-is-there known.core.terminals number terminal _ at.found; standing_is = at.standing_is; calls_are = refl })
 
 -- what declines leaves whether the terminal was stopped
@@ -336,7 +481,7 @@ stop-stays dialogue_kind none (phases.Asked stop_wished) Other result_code repor
 stop-stays dialogue_kind none (phases.Begun stop_sent statuses) message result_code reported means = sent-either (is_completion_or_abort message) stop_sent (with_status statuses message)
 stop-stays dialogue_kind none (phases.Ended stop_sent) message result_code reported means = refl
 
-stopped-same : (talk : Option TalkFacts) (message : MessageValue) (moment result_code : ℕ) (reported : Option ℕ) → meaning_for talk message ≡ heard.Declined result_code reported
+pub stopped-same : (talk : Option TalkFacts) (message : MessageValue) (moment result_code : ℕ) (reported : Option ℕ) → meaning_for talk message ≡ heard.Declined result_code reported
     → was_stopped (option_map (λ t. next_talk t message (pos moment)) talk) ≡ was_stopped talk
 stopped-same None message moment result_code reported means = refl
 stopped-same (Some talk) message moment result_code reported means = by-taken (is_taken message)
@@ -347,7 +492,7 @@ stopped-same (Some talk) message moment result_code reported means = by-taken (i
 
 pub decline-is-kept : DeclineIsKept
 decline-is-kept known number apdu terminal slot last result_code reported at =
-    served-leads known number apdu terminal slot last (heard.Declined result_code reported) _ _ at (λ e. cc)
+    served-leads known number apdu terminal (Transaction slot) last (heard.Declined result_code reported) _ _ at (λ e. cc) (λ is_shown. is_shown)
     (record {
       terminal = _;
       found = new-is-there known.core.terminals number terminal _ at.found;

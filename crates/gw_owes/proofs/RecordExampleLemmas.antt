@@ -11,14 +11,16 @@ use Rattle.gw_base.specs.Setup.{IsPt, IsSetup}
 use Rattle.gw_base.specs.Transaction.{transaction_text}
 use Rattle.gw_base.specs.declared.setup.Pt.{Pt}
 use Rattle.jrn_record.specs.declared.records.Record.{Record}
-use Rattle.jrn_record.specs.declared.records.Record.TheVariants.{Intent, Outcome}
+use Rattle.sale_reply.specs.Limits.{IsHeaderWithinLimits}
+use Rattle.jrn_record.specs.declared.records.Record.TheVariants.{Intent, Outcome, Settled}
 use Rattle.zvt_msg.specs.declared.command.Command.TheVariants.{Stop}
 use Rattle.zvt_msg.specs.MessageDecode.{decode_pt_message}
 use Rattle.gw_ledger.specs.Accounts.{last_number_of}
 use Rattle.gw_ledger.specs.Example.{day}
 use Rattle.gw_ledger.specs.History.{history}
 use Rattle.gw_ledger.specs.Sums.{open_count_of}
-use Rattle.gw_ledger.specs.Premises.{ExampleOutcome, ExamplePayment, day_opened, fourth, fourth_approval, second_reversal}
+use Rattle.gw_ledger.specs.Keys.{settled_key}
+use Rattle.gw_ledger.specs.Premises.{ExampleOutcome, ExamplePayment, ExampleReconciliation, day_opened, day_settled, fourth, fourth_approval, second_reversal}
 use Rattle.gw_owes.specs.declared.terminal.Standing.TheVariants.{Ready}
 use Rattle.gw_owes.specs.declared.terminal.Terminal.{Terminal}
 use Rattle.gw_owes.specs.Calls.{Ask, OwedCall, SendPt, records_kept}
@@ -26,10 +28,10 @@ use Rattle.gw_owes.specs.Core.{new_terminal}
 use Rattle.gw_owes.specs.Items.{RoundItem, Asked}
 use Rattle.gw_owes.specs.Links.{LinkIsLost}
 use Rattle.gw_owes.specs.ReadAs.{Request}
-use Rattle.gw_owes.specs.RecordExample.{ExampleIntentKept, ExampleKeyStaysOpen, ExampleOutcomeKept, ExampleRequestBegins, ExampleReversalKept, ExampleStopKeepsNothing, fourth_asked, fourth_begins, fourth_stops, paying_terminal, ready_known, second_reverses, sends, serving_known}
-use Rattle.gw_owes.specs.RecordLaws.{EachCutKeepsInOrder, EachLinkKeepsInOrder, EachRowBringsReadItems, EachRowKeepsInOrder, IsInOrder, IsReadItem, IsTerminalInOrder, KeepsInOrder, IsReadFromTill}
+use Rattle.gw_owes.specs.RecordExample.{ExampleIntentKept, ExampleKeyStaysOpen, ExampleOutcomeKept, ExampleRequestBegins, ExampleReversalKept, ExampleSettledKept, ExampleStopKeepsNothing, day_ended, fourth_asked, fourth_begins, fourth_stops, paying_terminal, ready_known, second_reverses, sends, serving_known, settling_known, settling_terminal}
+use Rattle.gw_owes.specs.RecordLaws.{EachCutKeepsInOrder, EachLinkKeepsInOrder, EachRowBringsReadItems, EachRowKeepsInOrder, HasNoneOpen, IsInOrder, IsReadItem, IsTerminalInOrder, KeepsInOrder, IsReadFromTill}
 use Rattle.gw_owes.specs.Rows.{row_of}
-use Rattle.gw_owes.specs.StepExample.{abort_header, abort_of_service, day_pt, reversal_header, reversal_of_text}
+use Rattle.gw_owes.specs.StepExample.{abort_header, abort_of_service, day_pt, period_header, reversal_header, reversal_of_text}
 use Rattle.gw_owes.specs.TerminalExample.{setup_with}
 use Rattle.gw_owes.specs.TerminalLaws.{owes_cut}
 use Rattle.gw_owes.specs.TerminalRows.{terminal_row}
@@ -43,6 +45,7 @@ pub record RecordFacts : Type 0 where
   pub items : EachRowBringsReadItems
   pub ready : ExamplePayment
   pub opened : ExampleOutcome
+  pub reconciled : ExampleReconciliation
   pub read : IsReadFromTill fourth_asked
   pub reversed : IsReadFromTill (Request (reversal_header (codes "4")) (reversal_of_text (codes "000124-0017-2") None))
   pub aborted : IsReadFromTill (Request abort_header (abort_of_service (codes "4")))
@@ -81,34 +84,50 @@ one-terminal : (P : Terminal → Type 0) (one : Terminal) → P one → (number 
 one-terminal P one holds zero terminal found = subst P (same_Some one terminal found) holds
 one-terminal P one holds (suc number) terminal found = absurd cc
 
-day-room : length day + open_count_of day ≤ 1000000
+day-room : length day + (open_count_of day + 0) ≤ 1000000
 unfolding history
 day-room = lit≤ tt
 
-opened-room : length day_opened + open_count_of day_opened ≤ 1000000
+opened-room : length day_opened + (open_count_of day_opened + 0) ≤ 1000000
 unfolding history
 opened-room = lit≤ tt
+
+settling-room : length day + (open_count_of day + 1) ≤ 1000000
+unfolding history
+settling-room = lit≤ tt
+
+period-within : IsHeaderWithinLimits (period_header (codes "4"))
+period-within = record {
+  category = ident-tested 40 (codes "Reconciliation") refl;
+  service = ident-tested 10 (codes "4") refl;
+  device = tt;
+  sale = ident-tested 40 (codes "S") refl;
+  poi = ident-tested 40 (codes "A") refl;
+}
 
 opened-number : last_number_of day_opened (codes "A") ≤ 125
 unfolding history
 opened-number = lit≤ tt
 
 module _ (facts : RecordFacts) where
+  rests : HasNoneOpen day (codes "A") 125
+  rests = record { none_open = facts.ready.none_open; not_below = facts.ready.not_below; within = omega arith }
+
   ready-in-order : IsInOrder ready_known
   ready-in-order = record {
     folded = facts.ready.folded;
     room = day-room;
     of_setup = record { within = setup-within; settings = refl };
     moment = first-moment;
+    numbered = lit≤ tt;
     terminals = one-terminal (IsTerminalInOrder day) (record (new_terminal day_pt) { standing = Ready 125 })
-        (record { records = record { none_open = facts.ready.none_open; not_below = facts.ready.not_below; within = omega arith }; read = tt; few = omega arith });
+        (record { records = rests; read = tt });
   }
 
   paying-in-order : IsTerminalInOrder day_opened paying_terminal
   paying-in-order = record {
     records = record { intent = fourth; is_open = facts.opened.entry; before = refl; not_below = opened-number };
     read = record { amount = omega arith; trace = omega arith; receipt = omega arith };
-    few = omega arith;
   }
 
   serving-in-order : IsInOrder serving_known
@@ -117,7 +136,21 @@ module _ (facts : RecordFacts) where
     room = opened-room;
     of_setup = record { within = setup-within; settings = refl };
     moment = first-moment;
+    numbered = lit≤ tt;
     terminals = one-terminal (IsTerminalInOrder day_opened) paying_terminal paying-in-order;
+  }
+
+  settling-in-order : IsInOrder settling_known
+  settling-in-order = record {
+    folded = facts.reconciled.folded;
+    room = settling-room;
+    of_setup = record { within = setup-within; settings = refl };
+    moment = first-moment;
+    numbered = lit≤ tt;
+    terminals = one-terminal (IsTerminalInOrder day) settling_terminal (record {
+      records = record { rests = rests; heading = period-within; names = refl; period_is = refl; key = settled_key day_settled; key_is = refl; unknown = facts.reconciled.unknown };
+      read = tt;
+    });
   }
 
   -- each request names the terminal
@@ -158,6 +191,14 @@ outcome-uncut = refl
 unclear-cut : owes_cut (terminal_row serving_known (sends 0x06 0x1E)).calls ≡ true
 unfolding history decode_pt_message
 unclear-cut = refl
+
+settled-kept : records_kept (terminal_row settling_known (sends 0x06 0x0F)).calls ≡ Settled day_ended ∷ []
+unfolding history decode_pt_message
+settled-kept = refl
+
+settled-uncut : owes_cut (terminal_row settling_known (sends 0x06 0x0F)).calls ≡ false
+unfolding history decode_pt_message
+settled-uncut = refl
 
 reversal-kept : records_kept (terminal_row ready_known second_reverses).calls ≡ Intent second_reversal ∷ []
 unfolding history transaction_text digits
@@ -205,9 +246,9 @@ key-stays-open facts =
     record {
       in_order = serving-in-order facts;
       cut = unclear-cut;
-      none_kept = left.0;
-      others = left.1;
-      lost = facts.links (record serving_known { core = (terminal_row serving_known (sends 0x06 0x1E)).core }) 0 LinkIsLost left.1;
+      none_kept = left.none_kept;
+      others = left.others;
+      lost = (facts.links (record serving_known { core = (terminal_row serving_known (sends 0x06 0x1E)).core }) 0 LinkIsLost).terminals left.others;
     }
 
 pub reversal-is-kept : RecordFacts → ExampleReversalKept
@@ -227,4 +268,13 @@ stop-keeps-nothing facts = record {
   calls = stop-sent;
   keeps = subst (λ (calls : List OwedCall). KeepsInOrder serving_known (records_kept calls) (terminal_row serving_known fourth_stops).core) stop-sent
       (facts.rows serving_known fourth_stops (serving-in-order facts) (stops-read facts) (ap owes_cut stop-sent));
+}
+
+pub settled-is-kept : RecordFacts → ExampleSettledKept
+settled-is-kept facts = record {
+  in_order = settling-in-order facts;
+  uncut = settled-uncut;
+  kept = settled-kept;
+  keeps = subst (λ (kept : List Record). KeepsInOrder settling_known kept (terminal_row settling_known (sends 0x06 0x0F)).core) settled-kept
+      (facts.rows settling_known (sends 0x06 0x0F) (settling-in-order facts) tt settled-uncut);
 }

@@ -1,6 +1,6 @@
 -- What one more record says of a terminal, and leaves of the others.
 use Rattle.std.proofs.Common.{◌≡◌, ◌≢◌, ◌∙◌, ℕ, zero, suc, ◌<◌, ◌≤◌, eqb, leb, max, Bool, true, false, ◌&&◌, not, List, [], ◌∷◌, ◌++◌, length, Option, Some, None, is_some, IsTrue, slice_get, refl, sym, ap, subst, arith, append_assoc}
-use Rattle.std.specs.Prelude.{if◌then◌else◌, option_and_then, option_map}
+use Rattle.std.specs.Prelude.{if◌then◌else◌, option_and_then, option_map, pos}
 use Rattle.std.specs.Ordering.{is_eq, nat_cmp}
 use Rattle.std.specs.Cmp.Lexicographic.{slice_cmp}
 use Rattle.std.specs.declared.cmp.Ordering.{Ordering}
@@ -12,18 +12,24 @@ use Rattle.std.proofs.lemmas.List.{append-nil}
 use Rattle.std.proofs.lemmas.List.Elements.{All-push}
 use Rattle.std.proofs.lemmas.Map.Lookups.{exact_bytes}
 use Rattle.std.proofs.lemmas.Option.{same_Some}
+use Rattle.gw_base.specs.declared.currency.Currency.TheVariants.{Eur}
+use Rattle.gw_base.specs.declared.key.Key.{Key}
+use Rattle.gw_base.specs.Key.{key_cmp}
+use Rattle.gw_base.proofs.KeyLemmas.{key_cmp-ties}
 use Rattle.jrn_record.specs.Limits.{IsRecord}
+use Rattle.jrn_record.specs.declared.records.How.TheVariants as hows
 use Rattle.jrn_record.specs.declared.records.Intent.{Intent as TheIntent}
 use Rattle.jrn_record.specs.declared.records.Outcome.{Outcome as TheOutcome}
+use Rattle.jrn_record.specs.declared.records.Settled.{Settled as TheSettled}
 use Rattle.jrn_record.specs.declared.records.Record.{Record}
 use Rattle.jrn_record.specs.declared.records.Record.TheVariants.{Intent, Outcome, Settled}
 use Rattle.gw_ledger.specs.declared.account.Account.{Account}
 use Rattle.gw_ledger.specs.declared.entry.Entry.{Entry as TheEntry}
 use Rattle.gw_ledger.specs.Accounts.{account_in, account_of, account_with, is_poi, last_number_of, open_slot, poi_of}
-use Rattle.gw_ledger.specs.Fold.{AreFolded, FitBy, fits, fits_beside_key, has_fitting_original, is_unknown, open_entry}
+use Rattle.gw_ledger.specs.Fold.{AreFolded, FitBy, fits, fits_beside_key, found_by, found_of, has_fitting_original, is_unknown, open_entry}
 use Rattle.gw_ledger.specs.History.{history, same_text}
-use Rattle.gw_ledger.specs.Keys.{intent_key}
-use Rattle.gw_ledger.specs.Laws.{NewestIsFirst, OpenSlotIsOpen, CountIsOfOpenSlots, EntriesAreWithin, NamedIsEntry, PaymentFits, ReversalFits, OutcomeFits, count_below, poi_at}
+use Rattle.gw_ledger.specs.Keys.{intent_key, is_key, record_key, same_key, slot_in, slot_of}
+use Rattle.gw_ledger.specs.Laws.{NewestIsFirst, OpenSlotIsOpen, CountIsOfOpenSlots, EntriesAreWithin, NamedIsEntry, PaymentFits, ReversalFits, OutcomeFits, SettledFits, count_below, poi_at}
 use Rattle.gw_ledger.specs.Slots.{as_intent, ended_at, ended_in, entry_at, entry_with, intent_at, is_open, is_outcome_of}
 use Rattle.gw_ledger.specs.Sums.{one_if, open_count_of, open_in, open_with}
 
@@ -39,6 +45,7 @@ pub record LedgerLaws : Type 0 where
   pub payment : PaymentFits
   pub reversal : ReversalFits
   pub outcome : OutcomeFits
+  pub settled : SettledFits
 
 -- ---- texts
 
@@ -61,6 +68,25 @@ apart-texts a b apart = by-test (same_text a b) refl
     by-test : (test : Bool) → same_text a b ≡ test → same_text a b ≡ false
     by-test true is = absurd (apart (same-text-is a b is))
     by-test false is = is
+
+-- ---- keys
+
+-- a key that is the same as another
+pub same-key-is : (key other : Key) → same_key key other ≡ true → key ≡ other
+same-key-is key other same = (key_cmp-ties key other).0 (equal-ordering (key_cmp key other) same)
+
+-- keys that aren't
+pub apart-keys : (key other : Key) → key ≢ other → same_key key other ≡ false
+apart-keys key other apart = by-test (same_key key other) refl
+  where
+    by-test : (test : Bool) → same_key key other ≡ test → same_key key other ≡ false
+    by-test true is = absurd (apart (same-key-is key other is))
+    by-test false is = is
+
+-- whichever comes first
+pub apart-keys-turned : (key other : Key) → same_key key other ≡ false → same_key other key ≡ false
+apart-keys-turned key other apart =
+    apart-keys other key (λ same. let is : same_key key other ≡ true = ap (λ (k : Key). same_key key k) same ∙ ap is_eq ((key_cmp-ties key key).1 refl) in absurd cc)
 
 -- ---- lists
 
@@ -229,6 +255,29 @@ module _ (laws : LedgerLaws) (kept : List Record) (folded : AreFolded kept) wher
   pub open-within : (poi : List ℕ) (slot : ℕ) (intent : TheIntent) → IsOpenWith kept poi slot intent → slot < length kept
   open-within poi slot intent opened = intent-within kept slot intent opened.intent_is
 
+-- ---- a key
+
+-- a Settled that has this key
+abbrev settled_with : Key → TheSettled
+settled_with key = record { how = hows.Sale; sale = key.sale; poi = key.poi; service = key.service; currency = Eur; moment = pos 0 }
+
+-- a key under which nothing is found is in no slot
+pub key-in-none : (laws : LedgerLaws) (kept : List Record) → AreFolded kept → (key : Key) → found_of kept key ≡ None → slot_of kept key ≡ None
+key-in-none laws kept folded key unknown =
+    let fitting : fits kept (Settled (settled_with key)) ≡ true = laws.settled kept folded (settled_with key) unknown in
+    by-slot (slot_of kept key) (and_parts (is_unknown kept key) true fitting).0
+  where
+    by-slot : (slot : Option ℕ) → not (is_some slot) ≡ true → slot ≡ None
+    by-slot None none = refl
+    by-slot (Some slot) none = absurd cc
+
+-- nor is anything once one more record is kept that hasn't the key
+pub still-unknown : (laws : LedgerLaws) (kept : List Record) (next : Record) → AreFolded kept → (key : Key) → is_key key (record_key next) ≡ false → found_of kept key ≡ None → found_of (kept ++ next ∷ []) key ≡ None
+still-unknown laws kept next folded key apart unknown =
+    let none : slot_of (kept ++ next ∷ []) key ≡ None =
+    ap (slot_in key) (laws.newest kept next) ∙ ap (λ (b : Bool). if b then Some (length kept) else slot_of kept key) apart ∙ key-in-none laws kept folded key unknown in
+    ap (option_and_then (λ (slot : ℕ). option_and_then (found_by (kept ++ next ∷ []) slot) (slice_get (kept ++ next ∷ []) slot))) none
+
 -- ---- one more record
 
 module _ (laws : LedgerLaws) (kept : List Record) (next : Record) where
@@ -285,6 +334,50 @@ module _ (laws : LedgerLaws) (kept : List Record) (next : Record) where
               ap (is_poi poi) here ∙ ap (same_text poi) (sym (open-poi laws kept folded poi slot intent opened)) ∙ same-text-itself poi in
               absurd cc
       by-record (Settled settled) lacks = refl
+
+-- one more record leaves a terminal's open slot and its last trace number
+pub record LeavesTerminal (kept : List Record) (next : Record) (poi : List ℕ) : Type 0 where
+  pub slot_stays : open_slot (kept ++ next ∷ []) poi ≡ open_slot kept poi
+  pub number_stays : last_number_of (kept ++ next ∷ []) poi ≡ last_number_of kept poi
+  pub open_stays : (slot : ℕ) (intent : TheIntent) → IsOpenWith kept poi slot intent → IsOpenWith (kept ++ next ∷ []) poi slot intent
+
+-- so does one of another terminal
+pub other-leaves : (laws : LedgerLaws) (kept : List Record) (next : Record) (poi : List ℕ) → AreFolded kept → is_poi poi (poi_of kept next) ≡ false → LeavesTerminal kept next poi
+other-leaves laws kept next poi folded apart = record {
+  slot_stays = other-slot laws kept next poi apart;
+  number_stays = other-number laws kept next poi apart;
+  open_stays = λ slot intent opened. other-open laws kept next folded poi slot intent apart opened;
+}
+
+-- a Settled leaves an account with its open slot and its last number
+record LeavesAccount (before after : Account) : Type 0 where
+  slot_stays : after.unresolved ≡ before.unresolved
+  number_stays : after.trace ≡ before.trace
+
+settled-account : (laws : LedgerLaws) (kept : List Record) (settled : TheSettled) (poi : List ℕ) → LeavesAccount (account_of kept poi) (account_of (kept ++ Settled settled ∷ []) poi)
+settled-account laws kept settled poi = by-poi (is_poi poi (Some settled.poi)) refl
+  where
+    by-poi : (b : Bool) → is_poi poi (Some settled.poi) ≡ b → LeavesAccount (account_of kept poi) (account_of (kept ++ Settled settled ∷ []) poi)
+    by-poi true own =
+        let after = own-account laws kept (Settled settled) poi own in
+        record { slot_stays = ap (λ (a : Account). a.unresolved) after; number_stays = ap (λ (a : Account). a.trace) after }
+    by-poi false apart =
+        let after = other-account laws kept (Settled settled) poi apart in
+        record { slot_stays = ap (λ (a : Account). a.unresolved) after; number_stays = ap (λ (a : Account). a.trace) after }
+
+-- and a Settled of any
+pub settled-leaves : (laws : LedgerLaws) (kept : List Record) (settled : TheSettled) (poi : List ℕ) → LeavesTerminal kept (Settled settled) poi
+settled-leaves laws kept settled poi =
+    let left = settled-account laws kept settled poi in
+    record {
+      slot_stays = left.slot_stays;
+      number_stays = left.number_stays;
+      open_stays = λ slot intent opened. record {
+        slot_is = left.slot_stays ∙ opened.slot_is;
+        intent_is = intent-stays kept (Settled settled ∷ []) slot intent opened.intent_is;
+        unended = unended-stays laws kept (Settled settled) slot refl opened.unended;
+      };
+    }
 
 -- the next record is an Intent of the terminal: it is its open entry
 pub intent-opens : (laws : LedgerLaws) (kept : List Record) (intent : TheIntent) → IsOpenWith (kept ++ Intent intent ∷ []) intent.poi (length kept) intent

@@ -5,6 +5,7 @@ use Rattle.std.proofs.lemmas.Option.{same_Some}
 use Rattle.std.specs.Prelude.{is_some, not, ◌&&◌, if◌then◌else◌, List, Option, Some, None}
 use Rattle.gw_base.specs.declared.condition.Condition.{Condition}
 use Rattle.gw_base.specs.declared.condition.Condition.TheVariants.{Aborted, Busy, Cancel, InProgress, InsertedCard, InvalidCard, LoggedOut, MessageFormat, NotAllowed, NotFound, Refusal, UnavailableDevice, UnavailableService}
+use Rattle.gw_base.specs.declared.key.Key.{Key}
 use Rattle.sale_values.specs.declared.header.Header.{Header}
 use Rattle.sale_values.specs.declared.request.ReversalAsk.{ReversalAsk}
 use Rattle.sale_values.specs.declared.request.SaleRequest.TheVariants as requests
@@ -20,14 +21,16 @@ use Rattle.xlate.specs.Reply.{result_body_of}
 use Rattle.gw_owes.specs.declared.terminal.Standing.{Standing}
 use Rattle.gw_owes.specs.declared.terminal.Standing.TheVariants.{Unlinked, Registering, Enquiring, Ready, Serving, Aside}
 use Rattle.gw_owes.specs.Content.{has_same_content, is_same_amount}
+use Rattle.gw_owes.specs.Days.{is_day_key, is_key_of_day, serves_day}
 use Rattle.gw_owes.specs.Diagnosis.{NamedTerminal, named_terminal}
-use Rattle.gw_owes.specs.KeptReplies.{found_for}
+use Rattle.gw_owes.specs.KeptReplies.{found_for, own_key}
 use Rattle.gw_owes.specs.PaymentLaws.{IsReversible}
 use Rattle.gw_owes.specs.Replies.{failure, failure_reply}
 use Rattle.gw_owes.specs.Requests.{request_reply}
-use Rattle.gw_owes.specs.ReversalLaws.{IsNewAtTerminal, NamesIrreversible, NamesReversible, ServesAnother, IsReadyThere, RefusesReversal, ReversalBegins, ReversalIsAgain, ReversalIsRefused, EachReversalBeginsOrIsReplied, EachCauseIsReplied, EachFailureHasItsCause, UnnamedIsNotFound, IrreversibleIsNotAllowed, ReversibleBegins}
+use Rattle.gw_owes.specs.ReversalLaws.{KeyIsOfDay, IsNewAtTerminal, IsNewOfTill, NamesIrreversible, NamesReversible, ServesAnother, IsReadyThere, RefusesReversal, ReversalBegins, ReversalIsAgain, ReversalIsRefused, EachReversalBeginsOrIsReplied, EachCauseIsReplied, EachFailureHasItsCause, UnnamedIsNotFound, IrreversibleIsNotAllowed, ReversibleBegins}
 use Rattle.gw_owes.specs.Reversals.{original_of, is_whole_of, may_be_reversed, is_irreversible}
 use Rattle.gw_owes.specs.Row.{Known}
+use Rattle.gw_owes.specs.Sessions.{is_logged_out}
 use Rattle.gw_owes.specs.Steps.{StepResult, Fails, Begins, is_used_up, lacks_room, is_out_of_service, is_ready_standing, is_unavailable, is_ready, first_result, steps, step_result, reply_of_result}
 use Rattle.gw_owes.proofs.ReversalLemmas.{names-original}
 use Rattle.gw_owes.proofs.StepLemmas.{each-on-record-is-replied}
@@ -64,15 +67,57 @@ abbrev result-by : Bool → Bool → Bool → Bool → Bool → Bool → StepRes
 result-by unnamed irreversible used_up no_room unavailable ready =
     if unnamed then Fails NotFound else (if irreversible then Fails NotAllowed else (if used_up then Fails UnavailableService else (if no_room then Fails UnavailableService else (if unavailable then Fails UnavailableDevice else (if ready then Begins else Fails Busy)))))
 
+-- the same, whether the SaleID is logged out there or not
+abbrev result-where : Bool → Bool → Bool → Bool → Bool → Bool → Bool → StepResult
+result-where logged_out unnamed irreversible used_up no_room unavailable ready = if logged_out then Fails LoggedOut else result-by unnamed irreversible used_up no_room unavailable ready
+
+-- the same, whether a terminal is named or not
+abbrev result-from : Bool → Bool → Bool → Bool → Bool → Bool → Bool → Bool → StepResult
+result-from unconfigured logged_out unnamed irreversible used_up no_room unavailable ready =
+    if unconfigured then Fails UnavailableDevice else result-where logged_out unnamed irreversible used_up no_room unavailable ready
+
+-- the same, whether the key is that of the end of day that is served or not
+abbrev result-apart : Bool → Bool → Bool → Bool → Bool → Bool → Bool → Bool → Bool → StepResult
+result-apart day unconfigured logged_out unnamed irreversible used_up no_room unavailable ready =
+    if day && false then Fails InProgress else (if day then Fails NotAllowed else result-from unconfigured logged_out unnamed irreversible used_up no_room unavailable ready)
+
 -- the result of the steps, by what the records have under the key
 abbrev result-of : Known → Header → ReversalAsk → Option NamedTerminal → Option Found → StepResult
 result-of known header reversal named found = first_result (Fails Busy) (steps known header (requests.Reversal reversal) found named)
 
-new-result : (known : Known) (header : Header) (reversal : ReversalAsk) (named : NamedTerminal) → found_for known.kept header ≡ None
+-- where the key is that of the end of day that is served
+day-result : (known : Known) (header : Header) (reversal : ReversalAsk) (named : NamedTerminal) → found_for known.kept header ≡ None → is_day_key header (Some named) ≡ true
+    → step_result known header (requests.Reversal reversal) (Some named) ≡ Fails NotAllowed
+day-result known header reversal named none day =
+    ap (result-of known header reversal (Some named)) none
+    ∙ ap (λ (b : Bool). result-apart b false (is_logged_out known.core header.sale header.poi) (not (is_some (original_of known.kept header.poi reversal))) (is_irreversible known.kept reversal (original_of known.kept header.poi reversal)) (is_used_up known.kept header.poi (Some named))
+    (lacks_room known.setup.slots known.kept known.core.terminals) (is_unavailable (Some named)) (is_ready (Some named))) day
+
+new-result : (known : Known) (header : Header) (reversal : ReversalAsk) (named : NamedTerminal) → found_for known.kept header ≡ None → is_day_key header (Some named) ≡ false → is_logged_out known.core header.sale header.poi ≡ false
     → step_result known header (requests.Reversal reversal) (Some named)
-    ≡ result-by (not (is_some (original_of known.kept header.poi reversal))) (is_irreversible known.kept reversal (original_of known.kept header.poi reversal)) (is_used_up known.kept header.poi (Some named)) (lacks_room known.setup.slots known.kept)
-    (is_unavailable (Some named)) (is_ready (Some named))
-new-result known header reversal named none = ap (result-of known header reversal (Some named)) none
+    ≡ result-by (not (is_some (original_of known.kept header.poi reversal))) (is_irreversible known.kept reversal (original_of known.kept header.poi reversal)) (is_used_up known.kept header.poi (Some named)) (lacks_room known.setup.slots known.kept known.core.terminals) (is_unavailable (Some named)) (is_ready (Some named))
+new-result known header reversal named none no_day logged_in =
+    ap (result-of known header reversal (Some named)) none
+    ∙ ap (λ (b : Bool). result-apart b false (is_logged_out known.core header.sale header.poi) (not (is_some (original_of known.kept header.poi reversal))) (is_irreversible known.kept reversal (original_of known.kept header.poi reversal)) (is_used_up known.kept header.poi (Some named))
+    (lacks_room known.setup.slots known.kept known.core.terminals) (is_unavailable (Some named)) (is_ready (Some named))) no_day
+    ∙ ap (λ (out : Bool). result-where out (not (is_some (original_of known.kept header.poi reversal))) (is_irreversible known.kept reversal (original_of known.kept header.poi reversal)) (is_used_up known.kept header.poi (Some named))
+    (lacks_room known.setup.slots known.kept known.core.terminals) (is_unavailable (Some named)) (is_ready (Some named))) logged_in
+
+-- a POIID that names no terminal names none that serves an end of day
+pub unnamed-no-day : (header : Header) → is_day_key header None ≡ false
+unnamed-no-day header = by-key (own_key header)
+  where
+    by-key : (key : Option Key) → is_key_of_day key None ≡ false
+    by-key None = refl
+    by-key (Some key) = refl
+
+-- and one that is ready serves none
+ready-no-day : (header : Header) (named : NamedTerminal) (last : ℕ) → named.terminal.standing ≡ Ready last → is_day_key header (Some named) ≡ false
+ready-no-day header named last ready = by-key (own_key header)
+  where
+    by-key : (key : Option Key) → is_key_of_day key (Some named) ≡ false
+    by-key None = refl
+    by-key (Some key) = ap (serves_day key) ready
 
 -- the reply, by the terminal that is named and the result
 reply-by : (known : Known) (header : Header) (reversal : ReversalAsk) (named : Option NamedTerminal) (result : StepResult) → named_terminal known.core header.poi ≡ named → step_result known header (requests.Reversal reversal) named ≡ result
@@ -114,37 +159,42 @@ serves-another named (Serving service last) is out ready = record { terminal = n
 serves-another named (Aside before reported) is out ready = absurd cc
 
 -- its key is new, and its POIID names this terminal
-new-at : (known : Known) (header : Header) (named : NamedTerminal) → found_for known.kept header ≡ None → IsNewAtTerminal known header (Some named)
-new-at known header named none = record { unknown = none; terminal = named; is_named = refl }
+new-at : (known : Known) (header : Header) (named : NamedTerminal) → found_for known.kept header ≡ None → is_day_key header (Some named) ≡ false → IsNewAtTerminal known header (Some named)
+new-at known header named none no_day = record { unknown = none; no_day = no_day; terminal = named; is_named = refl }
+
+-- and its SaleID isn't logged out there
+logged-in-at : (known : Known) (header : Header) (named : NamedTerminal) → found_for known.kept header ≡ None → is_day_key header (Some named) ≡ false → is_logged_out known.core header.sale header.poi ≡ false → IsNewOfTill known header (Some named)
+logged-in-at known header named none no_day logged_in = record { new = new-at known header named none no_day; logged_in = logged_in }
 
 -- and its text names an entry that may be reversed
-names-reversible : (known : Known) (header : Header) (reversal : ReversalAsk) (named : NamedTerminal) → found_for known.kept header ≡ None → not (is_some (original_of known.kept header.poi reversal)) ≡ false
+names-reversible : (known : Known) (header : Header) (reversal : ReversalAsk) (named : NamedTerminal) → found_for known.kept header ≡ None → is_day_key header (Some named) ≡ false → is_logged_out known.core header.sale header.poi ≡ false
+    → not (is_some (original_of known.kept header.poi reversal)) ≡ false
     → is_irreversible known.kept reversal (original_of known.kept header.poi reversal) ≡ false → NamesReversible known header reversal (Some named)
-names-reversible known header reversal named none names may =
+names-reversible known header reversal named none no_day logged_in names may =
     let original = names-original known.kept header.poi reversal names may in
-    record { new = new-at known header named none; original = original.original; original_is = original.named; approval = original.approval; reversible = original.reversible }
+    record { new = logged-in-at known header named none no_day logged_in; original = original.original; original_is = original.named; approval = original.approval; reversible = original.reversible }
 
-replied-new : (known : Known) (header : Header) (reversal : ReversalAsk) (named : NamedTerminal) → named_terminal known.core header.poi ≡ Some named → found_for known.kept header ≡ None
+replied-new : (known : Known) (header : Header) (reversal : ReversalAsk) (named : NamedTerminal) → named_terminal known.core header.poi ≡ Some named → found_for known.kept header ≡ None → is_day_key header (Some named) ≡ false → is_logged_out known.core header.sale header.poi ≡ false
     → (unnamed irreversible used_up no_room unavailable ready : Bool) → not (is_some (original_of known.kept header.poi reversal)) ≡ unnamed → is_irreversible known.kept reversal (original_of known.kept header.poi reversal) ≡ irreversible
-    → is_used_up known.kept header.poi (Some named) ≡ used_up → lacks_room known.setup.slots known.kept ≡ no_room → is_unavailable (Some named) ≡ unavailable → is_ready (Some named) ≡ ready
+    → is_used_up known.kept header.poi (Some named) ≡ used_up → lacks_room known.setup.slots known.kept known.core.terminals ≡ no_room → is_unavailable (Some named) ≡ unavailable → is_ready (Some named) ≡ ready
     → step_result known header (requests.Reversal reversal) (Some named) ≡ result-by unnamed irreversible used_up no_room unavailable ready → BeginsOrIsReplied known header reversal (Some named)
-replied-new known header reversal named named_is none true irreversible used_up no_room unavailable ready names may number room out is_ready_at result =
-    refused known header reversal (Some named) NotFound named_is (new-at known header named none, unnamed-none (original_of known.kept header.poi reversal) names) result
-replied-new known header reversal named named_is none false true used_up no_room unavailable ready names may number room out is_ready_at result =
-    refused known header reversal (Some named) NotAllowed named_is (inr (new-at known header named none, irreversible-by known header reversal (original_of known.kept header.poi reversal) refl may)) result
-replied-new known header reversal named named_is none false false true no_room unavailable ready names may number room out is_ready_at result =
-    refused known header reversal (Some named) UnavailableService named_is (names-reversible known header reversal named none names may, inl number) result
-replied-new known header reversal named named_is none false false false true unavailable ready names may number room out is_ready_at result =
-    refused known header reversal (Some named) UnavailableService named_is (names-reversible known header reversal named none names may, inr room) result
-replied-new known header reversal named named_is none false false false false true ready names may number room out is_ready_at result =
+replied-new known header reversal named named_is none no_day logged_in true irreversible used_up no_room unavailable ready names may number room out is_ready_at result =
+    refused known header reversal (Some named) NotFound named_is (logged-in-at known header named none no_day logged_in, unnamed-none (original_of known.kept header.poi reversal) names) result
+replied-new known header reversal named named_is none no_day logged_in false true used_up no_room unavailable ready names may number room out is_ready_at result =
+    refused known header reversal (Some named) NotAllowed named_is (inr (inr (logged-in-at known header named none no_day logged_in, irreversible-by known header reversal (original_of known.kept header.poi reversal) refl may))) result
+replied-new known header reversal named named_is none no_day logged_in false false true no_room unavailable ready names may number room out is_ready_at result =
+    refused known header reversal (Some named) UnavailableService named_is (names-reversible known header reversal named none no_day logged_in names may, inl number) result
+replied-new known header reversal named named_is none no_day logged_in false false false true unavailable ready names may number room out is_ready_at result =
+    refused known header reversal (Some named) UnavailableService named_is (names-reversible known header reversal named none no_day logged_in names may, inr room) result
+replied-new known header reversal named named_is none no_day logged_in false false false false true ready names may number room out is_ready_at result =
     refused known header reversal (Some named) UnavailableDevice named_is
-    (inr (record { names = names-reversible known header reversal named none names may; number = number; room = room }, record { terminal = named; is_named = refl; out = out })) result
-replied-new known header reversal named named_is none false false false false false false names may number room out is_ready_at result =
+    (inr (record { names = names-reversible known header reversal named none no_day logged_in names may; number = number; room = room }, record { terminal = named; is_named = refl; out = out })) result
+replied-new known header reversal named named_is none no_day logged_in false false false false false false names may number room out is_ready_at result =
     refused known header reversal (Some named) Busy named_is
-    (record { names = names-reversible known header reversal named none names may; number = number; room = room }, serves-another named named.terminal.standing refl out is_ready_at) result
-replied-new known header reversal named named_is none false false false false false true names may number room out is_ready_at result =
+    (record { names = names-reversible known header reversal named none no_day logged_in names may; number = number; room = room }, serves-another named named.terminal.standing refl out is_ready_at) result
+replied-new known header reversal named named_is none no_day logged_in false false false false false true names may number room out is_ready_at result =
     inl (record {
-      passes = record { names = names-reversible known header reversal named none names may; number = number; room = room };
+      passes = record { names = names-reversible known header reversal named none no_day logged_in names may; number = number; room = room };
       there = ready-there named named.terminal.standing refl is_ready_at;
       begins = result;
       no_reply = reply-by known header reversal (Some named) Begins named_is result;
@@ -152,9 +202,27 @@ replied-new known header reversal named named_is none false false false false fa
 
 -- by the terminal that the POIID names
 replied-at : (known : Known) (header : Header) (reversal : ReversalAsk) (named : Option NamedTerminal) → named_terminal known.core header.poi ≡ named → found_for known.kept header ≡ None → BeginsOrIsReplied known header reversal named
-replied-at known header reversal None named_is none = refused known header reversal None UnavailableDevice named_is (inl (none, refl)) (ap (result-of known header reversal None) none)
-replied-at known header reversal (Some named) named_is none =
-    replied-new known header reversal named named_is none _ _ _ _ _ _ refl refl refl refl refl refl (new-result known header reversal named none)
+replied-at known header reversal None named_is none =
+    refused known header reversal None UnavailableDevice named_is (inl (none, refl))
+    (ap (result-of known header reversal None) none
+    ∙ ap (λ (b : Bool). result-apart b true (is_logged_out known.core header.sale header.poi) (not (is_some (original_of known.kept header.poi reversal))) (is_irreversible known.kept reversal (original_of known.kept header.poi reversal)) (is_used_up known.kept header.poi None)
+    (lacks_room known.setup.slots known.kept known.core.terminals) (is_unavailable None) (is_ready None)) (unnamed-no-day header))
+replied-at known header reversal (Some named) named_is none = by-day (is_day_key header (Some named)) refl
+  where
+    by-session : is_day_key header (Some named) ≡ false → (out : Bool) → is_logged_out known.core header.sale header.poi ≡ out → BeginsOrIsReplied known header reversal (Some named)
+    by-session no_day true out =
+        refused known header reversal (Some named) LoggedOut named_is (new-at known header named none no_day, out)
+        (ap (result-of known header reversal (Some named)) none
+        ∙ ap (λ (b : Bool). result-apart b false (is_logged_out known.core header.sale header.poi) (not (is_some (original_of known.kept header.poi reversal))) (is_irreversible known.kept reversal (original_of known.kept header.poi reversal)) (is_used_up known.kept header.poi (Some named))
+        (lacks_room known.setup.slots known.kept known.core.terminals) (is_unavailable (Some named)) (is_ready (Some named))) no_day
+        ∙ ap (λ (b : Bool). result-where b (not (is_some (original_of known.kept header.poi reversal))) (is_irreversible known.kept reversal (original_of known.kept header.poi reversal)) (is_used_up known.kept header.poi (Some named))
+        (lacks_room known.setup.slots known.kept known.core.terminals) (is_unavailable (Some named)) (is_ready (Some named))) out)
+    by-session no_day false logged_in =
+        replied-new known header reversal named named_is none no_day logged_in _ _ _ _ _ _ refl refl refl refl refl refl (new-result known header reversal named none no_day logged_in)
+
+    by-day : (day : Bool) → is_day_key header (Some named) ≡ day → BeginsOrIsReplied known header reversal (Some named)
+    by-day true day = refused known header reversal (Some named) NotAllowed named_is (inr (inl (record { unknown = none; day = day }))) (day-result known header reversal named none day)
+    by-day false no_day = by-session no_day (is_logged_out known.core header.sale header.poi) refl
 
 -- ---- a key on record
 
@@ -181,10 +249,10 @@ each-reversal-is-replied known header reversal = replied-by known header reversa
 -- ---- each reason
 
 pub unnamed-is-not-found : UnnamedIsNotFound
-unnamed-is-not-found known header reversal named named_is none unnamed =
+unnamed-is-not-found known header reversal named named_is none no_day logged_in unnamed =
     reply-by known header reversal (Some named) (Fails NotFound) named_is
-    (new-result known header reversal named none
-    ∙ ap (λ (found : Option TheEntry). result-by (not (is_some found)) (is_irreversible known.kept reversal found) (is_used_up known.kept header.poi (Some named)) (lacks_room known.setup.slots known.kept) (is_unavailable (Some named)) (is_ready (Some named))) unnamed)
+    (new-result known header reversal named none no_day logged_in
+    ∙ ap (λ (found : Option TheEntry). result-by (not (is_some found)) (is_irreversible known.kept reversal found) (is_used_up known.kept header.poi (Some named)) (lacks_room known.setup.slots known.kept known.core.terminals) (is_unavailable (Some named)) (is_ready (Some named))) unnamed)
 
 -- by whether the entry that is named may be reversed
 may-by : (known : Known) (header : Header) (reversal : ReversalAsk) (original : TheEntry) (may : Bool) → original_of known.kept header.poi reversal ≡ Some original → may_be_reversed known.kept reversal original ≡ may
@@ -199,17 +267,22 @@ may-by known header reversal original true is may irreversible =
     some-same one other same = cc
 
 pub irreversible-is-not-allowed : IrreversibleIsNotAllowed
-irreversible-is-not-allowed known header reversal named named_is none names =
-    let may_not : may_be_reversed known.kept reversal names.original ≡ false = may-by known header reversal names.original (may_be_reversed known.kept reversal names.original) names.named refl names.irreversible in
-    reply-by known header reversal (Some named) (Fails NotAllowed) named_is
-    (new-result known header reversal named none
-    ∙ ap (λ (found : Option TheEntry). result-by (not (is_some found)) (is_irreversible known.kept reversal found) (is_used_up known.kept header.poi (Some named)) (lacks_room known.setup.slots known.kept) (is_unavailable (Some named)) (is_ready (Some named))) names.named
-    ∙ ap (λ (may : Bool). result-by false (not may) (is_used_up known.kept header.poi (Some named)) (lacks_room known.setup.slots known.kept) (is_unavailable (Some named)) (is_ready (Some named))) may_not)
+irreversible-is-not-allowed known header reversal named named_is none logged_in names = reply-by known header reversal (Some named) (Fails NotAllowed) named_is (by-day (is_day_key header (Some named)) refl)
+  where
+    may_not : may_be_reversed known.kept reversal names.original ≡ false
+    may_not = may-by known header reversal names.original (may_be_reversed known.kept reversal names.original) names.named refl names.irreversible
+
+    by-day : (day : Bool) → is_day_key header (Some named) ≡ day → step_result known header (requests.Reversal reversal) (Some named) ≡ Fails NotAllowed
+    by-day true day = day-result known header reversal named none day
+    by-day false no_day =
+        new-result known header reversal named none no_day logged_in
+        ∙ ap (λ (found : Option TheEntry). result-by (not (is_some found)) (is_irreversible known.kept reversal found) (is_used_up known.kept header.poi (Some named)) (lacks_room known.setup.slots known.kept known.core.terminals) (is_unavailable (Some named)) (is_ready (Some named))) names.named
+        ∙ ap (λ (may : Bool). result-by false (not may) (is_used_up known.kept header.poi (Some named)) (lacks_room known.setup.slots known.kept known.core.terminals) (is_unavailable (Some named)) (is_ready (Some named))) may_not
 
 pub reversible-begins : ReversibleBegins
-reversible-begins known header reversal named last original approval named_is ready none is reversible number room = record {
+reversible-begins known header reversal named last original approval named_is ready none logged_in is reversible number room = record {
   passes = record {
-    names = record { new = new-at known header named none; original = original; original_is = is; approval = approval; reversible = reversible };
+    names = record { new = logged-in-at known header named none (ready-no-day header named last ready) logged_in; original = original; original_is = is; approval = approval; reversible = reversible };
     number = number;
     room = room;
   };
@@ -220,62 +293,66 @@ reversible-begins known header reversal named last original approval named_is re
   where
     begins : step_result known header (requests.Reversal reversal) (Some named) ≡ Begins
     begins =
-        new-result known header reversal named none
-        ∙ ap (λ (found : Option TheEntry). result-by (not (is_some found)) (is_irreversible known.kept reversal found) (is_used_up known.kept header.poi (Some named)) (lacks_room known.setup.slots known.kept) (is_unavailable (Some named)) (is_ready (Some named))) is
-        ∙ ap (λ (may : Bool). result-by false (not may) (is_used_up known.kept header.poi (Some named)) (lacks_room known.setup.slots known.kept) (is_unavailable (Some named)) (is_ready (Some named))) (may-reverse known.kept reversal original approval reversible)
-        ∙ ap (λ (used_up : Bool). result-by false false used_up (lacks_room known.setup.slots known.kept) (is_unavailable (Some named)) (is_ready (Some named))) number
+        new-result known header reversal named none (ready-no-day header named last ready) logged_in
+        ∙ ap (λ (found : Option TheEntry). result-by (not (is_some found)) (is_irreversible known.kept reversal found) (is_used_up known.kept header.poi (Some named)) (lacks_room known.setup.slots known.kept known.core.terminals) (is_unavailable (Some named)) (is_ready (Some named))) is
+        ∙ ap (λ (may : Bool). result-by false (not may) (is_used_up known.kept header.poi (Some named)) (lacks_room known.setup.slots known.kept known.core.terminals) (is_unavailable (Some named)) (is_ready (Some named))) (may-reverse known.kept reversal original approval reversible)
+        ∙ ap (λ (used_up : Bool). result-by false false used_up (lacks_room known.setup.slots known.kept known.core.terminals) (is_unavailable (Some named)) (is_ready (Some named))) number
         ∙ ap (λ (no_room : Bool). result-by false false false no_room (is_unavailable (Some named)) (is_ready (Some named))) room
         ∙ ap (λ (standing : Standing). result-by false false false false (is_out_of_service standing) (is_ready_standing standing)) ready
 
 -- ---- each cause is replied, and nothing else is
 
--- the result of the steps of a new key, whether a terminal is named or not
-abbrev result-from : Bool → Bool → Bool → Bool → Bool → Bool → Bool → StepResult
-result-from unconfigured unnamed irreversible used_up no_room unavailable ready =
-    if unconfigured then Fails UnavailableDevice else result-by unnamed irreversible used_up no_room unavailable ready
-
--- the reply to a reversal on a new key, where the steps ask this
-reply-where : (known : Known) (header : Header) (reversal : ReversalAsk) (named : Option NamedTerminal) → named_terminal known.core header.poi ≡ named → found_for known.kept header ≡ None
-    → (unconfigured unnamed irreversible used_up no_room unavailable ready : Bool) → not (is_some named) ≡ unconfigured → not (is_some (original_of known.kept header.poi reversal)) ≡ unnamed
-    → is_irreversible known.kept reversal (original_of known.kept header.poi reversal) ≡ irreversible → is_used_up known.kept header.poi named ≡ used_up → lacks_room known.setup.slots known.kept ≡ no_room
+-- the reply to a reversal on a new key that isn't that of the end of day that is served, where the steps ask this
+reply-where : (known : Known) (header : Header) (reversal : ReversalAsk) (named : Option NamedTerminal) → named_terminal known.core header.poi ≡ named → found_for known.kept header ≡ None → is_day_key header named ≡ false
+    → (unconfigured logged_out unnamed irreversible used_up no_room unavailable ready : Bool) → not (is_some named) ≡ unconfigured → is_logged_out known.core header.sale header.poi ≡ logged_out → not (is_some (original_of known.kept header.poi reversal)) ≡ unnamed
+    → is_irreversible known.kept reversal (original_of known.kept header.poi reversal) ≡ irreversible → is_used_up known.kept header.poi named ≡ used_up → lacks_room known.setup.slots known.kept known.core.terminals ≡ no_room
     → is_unavailable named ≡ unavailable → is_ready named ≡ ready
-    → request_reply known header (requests.Reversal reversal) ≡ reply_of_result known.kept header (result-from unconfigured unnamed irreversible used_up no_room unavailable ready)
-reply-where known header reversal named named_is none unconfigured unnamed irreversible used_up no_room unavailable ready u n i d r v y =
-    let started : step_result known header (requests.Reversal reversal) named
-    ≡ result-from (not (is_some named)) (not (is_some (original_of known.kept header.poi reversal))) (is_irreversible known.kept reversal (original_of known.kept header.poi reversal)) (is_used_up known.kept header.poi named)
-    (lacks_room known.setup.slots known.kept) (is_unavailable named) (is_ready named) = ap (result-of known header reversal named) none in
-    reply-by known header reversal named (result-from unconfigured unnamed irreversible used_up no_room unavailable ready) named_is
-    (started
-    ∙ ap (λ (b : Bool). result-from b (not (is_some (original_of known.kept header.poi reversal))) (is_irreversible known.kept reversal (original_of known.kept header.poi reversal)) (is_used_up known.kept header.poi named) (lacks_room known.setup.slots known.kept) (is_unavailable named) (is_ready named)) u
-    ∙ ap (λ (b : Bool). result-from unconfigured b (is_irreversible known.kept reversal (original_of known.kept header.poi reversal)) (is_used_up known.kept header.poi named) (lacks_room known.setup.slots known.kept) (is_unavailable named) (is_ready named)) n
-    ∙ ap (λ (b : Bool). result-from unconfigured unnamed b (is_used_up known.kept header.poi named) (lacks_room known.setup.slots known.kept) (is_unavailable named) (is_ready named)) i
-    ∙ ap (λ (b : Bool). result-from unconfigured unnamed irreversible b (lacks_room known.setup.slots known.kept) (is_unavailable named) (is_ready named)) d
-    ∙ ap (λ (b : Bool). result-from unconfigured unnamed irreversible used_up b (is_unavailable named) (is_ready named)) r
-    ∙ ap (λ (b : Bool). result-from unconfigured unnamed irreversible used_up no_room b (is_ready named)) v
-    ∙ ap (λ (b : Bool). result-from unconfigured unnamed irreversible used_up no_room unavailable b) y)
+    → request_reply known header (requests.Reversal reversal) ≡ reply_of_result known.kept header (result-from unconfigured logged_out unnamed irreversible used_up no_room unavailable ready)
+reply-where known header reversal named named_is none no_day unconfigured logged_out unnamed irreversible used_up no_room unavailable ready u o n i d r v y =
+    reply-by known header reversal named (result-from unconfigured logged_out unnamed irreversible used_up no_room unavailable ready) named_is
+    (ap (result-of known header reversal named) none
+    ∙ ap (λ (b : Bool). result-apart b (not (is_some named)) (is_logged_out known.core header.sale header.poi) (not (is_some (original_of known.kept header.poi reversal))) (is_irreversible known.kept reversal (original_of known.kept header.poi reversal)) (is_used_up known.kept header.poi named) (lacks_room known.setup.slots known.kept known.core.terminals) (is_unavailable named) (is_ready named)) no_day
+    ∙ ap (λ (b : Bool). result-from b (is_logged_out known.core header.sale header.poi) (not (is_some (original_of known.kept header.poi reversal))) (is_irreversible known.kept reversal (original_of known.kept header.poi reversal)) (is_used_up known.kept header.poi named) (lacks_room known.setup.slots known.kept known.core.terminals) (is_unavailable named) (is_ready named)) u
+    ∙ ap (λ (b : Bool). result-from unconfigured b (not (is_some (original_of known.kept header.poi reversal))) (is_irreversible known.kept reversal (original_of known.kept header.poi reversal)) (is_used_up known.kept header.poi named) (lacks_room known.setup.slots known.kept known.core.terminals) (is_unavailable named) (is_ready named)) o
+    ∙ ap (λ (b : Bool). result-from unconfigured logged_out b (is_irreversible known.kept reversal (original_of known.kept header.poi reversal)) (is_used_up known.kept header.poi named) (lacks_room known.setup.slots known.kept known.core.terminals) (is_unavailable named) (is_ready named)) n
+    ∙ ap (λ (b : Bool). result-from unconfigured logged_out unnamed b (is_used_up known.kept header.poi named) (lacks_room known.setup.slots known.kept known.core.terminals) (is_unavailable named) (is_ready named)) i
+    ∙ ap (λ (b : Bool). result-from unconfigured logged_out unnamed irreversible b (lacks_room known.setup.slots known.kept known.core.terminals) (is_unavailable named) (is_ready named)) d
+    ∙ ap (λ (b : Bool). result-from unconfigured logged_out unnamed irreversible used_up b (is_unavailable named) (is_ready named)) r
+    ∙ ap (λ (b : Bool). result-from unconfigured logged_out unnamed irreversible used_up no_room b (is_ready named)) v
+    ∙ ap (λ (b : Bool). result-from unconfigured logged_out unnamed irreversible used_up no_room unavailable b) y)
 
 -- what the steps ask of a reversal whose text names an entry of the terminal that may be reversed
 record Passes (known : Known) (header : Header) (reversal : ReversalAsk) (named : Option NamedTerminal) : Type 0 where
   pub none : found_for known.kept header ≡ None
+  pub no_day : is_day_key header named ≡ false
   pub configured : not (is_some named) ≡ false
+  pub logged_in : is_logged_out known.core header.sale header.poi ≡ false
   pub names : not (is_some (original_of known.kept header.poi reversal)) ≡ false
   pub may : is_irreversible known.kept reversal (original_of known.kept header.poi reversal) ≡ false
 
 passes-names : (known : Known) (header : Header) (reversal : ReversalAsk) (named : Option NamedTerminal) → NamesReversible known header reversal named → Passes known header reversal named
 passes-names known header reversal named names = record {
-  none = names.new.unknown;
-  configured = ap (λ (there : Option NamedTerminal). not (is_some there)) names.new.is_named;
+  none = names.new.new.unknown;
+  no_day = names.new.new.no_day;
+  configured = ap (λ (there : Option NamedTerminal). not (is_some there)) names.new.new.is_named;
+  logged_in = names.new.logged_in;
   names = ap (λ (found : Option TheEntry). not (is_some found)) names.original_is;
   may = ap (is_irreversible known.kept reversal) names.original_is ∙ ap not (may-reverse known.kept reversal names.original names.approval names.reversible);
 }
 
 -- the reply where the text names an entry that may be reversed, by what is left to ask
 reply-passed : (known : Known) (header : Header) (reversal : ReversalAsk) (named : Option NamedTerminal) → named_terminal known.core header.poi ≡ named → NamesReversible known header reversal named
-    → (used_up no_room unavailable ready : Bool) → is_used_up known.kept header.poi named ≡ used_up → lacks_room known.setup.slots known.kept ≡ no_room → is_unavailable named ≡ unavailable → is_ready named ≡ ready
+    → (used_up no_room unavailable ready : Bool) → is_used_up known.kept header.poi named ≡ used_up → lacks_room known.setup.slots known.kept known.core.terminals ≡ no_room → is_unavailable named ≡ unavailable → is_ready named ≡ ready
     → request_reply known header (requests.Reversal reversal) ≡ reply_of_result known.kept header (result-by false false used_up no_room unavailable ready)
 reply-passed known header reversal named named_is names used_up no_room unavailable ready d r v y =
     let passes = passes-names known header reversal named names in
-    reply-where known header reversal named named_is passes.none false false false used_up no_room unavailable ready passes.configured passes.names passes.may d r v y
+    reply-where known header reversal named named_is passes.none passes.no_day false false false false used_up no_room unavailable ready passes.configured passes.logged_in passes.names passes.may d r v y
+
+-- the reply where the key is that of the end of day that is served
+day-replied : (known : Known) (header : Header) (reversal : ReversalAsk) (named : Option NamedTerminal) → named_terminal known.core header.poi ≡ named → KeyIsOfDay known header named
+    → request_reply known header (requests.Reversal reversal) ≡ Some (failure_reply header NotAllowed)
+day-replied known header reversal named named_is is =
+    reply-by known header reversal named (Fails NotAllowed) named_is (ap (result-of known header reversal named) is.unknown ∙ ap (λ (b : Bool). result-apart b (not (is_some named)) (is_logged_out known.core header.sale header.poi) (not (is_some (original_of known.kept header.poi reversal))) (is_irreversible known.kept reversal (original_of known.kept header.poi reversal)) (is_used_up known.kept header.poi named) (lacks_room known.setup.slots known.kept known.core.terminals) (is_unavailable named) (is_ready named)) is.day)
 
 -- by the condition
 replied-cause : (known : Known) (header : Header) (reversal : ReversalAsk) (named : Option NamedTerminal) (condition : Condition) → named_terminal known.core header.poi ≡ named → RefusesReversal known header reversal named condition
@@ -291,17 +368,19 @@ replied-cause known header reversal named InProgress named_is cause =
     replied.in_progress cause.same cause.is_open
 replied-cause known header reversal named InsertedCard named_is cause = absurd cause
 replied-cause known header reversal named InvalidCard named_is cause = absurd cause
-replied-cause known header reversal named LoggedOut named_is cause = absurd cause
+replied-cause known header reversal named LoggedOut named_is cause =
+    reply-where known header reversal named named_is cause.0.unknown cause.0.no_day false true _ _ _ _ _ _ (ap (λ (there : Option NamedTerminal). not (is_some there)) cause.0.is_named) cause.1 refl refl refl refl refl refl
 replied-cause known header reversal named MessageFormat named_is cause = absurd cause
 replied-cause known header reversal named NotAllowed named_is (inl other) =
     let replied = each-on-record-is-replied known header (requests.Reversal reversal) (named_terminal known.core header.poi) other.found other.on_record in
     replied.other_content other.other
-replied-cause known header reversal named NotAllowed named_is (inr cause) =
-    irreversible-is-not-allowed known header reversal cause.0.terminal (named_is ∙ cause.0.is_named) cause.0.unknown cause.1
-replied-cause known header reversal named NotFound named_is cause = unnamed-is-not-found known header reversal cause.0.terminal (named_is ∙ cause.0.is_named) cause.0.unknown cause.1
+replied-cause known header reversal named NotAllowed named_is (inr (inl day)) = day-replied known header reversal named named_is day
+replied-cause known header reversal named NotAllowed named_is (inr (inr cause)) =
+    irreversible-is-not-allowed known header reversal cause.0.new.terminal (named_is ∙ cause.0.new.is_named) cause.0.new.unknown cause.0.logged_in cause.1
+replied-cause known header reversal named NotFound named_is cause = unnamed-is-not-found known header reversal cause.0.new.terminal (named_is ∙ cause.0.new.is_named) cause.0.new.unknown (sym (ap (is_day_key header) cause.0.new.is_named) ∙ cause.0.new.no_day) cause.0.logged_in cause.1
 replied-cause known header reversal named Refusal named_is cause = absurd cause
 replied-cause known header reversal named UnavailableDevice named_is (inl cause) =
-    reply-where known header reversal named named_is cause.0 true _ _ _ _ _ _ (ap (λ (there : Option NamedTerminal). not (is_some there)) cause.1) refl refl refl refl refl refl
+    reply-where known header reversal named named_is cause.0 (ap (is_day_key header) cause.1 ∙ unnamed-no-day header) true _ _ _ _ _ _ _ (ap (λ (there : Option NamedTerminal). not (is_some there)) cause.1) refl refl refl refl refl refl refl
 replied-cause known header reversal named UnavailableDevice named_is (inr cause) =
     let out = cause.1 in
     reply-passed known header reversal named named_is cause.0.names false false true _ cause.0.number cause.0.room (ap is_unavailable out.is_named ∙ out.out) refl
@@ -316,7 +395,7 @@ pub each-cause-is-replied : EachCauseIsReplied
 each-cause-is-replied known header reversal condition cause = replied-cause known header reversal (named_terminal known.core header.poi) condition refl cause
 
 -- a failure has one condition
-same-condition : (header : Header) (one other : Condition) → Some (failure_reply header one) ≡ Some (failure_reply header other) → one ≡ other
+pub same-condition : (header : Header) (one other : Condition) → Some (failure_reply header one) ≡ Some (failure_reply header other) → one ≡ other
 same-condition header one other same =
     let verdict : failure one ≡ failure other = cc in
     same_Some one other (ap (λ (verdict : Verdict). verdict.condition) verdict)

@@ -21,13 +21,14 @@ use Rattle.gw_owes.specs.declared.terminal.Service.TheVariants.{Transaction}
 use Rattle.gw_owes.specs.declared.terminal.Standing.{Standing}
 use Rattle.gw_owes.specs.declared.terminal.Standing.TheVariants.{Ready, Serving, Unlinked}
 use Rattle.gw_owes.specs.Core.{new_terminal}
+use Rattle.gw_owes.specs.Days.{is_day_key}
 use Rattle.gw_owes.specs.Diagnosis.{NamedTerminal}
 use Rattle.gw_owes.specs.Dialogues.{AwaitedServing}
 use Rattle.gw_owes.specs.PaymentExample.{approved_with_amount, declined_for, intent_after}
 use Rattle.gw_owes.specs.PaymentLaws.{IsReversible}
 use Rattle.gw_owes.specs.Payments.{asked_for}
 use Rattle.gw_owes.specs.ReversalExample.{declined_records, ended_records, payment_records, paid_text, reversal_ask_of, reversal_intent_kept, reversed_with_amount, settled_records}
-use Rattle.gw_owes.specs.ReversalLaws.{IsNewAtTerminal, NamesReversible}
+use Rattle.gw_owes.specs.ReversalLaws.{IsNewAtTerminal, IsNewOfTill, NamesReversible}
 use Rattle.gw_owes.specs.ReversalPremises.{ExampleReversalAccepted, ExampleIrreversible, ExampleReversalCauses, ExampleReversalMeans, ExampleMayStop, MayStopIn, header_to_reverse, known_ready, known_in_slots, original_entry, ready_with_paid, reversal_entry, reversing_records, reversing_talk, whole_reversal}
 use Rattle.gw_owes.specs.TerminalExample.{one_pt}
 
@@ -58,6 +59,8 @@ reversal-accepted = record {
   named = refl;
   found = refl;
   unknown = refl;
+  no_day = refl;
+  logged_in = refl;
   original = refl;
   reversible = may-reverse;
   number_left = refl;
@@ -177,31 +180,42 @@ may-reverse-yet = record {
 abbrev terminal-in : Standing → NamedTerminal
 terminal-in standing = record { number = 0; terminal = record (new_terminal one_pt) { standing = standing } }
 
+-- the key isn't that of an end of day that is served there
+abbrev ServesNoDay : Standing → Type 0
+ServesNoDay standing = is_day_key header_to_reverse (Some (terminal-in standing)) ≡ false
+
 -- the key is new there
-is-new : (slots : ℕ) (standing : Standing) → IsNewAtTerminal (known_in_slots slots payment_records standing) header_to_reverse (Some (terminal-in standing))
+is-new : (slots : ℕ) (standing : Standing) → ServesNoDay standing → IsNewAtTerminal (known_in_slots slots payment_records standing) header_to_reverse (Some (terminal-in standing))
 unfolding history
-is-new slots standing = record { unknown = refl; terminal = terminal-in standing; is_named = refl }
+is-new slots standing none = record { unknown = refl; no_day = none; terminal = terminal-in standing; is_named = refl }
+
+-- and the SaleID isn't logged out
+from-till : (slots : ℕ) (standing : Standing) → ServesNoDay standing → IsNewOfTill (known_in_slots slots payment_records standing) header_to_reverse (Some (terminal-in standing))
+unfolding history
+from-till slots standing none = record { new = is-new slots standing none; logged_in = refl }
 
 -- and the text names the payment
-names-payment : (slots : ℕ) (standing : Standing) → NamesReversible (known_in_slots slots payment_records standing) header_to_reverse whole_reversal (Some (terminal-in standing))
+names-payment : (slots : ℕ) (standing : Standing) → ServesNoDay standing → NamesReversible (known_in_slots slots payment_records standing) header_to_reverse whole_reversal (Some (terminal-in standing))
 unfolding history transaction_text digits
-names-payment slots standing = record { new = is-new slots standing; original = original_entry; original_is = refl; approval = approved_with_amount 1099; reversible = may-reverse }
+names-payment slots standing none = record { new = from-till slots standing none; original = original_entry; original_is = refl; approval = approved_with_amount 1099; reversible = may-reverse }
 
 pub causes : ExampleReversalCauses
 unfolding history transaction_text digits
 causes = record {
   in_progress = record { found = Entry reversal_entry; on_record = refl; same = refl; is_open = refl };
   other_content = inl (record { found = Entry reversal_entry; on_record = refl; other = refl });
+  key_of_day = inr (inl (record { unknown = refl; day = refl }));
   unconfigured = inl (refl, refl);
-  named_none = (is-new 1000000 (Ready 123), refl);
-  irreversible = inr (is-new 1000000 (Ready 123), record { original = original_entry; named = refl; irreversible = part });
-  used_up = (names-payment 1000000 (Ready 999999), inl refl);
-  no_room = (names-payment 3 (Ready 123), inr refl);
-  unlinked = inr (record { names = names-payment 4 (Unlinked None); number = refl; room = refl }, record { terminal = terminal-in (Unlinked None); is_named = refl; out = refl });
+  logged_out = (record { unknown = refl; no_day = refl; terminal = terminal-in (Ready 123); is_named = refl }, refl);
+  named_none = (from-till 1000000 (Ready 123) refl, refl);
+  irreversible = inr (inr (from-till 1000000 (Ready 123) refl, record { original = original_entry; named = refl; irreversible = part }));
+  used_up = (names-payment 1000000 (Ready 999999) refl, inl refl);
+  no_room = (names-payment 3 (Ready 123) refl, inr refl);
+  unlinked = inr (record { names = names-payment 4 (Unlinked None) refl; number = refl; room = refl }, record { terminal = terminal-in (Unlinked None); is_named = refl; out = refl });
   busy = (
     record {
       names = record {
-        new = record { unknown = refl; terminal = terminal-in (Serving (Transaction 2) 123); is_named = refl };
+        new = record { new = record { unknown = refl; no_day = refl; terminal = terminal-in (Serving (Transaction 2) 123); is_named = refl }; logged_in = refl };
         original = original_entry;
         original_is = refl;
         approval = approved_with_amount 1099;

@@ -1,42 +1,52 @@
 -- What a message of a terminal leaves and owes keeps what is known in order.
-use Rattle.std.proofs.Common.{◌≡◌, ◌∙◌, ℕ, ◌+◌, ◌*◌, ◌^◌, ◌<◌, ◌≤◌, max, Bool, true, false, ltb, leb, List, [], ◌∷◌, ◌++◌, length, refl, sym, ap, subst, arith}
+use Rattle.std.proofs.Common.{◌≡◌, ◌∙◌, ℕ, ◌^◌, ◌<◌, ◌≤◌, max, Bool, true, false, ltb, leb, List, [], ◌∷◌, ◌++◌, length, refl, sym, ap, subst, arith}
 use Rattle.std.specs.Prelude.{Option, Some, None, option_and_then, if◌then◌else◌, pos}
 use Rattle.std.proofs.lemmas.Bool.{leb-true, ltb-true}
 use Rattle.gw_base.specs.Limits.{IsTrace}
 use Rattle.gw_base.specs.Moment.{IsMoment}
 use Rattle.gw_base.specs.declared.condition.Condition.TheVariants.{Aborted}
 use Rattle.gw_base.specs.declared.figures.Figures.{Figures}
+use Rattle.gw_base.specs.declared.key.Key.{Key}
+use Rattle.gw_base.specs.declared.setup.Pt.{Pt}
+use Rattle.sale_values.specs.declared.header.Header.{Header}
+use Rattle.sale_values.specs.declared.names.Period.{Period}
+use Rattle.sale_reply.specs.declared.reply.Shown.{Shown}
 use Rattle.zvt_talk.specs.declared.meaning.Heard.{Heard}
 use Rattle.zvt_talk.specs.declared.meaning.Heard.TheVariants as heard
-use Rattle.zvt_talk.specs.Laws.{says_stop}
 use Rattle.zvt_talk.specs.Limits.{FiguresFitRecord}
 use Rattle.jrn_record.specs.Limits.{IsOutcome}
 use Rattle.jrn_record.specs.declared.records.Intent.{Intent as TheIntent}
 use Rattle.jrn_record.specs.declared.records.Outcome.{Outcome as TheOutcome}
-use Rattle.jrn_record.specs.declared.records.Record.{Record}
-use Rattle.jrn_record.specs.declared.records.Record.TheVariants.{Outcome}
+use Rattle.jrn_record.specs.declared.records.Record.TheVariants.{Outcome, Settled}
+use Rattle.jrn_record.specs.declared.records.How.TheVariants as hows
+use Rattle.jrn_record.specs.declared.records.Settled.{Settled as TheSettled}
 use Rattle.gw_ledger.specs.declared.entry.Entry.{Entry as TheEntry}
 use Rattle.gw_ledger.specs.Accounts.{last_number_of}
-use Rattle.gw_ledger.specs.Fold.{fits, open_entry}
+use Rattle.gw_ledger.specs.Fold.{fits, found_of, open_entry}
+use Rattle.gw_ledger.specs.Keys.{settled_key}
 use Rattle.gw_ledger.specs.Laws.{IsEntryWithin}
 use Rattle.gw_ledger.specs.Slots.{entry_at}
-use Rattle.gw_ledger.specs.Sums.{one_if, open_count_of}
+use Rattle.gw_ledger.specs.Sums.{open_count_of}
 use Rattle.gw_owes.specs.declared.terminal.Service.{Service}
 use Rattle.gw_owes.specs.declared.terminal.Service.TheVariants.{Transaction, EndOfDay, Display}
 use Rattle.gw_owes.specs.declared.terminal.Standing.{Standing}
 use Rattle.gw_owes.specs.declared.terminal.Standing.TheVariants.{Unlinked, Registering, Enquiring, Ready, Serving, Aside}
 use Rattle.gw_owes.specs.declared.terminal.Terminal.{Terminal}
+use Rattle.gw_owes.specs.Awaited.{one_more_awaited}
+use Rattle.gw_owes.specs.Calls.{OwedCall}
+use Rattle.gw_owes.specs.Displays.{serving_display}
 use Rattle.gw_owes.specs.HeardLaws.{AreFiguresOf, FitsRecord, IsReportFit, IsTraceOrNone}
 use Rattle.gw_owes.specs.Handling.{consequence, enquires, enquiring, enquiry_command, registering, serving}
-use Rattle.gw_owes.specs.RecordLaws.{AreRecordsOf, IsInOrder, IsServedOpen, IsTalkRead, IsTerminalInOrder, commands_left}
+use Rattle.gw_owes.specs.Reconciliations.{day_done, reply_to_settled, serving_day, settled_of}
+use Rattle.gw_owes.specs.RecordLaws.{AreRecordsOf, HasNoneOpen, IsDayServed, IsDisplayServed, IsInOrder, IsServedOpen, IsTerminalInOrder}
 use Rattle.gw_owes.specs.Reports.{Report, on_record, outcome_as_last, outcome_reported, report_against, report_of_open, report_row, standing_reported}
 use Rattle.gw_owes.specs.Row.{Known}
-use Rattle.gw_owes.specs.Serving.{at_rest, approved_outcome, approved_row, declined_outcome, declined_row, done_with, last_after_decline, refused_outcome, reply_to_outcome, resolves, serving_transaction, staying, stops, was_stopped}
+use Rattle.gw_owes.specs.Serving.{at_rest, approved_outcome, approved_row, declined_outcome, declined_row, done_with, breaking, last_after_decline, refused_outcome, reply_to_outcome, resolves, serving_transaction, staying, stops, was_stopped}
 use Rattle.gw_owes.specs.Terminals.{after_command, reply_calls_to, terminal_at, terminal_becomes}
-use Rattle.gw_owes.proofs.FewLemmas.{command-begins, few-more, stops_sent}
-use Rattle.gw_owes.proofs.KeepingLemmas.{RowKeeps, becomes-keeps, breaking-keeps, no-calls, nothing-keeps, record-keeps, replies-keep-nothing}
-use Rattle.gw_owes.proofs.LimitLemmas.{approval-within, decline-within, refusal-within}
-use Rattle.gw_owes.proofs.RecordLemmas.{LedgerLaws, open-counted, open-not-below, open-parts, open-within, open-without-outcome, open_entry_of, outcome-closes, outcome-number, outcome-poi}
+use Rattle.gw_owes.proofs.DayLemmas.{days-no-more, days-set, days_in}
+use Rattle.gw_owes.proofs.KeepingLemmas.{KeepNothing, RowKeeps, becomes-keeps, breaking-keeps, command-read, no-calls, nothing-keeps, record-keeps, replies-keep-nothing, rests-still}
+use Rattle.gw_owes.proofs.LimitLemmas.{approval-within, decline-within, keyed-within, refusal-within, settled-key-is, settled-within}
+use Rattle.gw_owes.proofs.RecordLemmas.{LedgerLaws, open-counted, open-not-below, open-parts, open-within, open-without-outcome, open_entry_of, outcome-closes, outcome-number, outcome-poi, settled-leaves}
 
 -- ---- limits
 
@@ -54,7 +64,7 @@ slot-small laws known order poi slot intent is_open =
     let inside : slot < length known.kept = open-within laws known.kept order.folded poi slot intent (open-parts laws known.kept order.folded poi slot intent is_open) in
     let most : known.setup.slots ≤ 1000000 = order.of_setup.within.slots.1 in
     let room = order.room in
-    omega arith
+    omega (arith, inside, most, room)
 
 last-after-within : (last : ℕ) (reported : Option ℕ) → IsTrace last → IsTraceOrNone reported → IsTrace (last_after_decline last reported)
 last-after-within last None trace fits = trace
@@ -115,36 +125,26 @@ reported-outcome entry report moment small at fit = by-test (ltb entry.intent.be
 
 -- ---- what a terminal becomes
 
--- a terminal that has taken a message, with which it is to be sent so many stops, is in this standing: the records have what that says, and few Acks and Nacks are awaited
-pub record StandsAs (kept : List Record) (now : Terminal) (standing : Standing) (stops : ℕ) : Type 0 where
-  pub standing_is : now.standing ≡ standing
-  pub records : AreRecordsOf kept now.pt.poi standing
-  pub few : now.awaited + (stops + commands_left standing now.talk) ≤ 2 * length kept + 2
-
-module _ (laws : LedgerLaws) (known : Known) (order : IsInOrder known) (number : ℕ) (old now : Terminal) (here : terminal_at known number ≡ Some old) (same : now.pt ≡ old.pt) (read : IsTalkRead now.talk) (few : now.awaited ≤ 2 * length known.kept + 2) where
-  -- it is in this standing, with so many stops to be sent
-  abbrev Stands : Standing → ℕ → Type 0
-  Stands standing stops = StandsAs known.kept now standing stops
-
-  -- the terminal is in order, as it is and with this count
-  stands-in-order : (standing : Standing) (stops : ℕ) → Stands standing stops → IsTerminalInOrder known.kept (record now { awaited = now.awaited + stops })
-  stands-in-order standing stops stands = record {
-    records = subst (AreRecordsOf known.kept now.pt.poi) (sym stands.standing_is) stands.records;
-    read = read;
-    few = subst (λ (s : Standing). now.awaited + stops + commands_left s now.talk ≤ 2 * length known.kept + 2) (sym stands.standing_is) (let all = stands.few in omega (arith, all));
-  }
+module _ (laws : LedgerLaws) (known : Known) (order : IsInOrder known) (number : ℕ) (old now : Terminal) (here : terminal_at known number ≡ Some old) (same : now.pt ≡ old.pt) (stands : now.standing ≡ old.standing) (has : IsTerminalInOrder known.kept now) where
+  -- it serves an end of day where it did
+  days-stay : days_in now.standing ≤ days_in old.standing
+  days-stay = let counted : days_in now.standing ≡ days_in old.standing = ap days_in stands in omega (arith, counted)
 
   -- it stays as it is
-  stays-keeps : (standing : Standing) (stops : ℕ) → Stands standing stops → RowKeeps known number (staying known number now)
-  stays-keeps standing stops stands =
-      let all = stands-in-order standing stops stands in
-      let count = all.few in
-      becomes-keeps known order number now [] no-calls (record { records = all.records; read = read; few = omega (arith, count) })
+  stays-keeps : RowKeeps known number (staying known number now)
+  stays-keeps = becomes-keeps known order number old now [] here no-calls days-stay has
 
-  -- no dialogue runs any more, and it has this standing, in which no command is left to be sent
-  rests-keeps : (standing : Standing) → AreRecordsOf known.kept now.pt.poi standing → commands_left standing None ≡ 0 → RowKeeps known number (terminal_becomes known number (at_rest now standing) [])
-  rests-keeps standing has none =
-      becomes-keeps known order number (at_rest now standing) [] no-calls (record { records = has; read = tt; few = omega (arith, few, none) })
+  -- its connection is cut
+  breaks-keeps : RowKeeps known number (breaking known number now)
+  breaks-keeps = breaking-keeps known order number old now here days-stay
+
+  -- no dialogue runs any more, and it has this standing, in which it serves nothing
+  rests-keeps : (standing : Standing) → days_in standing ≡ 0 → AreRecordsOf known.kept now.pt.poi standing → RowKeeps known number (terminal_becomes known number (at_rest now standing) [])
+  rests-keeps standing none records = becomes-keeps known order number old (at_rest now standing) [] here no-calls (omega (arith, none)) (record { records = records; read = tt })
+
+  -- so it is once its till has its reply
+  done-keeps : (last : ℕ) (calls : List OwedCall) → KeepNothing calls → HasNoneOpen known.kept now.pt.poi last → RowKeeps known number (terminal_becomes known number (done_with now (Ready last)) calls)
+  done-keeps last calls nothing rests = becomes-keeps known order number old (done_with now (Ready last)) calls here nothing (omega arith) (record { records = rests; read = tt })
 
   -- the Outcome of its open entry is kept, and it is ready with a number that isn't below
   resolves-keeps : (outcome : TheOutcome) (intent : TheIntent) (ready : ℕ) → open_entry known.kept now.pt.poi ≡ Some (open_entry_of outcome.slot intent) → IsOutcome outcome → (outcome.approved ≡ true → intent.before < outcome.number)
@@ -153,19 +153,19 @@ module _ (laws : LedgerLaws) (known : Known) (order : IsInOrder known) (number :
       let opened = open-parts laws known.kept order.folded now.pt.poi outcome.slot intent is_open in
       let counted : 1 ≤ open_count_of known.kept = open-counted laws known.kept order.folded now.pt.poi outcome.slot intent opened in
       let room = order.room in
+      let days = days-no-more known.core.terminals number old (done_with now (Ready ready)) here (omega arith) in
       let fitting : fits known.kept (Outcome outcome) ≡ true = laws.outcome known.kept order.folded now.pt.poi (open_entry_of outcome.slot intent) outcome is_open refl above in
       let after : last_number_of (known.kept ++ Outcome outcome ∷ []) now.pt.poi ≡ max (last_number_of known.kept now.pt.poi) outcome.number = outcome-number laws known.kept order.folded now.pt.poi intent outcome opened in
-      record-keeps known order number laws old (done_with now (Ready ready)) (Outcome outcome) (reply_calls_to now.asker (reply_to_outcome known.kept outcome.slot outcome))
-      (replies-keep-nothing now.asker (reply_to_outcome known.kept outcome.slot outcome)) here within fitting (omega arith)
+      record-keeps known order number laws (Outcome outcome) within fitting old (done_with now (Ready ready)) (reply_calls_to now.asker (reply_to_outcome known.kept outcome.slot outcome))
+      (replies-keep-nothing now.asker (reply_to_outcome known.kept outcome.slot outcome)) here (omega (arith, counted, room, days))
       (outcome-poi laws known.kept order.folded now.pt.poi intent outcome opened ∙ ap (λ pt. Some pt.poi) same)
       (record {
         records = record {
           none_open = ap (option_and_then (entry_at (known.kept ++ Outcome outcome ∷ []))) (outcome-closes laws known.kept order.folded now.pt.poi intent outcome opened);
-          not_below = omega arith;
+          not_below = omega (arith, after, last_not_above, not_above);
           within = trace;
         };
         read = tt;
-        few = let more = few-more known.kept (Outcome outcome) now.awaited few in omega (arith, more);
       })
 
   -- so it is of what is served
@@ -185,7 +185,7 @@ module _ (laws : LedgerLaws) (known : Known) (order : IsInOrder known) (number :
           let above : last < figures.number = ltb-true last figures.number rises in
           served-keeps (approved_outcome slot figures known.moment) last figures.number has (approval-within slot figures known.moment (slot-small laws known order now.pt.poi slot has.intent has.is_open) fit order.moment) (λ approved. above) (omega arith)
           (omega arith) fit.trace
-      by-test false rises = rests-keeps (Aside last figures.number) tt refl
+      by-test false rises = rests-keeps (Aside last figures.number) refl tt
 
   -- or declined
   declined-keeps : (slot last result_code : ℕ) (reported : Option ℕ) → IsServedOpen known.kept now.pt.poi last slot → IsTraceOrNone reported → RowKeeps known number (declined_row known number now slot last result_code reported)
@@ -195,30 +195,27 @@ module _ (laws : LedgerLaws) (known : Known) (order : IsInOrder known) (number :
       (last-after-within last reported (open-before-within laws known order now.pt.poi last slot has) fits)
 
   -- the stop of what is served
-  stops-keeps : (standing : Standing) → Stands standing 1 → RowKeeps known number (stops known number now)
-  stops-keeps standing stands =
-      becomes-keeps known order number (record now { awaited = now.awaited + 1 }) _ (record { no_records = refl; no_cut = refl }) (stands-in-order standing 1 stands)
+  stops-keeps : RowKeeps known number (stops known number now)
+  stops-keeps = becomes-keeps known order number old (record now { awaited = one_more_awaited now.awaited }) _ here (record { no_records = refl; no_cut = refl }) days-stay (record { records = has.records; read = has.read })
 
   -- the enquiry after the registration
-  enquires-keeps : Stands Registering 0 → RowKeeps known number (enquires known number now)
-  enquires-keeps stands =
-      let begins = command-begins now.pt (enquiry_command now.pt) known.moment in
-      let all = stands.few in
-      becomes-keeps known order number (after_command now (enquiry_command now.pt) Enquiring known.moment) _ (record { no_records = refl; no_cut = refl })
-      (record { records = tt; read = begins.read; few = omega (arith, all) })
+  enquires-keeps : RowKeeps known number (enquires known number now)
+  enquires-keeps =
+      becomes-keeps known order number old (after_command now (enquiry_command now.pt) Enquiring known.moment) _ here (record { no_records = refl; no_cut = refl }) (omega arith)
+      (record { records = tt; read = command-read now.pt (enquiry_command now.pt) known.moment })
 
-  registering-keeps : (meant : Heard) → Stands Registering 0 → RowKeeps known number (registering known number now meant)
-  registering-keeps (heard.Begun stop) stands = stays-keeps Registering 0 stands
-  registering-keeps (heard.Note intermediate_status) stands = stays-keeps Registering 0 stands
-  registering-keeps heard.Line stands = stays-keeps Registering 0 stands
-  registering-keeps heard.Block stands = stays-keeps Registering 0 stands
-  registering-keeps heard.Seen stands = stays-keeps Registering 0 stands
-  registering-keeps (heard.Approved figures) stands = stays-keeps Registering 0 stands
-  registering-keeps heard.Done stands = enquires-keeps stands
-  registering-keeps (heard.Told reported approved result_code) stands = stays-keeps Registering 0 stands
-  registering-keeps (heard.Declined result_code reported) stands = breaking-keeps known order number now
-  registering-keeps heard.Unclear stands = breaking-keeps known order number now
-  registering-keeps heard.Stray stands = stays-keeps Registering 0 stands
+  registering-keeps : (meant : Heard) → RowKeeps known number (registering known number now meant)
+  registering-keeps (heard.Begun stop) = stays-keeps
+  registering-keeps (heard.Note intermediate_status) = stays-keeps
+  registering-keeps heard.Line = stays-keeps
+  registering-keeps heard.Block = stays-keeps
+  registering-keeps heard.Seen = stays-keeps
+  registering-keeps (heard.Approved figures) = stays-keeps
+  registering-keeps heard.Done = enquires-keeps
+  registering-keeps (heard.Told reported approved result_code) = stays-keeps
+  registering-keeps (heard.Declined result_code reported) = breaks-keeps
+  registering-keeps heard.Unclear = breaks-keeps
+  registering-keeps heard.Stray = stays-keeps
 
   -- what a terminal reports without an open entry
   reported-none-open : (reported : ℕ) → IsTrace reported → open_entry known.kept now.pt.poi ≡ None
@@ -227,8 +224,8 @@ module _ (laws : LedgerLaws) (known : Known) (order : IsInOrder known) (number :
     where
       by-test : (b : Bool) → leb (last_number_of known.kept now.pt.poi) reported ≡ b
           → RowKeeps known number (terminal_becomes known number (at_rest now (if b then Ready reported else Aside (last_number_of known.kept now.pt.poi) reported)) [])
-      by-test true above = rests-keeps (Ready reported) (record { none_open = none; not_below = leb-true (last_number_of known.kept now.pt.poi) reported above; within = trace }) refl
-      by-test false above = rests-keeps (Aside (last_number_of known.kept now.pt.poi) reported) tt refl
+      by-test true above = rests-keeps (Ready reported) refl (record { none_open = none; not_below = leb-true (last_number_of known.kept now.pt.poi) reported above; within = trace })
+      by-test false above = rests-keeps (Aside (last_number_of known.kept now.pt.poi) reported) refl tt
 
   -- and with one
   reported-of-open : (report : Report) (entry : TheEntry) → IsReportFit report.trace report.approved → open_entry known.kept now.pt.poi ≡ Some entry → RowKeeps known number (report_of_open known number now report entry)
@@ -244,7 +241,7 @@ module _ (laws : LedgerLaws) (known : Known) (order : IsInOrder known) (number :
           let outcome = reported-outcome entry report known.moment (slot-small laws known order now.pt.poi entry.slot entry.intent is_open) order.moment fit in
           resolves-keeps (outcome_reported entry report known.moment) entry.intent report.trace
           (subst (λ (slot : ℕ). open_entry known.kept now.pt.poi ≡ Some (open_entry_of slot entry.intent)) (sym outcome.slot_is) is_open) outcome.within outcome.above (omega arith) outcome.not_above fit.within
-      by-test false above = rests-keeps (Aside entry.intent.before report.trace) tt refl
+      by-test false above = rests-keeps (Aside entry.intent.before report.trace) refl tt
 
   reported-keeps : (report : Report) → IsReportFit report.trace report.approved → RowKeeps known number (report_row (on_record known.kept now.pt.poi) known number now report)
   reported-keeps report fit = by-open (open_entry known.kept now.pt.poi) refl
@@ -253,43 +250,85 @@ module _ (laws : LedgerLaws) (known : Known) (order : IsInOrder known) (number :
       by-open None none = reported-none-open report.trace fit.within none
       by-open (Some entry) is = reported-of-open report entry fit is
 
-  enquiring-keeps : (meant : Heard) → Stands Enquiring 0 → FitsRecord meant → RowKeeps known number (enquiring known number now meant)
-  enquiring-keeps (heard.Begun stop) stands fits = stays-keeps Enquiring 0 stands
-  enquiring-keeps (heard.Note intermediate_status) stands fits = stays-keeps Enquiring 0 stands
-  enquiring-keeps heard.Line stands fits = stays-keeps Enquiring 0 stands
-  enquiring-keeps heard.Block stands fits = stays-keeps Enquiring 0 stands
-  enquiring-keeps heard.Seen stands fits = stays-keeps Enquiring 0 stands
-  enquiring-keeps (heard.Approved figures) stands fits = stays-keeps Enquiring 0 stands
-  enquiring-keeps heard.Done stands fits = stays-keeps Enquiring 0 stands
-  enquiring-keeps (heard.Told trace approved result_code) stands fits = reported-keeps (record { trace = trace; approved = approved; result_code = result_code }) fits
-  enquiring-keeps (heard.Declined result_code reported) stands fits = breaking-keeps known order number now
-  enquiring-keeps heard.Unclear stands fits = breaking-keeps known order number now
-  enquiring-keeps heard.Stray stands fits = stays-keeps Enquiring 0 stands
+  enquiring-keeps : (meant : Heard) → FitsRecord meant → RowKeeps known number (enquiring known number now meant)
+  enquiring-keeps (heard.Begun stop) fits = stays-keeps
+  enquiring-keeps (heard.Note intermediate_status) fits = stays-keeps
+  enquiring-keeps heard.Line fits = stays-keeps
+  enquiring-keeps heard.Block fits = stays-keeps
+  enquiring-keeps heard.Seen fits = stays-keeps
+  enquiring-keeps (heard.Approved figures) fits = stays-keeps
+  enquiring-keeps heard.Done fits = stays-keeps
+  enquiring-keeps (heard.Told trace approved result_code) fits = reported-keeps (record { trace = trace; approved = approved; result_code = result_code }) fits
+  enquiring-keeps (heard.Declined result_code reported) fits = breaks-keeps
+  enquiring-keeps heard.Unclear fits = breaks-keeps
+  enquiring-keeps heard.Stray fits = stays-keeps
 
-  transaction-keeps : (slot last : ℕ) (meant : Heard) → Stands (Serving (Transaction slot) last) (one_if (says_stop meant)) → FitsRecord meant → RowKeeps known number (serving_transaction known number now slot last meant)
-  transaction-keeps slot last (heard.Begun true) stands fits = stops-keeps (Serving (Transaction slot) last) stands
-  transaction-keeps slot last (heard.Begun false) stands fits = stays-keeps (Serving (Transaction slot) last) 0 stands
-  transaction-keeps slot last (heard.Note intermediate_status) stands fits = stays-keeps (Serving (Transaction slot) last) 0 stands
-  transaction-keeps slot last heard.Line stands fits = stays-keeps (Serving (Transaction slot) last) 0 stands
-  transaction-keeps slot last heard.Block stands fits = stays-keeps (Serving (Transaction slot) last) 0 stands
-  transaction-keeps slot last heard.Seen stands fits = stays-keeps (Serving (Transaction slot) last) 0 stands
-  transaction-keeps slot last (heard.Approved figures) stands fits = approved-keeps slot last figures stands.records fits
-  transaction-keeps slot last heard.Done stands fits = stays-keeps (Serving (Transaction slot) last) 0 stands
-  transaction-keeps slot last (heard.Told reported approved result_code) stands fits = stays-keeps (Serving (Transaction slot) last) 0 stands
-  transaction-keeps slot last (heard.Declined result_code reported) stands fits = declined-keeps slot last result_code reported stands.records fits
-  transaction-keeps slot last heard.Unclear stands fits = breaking-keeps known order number now
-  transaction-keeps slot last heard.Stray stands fits = stays-keeps (Serving (Transaction slot) last) 0 stands
+  transaction-keeps : (slot last : ℕ) (meant : Heard) → IsServedOpen known.kept now.pt.poi last slot → FitsRecord meant → RowKeeps known number (serving_transaction known number now slot last meant)
+  transaction-keeps slot last (heard.Begun true) served fits = stops-keeps
+  transaction-keeps slot last (heard.Begun false) served fits = stays-keeps
+  transaction-keeps slot last (heard.Note intermediate_status) served fits = stays-keeps
+  transaction-keeps slot last heard.Line served fits = stays-keeps
+  transaction-keeps slot last heard.Block served fits = stays-keeps
+  transaction-keeps slot last heard.Seen served fits = stays-keeps
+  transaction-keeps slot last (heard.Approved figures) served fits = approved-keeps slot last figures served fits
+  transaction-keeps slot last heard.Done served fits = stays-keeps
+  transaction-keeps slot last (heard.Told reported approved result_code) served fits = stays-keeps
+  transaction-keeps slot last (heard.Declined result_code reported) served fits = declined-keeps slot last result_code reported served fits
+  transaction-keeps slot last heard.Unclear served fits = breaks-keeps
+  transaction-keeps slot last heard.Stray served fits = stays-keeps
 
-  serving-keeps : (service : Service) (last : ℕ) (meant : Heard) → Stands (Serving service last) (one_if (says_stop meant)) → FitsRecord meant → RowKeeps known number (serving known number now service last meant)
-  serving-keeps (Transaction slot) last meant stands fits = transaction-keeps slot last meant stands fits
-  serving-keeps (EndOfDay header period) last meant stands fits = absurd stands.records
-  serving-keeps (Display header outputs) last meant stands fits = absurd stands.records
+  -- an end of day is done: its Settled is kept
+  day-done-keeps : (header : Header) (period : Period) (last : ℕ) → now.standing ≡ Serving (EndOfDay header period) last → IsDayServed known.kept now.pt.poi last header period → RowKeeps known number (day_done known number now last header)
+  day-done-keeps header period last standing served =
+      let settled : TheSettled = settled_of hows.Acquirer header now.pt.currency known.moment in
+      let unknown : found_of known.kept (settled_key settled) ≡ None =
+      subst (λ (key : Key). found_of known.kept key ≡ None) (sym (settled-key-is hows.Acquirer header now.pt.currency known.moment served.key served.key_is)) served.unknown in
+      let fitting : fits known.kept (Settled settled) ≡ true = laws.settled known.kept order.folded settled unknown in
+      let counted : days_in old.standing ≡ 1 = ap days_in (sym stands ∙ standing) in
+      let days = days-set known.core.terminals number old (done_with now (Ready last)) here in
+      let room = order.room in
+      record-keeps known order number laws (Settled settled) (settled-within hows.Acquirer header now.pt.currency known.moment (keyed-within header served.key served.heading served.key_is) order.moment) fitting
+      old (done_with now (Ready last)) (reply_calls_to now.asker (reply_to_settled known.kept settled)) (replies-keep-nothing now.asker (reply_to_settled known.kept settled)) here (omega (arith, counted, days, room))
+      (ap Some served.names ∙ ap (λ (pt : Pt). Some pt.poi) same)
+      (record { records = rests-still laws known.kept (Settled settled) now.pt.poi order.folded (settled-leaves laws known.kept settled now.pt.poi) last served.rests; read = tt })
+
+  day-keeps : (header : Header) (period : Period) (last : ℕ) (meant : Heard) → now.standing ≡ Serving (EndOfDay header period) last → IsDayServed known.kept now.pt.poi last header period → RowKeeps known number (serving_day known number now last header meant)
+  day-keeps header period last (heard.Begun true) standing served = stops-keeps
+  day-keeps header period last (heard.Begun false) standing served = stays-keeps
+  day-keeps header period last (heard.Note intermediate_status) standing served = stays-keeps
+  day-keeps header period last heard.Line standing served = stays-keeps
+  day-keeps header period last heard.Block standing served = stays-keeps
+  day-keeps header period last heard.Seen standing served = stays-keeps
+  day-keeps header period last (heard.Approved figures) standing served = stays-keeps
+  day-keeps header period last heard.Done standing served = day-done-keeps header period last standing served
+  day-keeps header period last (heard.Told reported approved result_code) standing served = stays-keeps
+  day-keeps header period last (heard.Declined result_code reported) standing served = done-keeps last _ (replies-keep-nothing now.asker _) served.rests
+  day-keeps header period last heard.Unclear standing served = breaks-keeps
+  day-keeps header period last heard.Stray standing served = stays-keeps
+
+  display-keeps : (header : Header) (results : Option (List Shown)) (last : ℕ) (meant : Heard) → IsDisplayServed known.kept now.pt.poi last header results → RowKeeps known number (serving_display known number now last header results meant)
+  display-keeps header results last (heard.Begun stop) served = stays-keeps
+  display-keeps header results last (heard.Note intermediate_status) served = stays-keeps
+  display-keeps header results last heard.Line served = stays-keeps
+  display-keeps header results last heard.Block served = stays-keeps
+  display-keeps header results last heard.Seen served = stays-keeps
+  display-keeps header results last (heard.Approved figures) served = stays-keeps
+  display-keeps header results last heard.Done served = done-keeps last _ (replies-keep-nothing now.asker _) served.rests
+  display-keeps header results last (heard.Told reported approved result_code) served = stays-keeps
+  display-keeps header results last (heard.Declined result_code reported) served = done-keeps last _ (replies-keep-nothing now.asker _) served.rests
+  display-keeps header results last heard.Unclear served = breaks-keeps
+  display-keeps header results last heard.Stray served = stays-keeps
+
+  serving-keeps : (service : Service) (last : ℕ) (meant : Heard) → now.standing ≡ Serving service last → AreRecordsOf known.kept now.pt.poi (Serving service last) → FitsRecord meant → RowKeeps known number (serving known number now service last meant)
+  serving-keeps (Transaction slot) last meant standing records fits = transaction-keeps slot last meant records fits
+  serving-keeps (EndOfDay header period) last meant standing records fits = day-keeps header period last meant standing records
+  serving-keeps (Display header results) last meant standing records fits = display-keeps header results last meant records
 
   -- in each standing
-  pub consequence-keeps : (meant : Heard) (standing : Standing) → Stands standing (stops_sent standing meant) → FitsRecord meant → RowKeeps known number (consequence known number now meant standing)
-  consequence-keeps meant (Unlinked due) stands fits = nothing-keeps known order number
-  consequence-keeps meant Registering stands fits = registering-keeps meant stands
-  consequence-keeps meant Enquiring stands fits = enquiring-keeps meant stands fits
-  consequence-keeps meant (Ready last) stands fits = stays-keeps (Ready last) 0 stands
-  consequence-keeps meant (Serving service last) stands fits = serving-keeps service last meant stands fits
-  consequence-keeps meant (Aside before reported) stands fits = stays-keeps (Aside before reported) 0 stands
+  pub consequence-keeps : (meant : Heard) (standing : Standing) → now.standing ≡ standing → AreRecordsOf known.kept now.pt.poi standing → FitsRecord meant → RowKeeps known number (consequence known number now meant standing)
+  consequence-keeps meant (Unlinked due) is records fits = nothing-keeps known order number
+  consequence-keeps meant Registering is records fits = registering-keeps meant
+  consequence-keeps meant Enquiring is records fits = enquiring-keeps meant fits
+  consequence-keeps meant (Ready last) is records fits = stays-keeps
+  consequence-keeps meant (Serving service last) is records fits = serving-keeps service last meant is records fits
+  consequence-keeps meant (Aside before reported) is records fits = stays-keeps

@@ -1,7 +1,7 @@
 -- One element of a list is replaced.
 use Rattle.std.proofs.Common.{◌≡◌, ◌≢◌, ℕ, zero, suc, List, [], ◌∷◌, refl, sym, ◌∙◌, ap}
 use Rattle.std.proofs.lemmas.List.{length-set}
-use Rattle.std.specs.Prelude.{map, set, slice_get, Some}
+use Rattle.std.specs.Prelude.{length, map, set, slice_get, Some}
 use Rattle.gw_owes.specs.declared.terminal.Terminal.{Terminal}
 use Rattle.gw_owes.specs.Core.{Core}
 use Rattle.gw_owes.specs.Terminals.{with_terminal}
@@ -33,7 +33,16 @@ same-stays f (first ∷ rest) (suc at) old new found same = ap (λ b. f first �
 
 -- nothing is changed
 pub alone-same : (number : ℕ) (core : Core) → ChangesTerminalAlone number core core
-alone-same number core = record { others = λ other apart. refl; settings = refl; count = refl; waits = refl; logged_out = refl; device_requests = refl }
+alone-same number core = record { others = λ other apart. refl; settings = refl; count = refl; waits = refl }
+
+-- no terminal is changed, and none that waits
+pub terminals-same : (number : ℕ) (old new : Core) → new.terminals ≡ old.terminals → new.waits ≡ old.waits → ChangesTerminalAlone number old new
+terminals-same number old new same waits = record {
+  others = λ other apart. ap (λ (terminals : List Terminal). slice_get terminals other) same;
+  settings = ap (λ (terminals : List Terminal). map (λ (terminal : Terminal). terminal.pt) terminals) same;
+  count = ap (λ (terminals : List Terminal). length terminals) same;
+  waits = waits;
+}
 
 -- one terminal is changed, and not its settings
 pub alone-set : (number : ℕ) (core : Core) (old new : Terminal) → slice_get core.terminals number ≡ Some old → new.pt ≡ old.pt → ChangesTerminalAlone number core (with_terminal core number new)
@@ -42,6 +51,4 @@ alone-set number core old new found same = record {
   settings = same-stays (λ (terminal : Terminal). terminal.pt) core.terminals number old new found same;
   count = length-set core.terminals number new;
   waits = refl;
-  logged_out = refl;
-  device_requests = refl;
 }

@@ -6,7 +6,7 @@ use Rattle.gw_base.specs.declared.setup.Pt.{Pt}
 use Rattle.zvt_msg.specs.declared.command.Command.TheVariants as commands
 use Rattle.zvt_msg.specs.Message.{MessageValue}
 use Rattle.zvt_talk.specs.declared.dialogue_kind.DialogueKind.{DialogueKind}
-use Rattle.zvt_talk.specs.declared.dialogue_kind.DialogueKind.TheVariants.{Registration, Enquiry}
+use Rattle.zvt_talk.specs.declared.dialogue_kind.DialogueKind.TheVariants.{Registration, Enquiry, EndOfDay as EndOfDayDialogue, Display as DisplayDialogue}
 use Rattle.zvt_talk.specs.declared.meaning.Heard.{Heard}
 use Rattle.zvt_talk.specs.declared.meaning.Heard.TheVariants as heard
 use Rattle.zvt_talk.specs.declared.phase.Phase.{Phase}
@@ -22,7 +22,7 @@ use Rattle.gw_owes.specs.declared.terminal.Standing.{Standing}
 use Rattle.gw_owes.specs.declared.terminal.Standing.TheVariants.{Unlinked, Registering, Enquiring, Ready, Serving, Aside}
 use Rattle.gw_owes.specs.Reports.{standing_reported}
 use Rattle.gw_owes.specs.Serving.{last_after_decline}
-use Rattle.gw_owes.specs.Transcript.{Carried, Commanded, Took, Wished, awaited_by, dialogue_by, came_with, came_by, talk_going_on, talk_by, standing_enquired, standing_served, standing_of_service, standing_ended, standing_taken, ended_with, standing_asked, standing_by}
+use Rattle.gw_owes.specs.Transcript.{Carried, Commanded, Took, Wished, awaited_by, dialogue_by, came_with, came_by, talk_going_on, talk_by, standing_enquired, standing_served, standing_done, standing_of_service, standing_ended, standing_taken, ended_with, some_transaction, some_day, some_display, standing_asked, standing_by}
 use Rattle.gw_owes.proofs.SetLemmas.{same-some}
 
 -- ---- what is known of dialogues
@@ -184,10 +184,23 @@ served-reported (heard.Declined result_code reported) last standing is = subst I
 served-reported heard.Unclear last standing is = absurd cc
 served-reported heard.Stray last standing is = absurd cc
 
+done-reported : (end : Heard) (last : ℕ) (standing : Standing) → standing_done end last ≡ Some standing → IsReported standing
+done-reported (heard.Begun stop) last standing is = absurd cc
+done-reported (heard.Note intermediate_status) last standing is = absurd cc
+done-reported heard.Line last standing is = absurd cc
+done-reported heard.Block last standing is = absurd cc
+done-reported heard.Seen last standing is = absurd cc
+done-reported (heard.Approved figures) last standing is = absurd cc
+done-reported heard.Done last standing is = subst IsReported (same-some (Ready last) standing is) tt
+done-reported (heard.Told reported approved result_code) last standing is = absurd cc
+done-reported (heard.Declined result_code reported) last standing is = subst IsReported (same-some (Ready last) standing is) tt
+done-reported heard.Unclear last standing is = absurd cc
+done-reported heard.Stray last standing is = absurd cc
+
 service-reported : (end : Heard) (service : Service) (last : ℕ) (standing : Standing) → standing_of_service end service last ≡ Some standing → IsReported standing
 service-reported end (Transaction slot) last standing is = served-reported end last standing is
-service-reported end (EndOfDay header period) last standing is = absurd cc
-service-reported end (Display header outputs) last standing is = absurd cc
+service-reported end (EndOfDay header period) last standing is = done-reported end last standing is
+service-reported end (Display header results) last standing is = done-reported end last standing is
 
 ended-reported : (least : ℕ) (end : Heard) (before standing : Standing) → standing_ended least end before ≡ Some standing → IsReported standing
 ended-reported least end (Unlinked due) standing is = absurd cc
@@ -210,8 +223,8 @@ IsOfTransaction found = (dialogue : Dialogue) → found ≡ Some dialogue → Is
 -- the dialogue of what is served
 abbrev pub ServesIn : Service → Option Dialogue → Type 0
 ServesIn (Transaction slot) found = IsOfTransaction found
-ServesIn (EndOfDay header period) found = ⊥
-ServesIn (Display header outputs) found = ⊥
+ServesIn (EndOfDay header period) found = IsOfKind EndOfDayDialogue found
+ServesIn (Display header results) found = IsOfKind DisplayDialogue found
 
 -- the dialogue of a standing: where the terminal is ready or set aside it has ended
 abbrev pub StandsIn : Standing → Option Dialogue → List Came → Type 0
@@ -245,16 +258,16 @@ of-kind one dialogue_kind is dialogue found = ap (λ (d : Dialogue). d.dialogue_
 of-transaction : (one : Dialogue) → IsTransaction one.dialogue_kind → IsOfTransaction (Some one)
 of-transaction one is dialogue found = subst (λ (d : Dialogue). IsTransaction d.dialogue_kind) (same-some one dialogue found) is
 
--- only a terminal that is ready serves a payment or a reversal after a command
-asked-stands : (from : Option Standing) (standing : Standing) (found : Option Dialogue) (came : List Came) → IsOfTransaction found → option_and_then standing_asked from ≡ Some standing → StandsIn standing found came
-asked-stands None standing found came transaction is = absurd cc
-asked-stands (Some (Unlinked due)) standing found came transaction is = absurd cc
-asked-stands (Some Registering) standing found came transaction is = absurd cc
-asked-stands (Some Enquiring) standing found came transaction is = absurd cc
-asked-stands (Some (Ready last)) standing found came transaction is =
-    subst (λ (s : Standing). StandsIn s found came) (same-some (Serving (Transaction 0) last) standing is) transaction
-asked-stands (Some (Serving service last)) standing found came transaction is = absurd cc
-asked-stands (Some (Aside before reported)) standing found came transaction is = absurd cc
+-- only a terminal that is ready serves after a command
+asked-stands : (service : Service) (from : Option Standing) (standing : Standing) (found : Option Dialogue) (came : List Came) → ServesIn service found → option_and_then (standing_asked service) from ≡ Some standing → StandsIn standing found came
+asked-stands service None standing found came serves is = absurd cc
+asked-stands service (Some (Unlinked due)) standing found came serves is = absurd cc
+asked-stands service (Some Registering) standing found came serves is = absurd cc
+asked-stands service (Some Enquiring) standing found came serves is = absurd cc
+asked-stands service (Some (Ready last)) standing found came serves is =
+    subst (λ (s : Standing). StandsIn s found came) (same-some (Serving service last) standing is) serves
+asked-stands service (Some (Serving other last)) standing found came serves is = absurd cc
+asked-stands service (Some (Aside before reported)) standing found came serves is = absurd cc
 
 took-stands : (laws : DialogueLaws) (runs : Bool) (found : Option Dialogue) (came more : List Came) (last : ℕ) (from : Option Standing) (end : Option Heard)
     → (if runs then option_and_then (λ dialogue. end_of dialogue (came ++ more)) found else None) ≡ end → ((before : Standing) → from ≡ Some before → StandsIn before found came)
@@ -270,13 +283,13 @@ pub stands-in : (laws : DialogueLaws) (pt : Pt) (transcript : List Carried) (sta
 stands-in laws pt [] standing is = subst (λ (s : Standing). StandsIn s None []) (same-some (Unlinked None) standing is) tt
 stands-in laws pt (Commanded (commands.Register password config currency) moment ∷ earlier) standing is =
     subst (λ (s : Standing). StandsIn s (dialogue_by pt (Commanded (commands.Register password config currency) moment ∷ earlier)) []) (same-some Registering standing is) (of-kind _ Registration refl)
-stands-in laws pt (Commanded (commands.Authorise amount currency) moment ∷ earlier) standing is = asked-stands (standing_by pt earlier) standing _ [] (of-transaction _ tt) is
+stands-in laws pt (Commanded (commands.Authorise amount currency) moment ∷ earlier) standing is = asked-stands some_transaction (standing_by pt earlier) standing _ [] (of-transaction _ tt) is
 stands-in laws pt (Commanded (commands.Enquire password) moment ∷ earlier) standing is =
     subst (λ (s : Standing). StandsIn s (dialogue_by pt (Commanded (commands.Enquire password) moment ∷ earlier)) []) (same-some Enquiring standing is) (of-kind _ Enquiry refl)
-stands-in laws pt (Commanded (commands.Reverse password receipt) moment ∷ earlier) standing is = asked-stands (standing_by pt earlier) standing _ [] (of-transaction _ tt) is
-stands-in laws pt (Commanded (commands.EndOfDay password) moment ∷ earlier) standing is = absurd cc
+stands-in laws pt (Commanded (commands.Reverse password receipt) moment ∷ earlier) standing is = asked-stands some_transaction (standing_by pt earlier) standing _ [] (of-transaction _ tt) is
+stands-in laws pt (Commanded (commands.EndOfDay password) moment ∷ earlier) standing is = asked-stands some_day (standing_by pt earlier) standing _ [] (of-kind _ EndOfDayDialogue refl) is
 stands-in laws pt (Commanded commands.Stop moment ∷ earlier) standing is = stands-in laws pt earlier standing is
-stands-in laws pt (Commanded (commands.Show lines) moment ∷ earlier) standing is = absurd cc
+stands-in laws pt (Commanded (commands.Show lines) moment ∷ earlier) standing is = asked-stands some_display (standing_by pt earlier) standing _ [] (of-kind _ DisplayDialogue refl) is
 stands-in laws pt (Took message moment last ∷ earlier) standing is =
     took-stands laws (is_some (talk_by pt earlier)) (dialogue_by pt earlier) (came_by earlier) _ last (standing_by pt earlier) (ended_with pt message moment earlier) refl
     (λ before stands. stands-in laws pt earlier before stands) standing is

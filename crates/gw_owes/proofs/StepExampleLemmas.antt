@@ -3,7 +3,7 @@ use Rattle.std.proofs.Common.{refl}
 use Rattle.std.specs.Fmt.{digits}
 use Rattle.gw_base.specs.Transaction.{transaction_text}
 use Rattle.gw_ledger.specs.History.{history}
-use Rattle.gw_owes.specs.StepExample.{ExamplePaymentAgain, ExampleOtherContent, ExampleOpenAgain, ExampleDeclinedAgain, ExampleReversalAgain, ExampleReconciliationAgain, ExampleStatus, ExampleLastStatus, ExampleAbort, ExampleNewKey, ExampleUsedUp, ExampleRoom, ExampleUnavailable, ExampleBeginning}
+use Rattle.gw_owes.specs.StepExample.{ExamplePaymentAgain, ExampleOtherContent, ExampleOpenAgain, ExampleDeclinedAgain, ExampleReversalAgain, ExampleReconciliationAgain, ExampleStatus, ExampleLastStatus, ExampleAbort, ExampleNewKey, ExampleUsedUp, ExampleRoom, ExampleUnavailable, ExampleBeginning, ExampleNewReconciliation, ExampleDayServed}
 
 pub payment-again : ExamplePaymentAgain
 unfolding history
@@ -119,6 +119,10 @@ room = record {
   two_free = refl;
   two_free_one_open = refl;
   three_free_one_open = refl;
+  two_free_one_served = refl;
+  three_free_one_served = refl;
+  three_free_both = refl;
+  four_free_both = refl;
 }
 
 pub unavailable : ExampleUnavailable
@@ -142,4 +146,49 @@ begins = record {
   unlinked_begins_none = refl;
   open_begins_none = refl;
   finished_begins_none = refl;
+}
+
+pub new-reconciliation : ExampleNewReconciliation
+unfolding history
+new-reconciliation = record {
+  synchronisation = refl;
+  previous = refl;
+  not_configured_first = refl;
+  own = record { no_reply = refl; items_are = refl };
+  own_unlinked = record { no_reply = refl; items_are = refl };
+  own_aside = record { no_reply = refl; items_are = refl };
+  own_serving = record { no_reply = refl; items_are = refl };
+  own_used_up = record { no_reply = refl; items_are = refl };
+  own_two_free = record { no_reply = refl; items_are = refl };
+  own_one_free = refl;
+  end_of_day = record { no_reply = refl; items_are = refl };
+  end_of_day_used_up = record { no_reply = refl; items_are = refl };
+  end_of_day_unlinked = refl;
+  end_of_day_aside = refl;
+  end_of_day_serving = refl;
+  end_of_day_one_free = refl;
+}
+
+pub day-served : ExampleDayServed
+unfolding history
+day-served = record {
+  again = refl;
+  again_without_room = refl;
+  again_begins_none = refl;
+  own_type = refl;
+  unserved_type = refl;
+  as_payment = refl;
+  as_reversal = refl;
+  other_till = refl;
+  other_service = refl;
+  own_beside = record { no_reply = refl; items_are = refl };
+  on_record = refl;
+  status = refl;
+  status_by_reference = refl;
+  status_of_another = refl;
+  last_status = refl;
+  abort = refl;
+  abort_begins = refl;
+  abort_of_another = refl;
+  abort_of_another_begins = refl;
 }

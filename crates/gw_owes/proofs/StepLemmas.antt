@@ -12,9 +12,10 @@ use Rattle.gw_ledger.specs.declared.entry.Found.{Found}
 use Rattle.gw_ledger.specs.Fold.{found_of}
 use Rattle.xlate.specs.Reply.{header_of, result_body_of}
 use Rattle.gw_owes.specs.Content.{has_same_content}
+use Rattle.gw_owes.specs.Days.{asks_day_served}
 use Rattle.gw_owes.specs.Diagnosis.{NamedTerminal}
 use Rattle.gw_owes.specs.Items.{RoundItem}
-use Rattle.gw_owes.specs.KeptReplies.{found_for, is_finished, kept_reply, repeated_reply, status_reply}
+use Rattle.gw_owes.specs.KeptReplies.{found_for, is_finished, kept_reply, repeated_reply, status_reply_at}
 use Rattle.gw_owes.specs.Reply.{ReplyValue, Finished, Repeated}
 use Rattle.gw_owes.specs.Replies.{header_of_reply, failure_reply}
 use Rattle.gw_owes.specs.Row.{Known}
@@ -110,11 +111,11 @@ repeats-found : (asking : Header) (found : Found) (kept : Option ResultBody) (re
 repeats-found asking found None repeated body is = cc
 repeats-found asking found (Some other) repeated body is = cc
 
--- so it is of what a key has
-repeats : (asking : Header) (there : Option Found) (repeated : Header) (body : ResultBody)
-    → option_and_then kept_reply there ≡ Some (Finished repeated body) → status_reply asking there ≡ Repeated (header_of_reply asking) repeated body
-repeats asking None repeated body is = cc
-repeats asking (Some found) repeated body is = repeats-found asking found (result_body_of found) repeated body is
+-- so it is of what a key has, whether an end of day of that key is served or not
+repeats : (asking : Header) (there : Option Found) (served : Bool) (repeated : Header) (body : ResultBody)
+    → option_and_then kept_reply there ≡ Some (Finished repeated body) → status_reply_at asking there served ≡ Repeated (header_of_reply asking) repeated body
+repeats asking None served repeated body is = absurd cc
+repeats asking (Some found) served repeated body is = repeats-found asking found (result_body_of found) repeated body is
 
 -- a result body comes from the records
 from-records : (kept : List Record) (header : Header) (result : StepResult) (repeated : Header) (body : ResultBody)
@@ -128,4 +129,4 @@ status-repeats-reply one other header asking request named reference repeated bo
     let kept = from-records one.kept header (step_result one header request named) repeated body is in
     let there : found_for one.kept header ≡ found_of other.kept (key_of asking reference) =
     ap (λ (kept : List Record). found_for kept header) same ∙ ap (option_and_then (found_of other.kept)) key_is in
-    ap Some (repeats asking (found_of other.kept (key_of asking reference)) repeated body (sym (ap (option_and_then kept_reply) there) ∙ kept))
+    ap Some (repeats asking (found_of other.kept (key_of asking reference)) (asks_day_served other.core asking (Some reference)) repeated body (sym (ap (option_and_then kept_reply) there) ∙ kept))

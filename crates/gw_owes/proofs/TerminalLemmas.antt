@@ -1,5 +1,5 @@
 -- What the items of terminals, and their links, leave and owe.
-use Rattle.std.proofs.Common.{◌≡◌, ◌≢◌, ℕ, ◌+◌, [], ◌∷◌, refl, sym, ◌∙◌, ap, subst, inl, inr, Bool, true, false}
+use Rattle.std.proofs.Common.{◌≡◌, ◌≢◌, ℕ, [], ◌∷◌, refl, sym, ◌∙◌, ap, subst, inl, inr, Bool, true, false}
 use Rattle.std.specs.Prelude.{Option, Some, None, Result, Ok, Err}
 use Rattle.zvt_apdu.specs.Grammar.{ApduValue}
 use Rattle.zvt_msg.specs.declared.fault.PtFault.{PtFault}
@@ -9,6 +9,8 @@ use Rattle.sale_values.specs.declared.header.Header.{Header}
 use Rattle.sale_values.specs.declared.request.SaleRequest.{SaleRequest}
 use Rattle.zvt_talk.specs.Laws.{IsAckOrNack}
 use Rattle.zvt_talk.specs.Talk.{TalkFacts}
+use Rattle.jrn_record.specs.declared.records.How.TheVariants as hows
+use Rattle.gw_owes.specs.Awaited.{many_more}
 use Rattle.gw_owes.specs.Calls.{SendPt, CutPt, LinkPt, Ask, Acknowledge, Refuse}
 use Rattle.gw_owes.specs.declared.terminal.Standing.TheVariants.{Unlinked, Registering}
 use Rattle.gw_owes.specs.declared.terminal.Terminal.{Terminal}
@@ -19,13 +21,14 @@ use Rattle.gw_owes.specs.Links.{is_linked, of_linked, cutting, LinkEvent, LinkIs
 use Rattle.gw_owes.specs.Greeting.{greeting, sending_calls, greet_decoded, greet_row, oversized_row}
 use Rattle.gw_owes.specs.Handling.{handle_decoded, handle_row}
 use Rattle.gw_owes.specs.Payments.{serve_row}
+use Rattle.gw_owes.specs.Reconciliations.{settled_of, reply_to_settled}
 use Rattle.gw_owes.specs.Deadlines.{is_late, is_due, late_row, due_row}
 use Rattle.gw_owes.specs.TerminalRows.{terminal_row}
 use Rattle.gw_owes.specs.Laws.{ends_in_one, EndsInOne}
 use Rattle.gw_owes.specs.TerminalLaws.{ChangesTerminalAlone, EachRowChangesItsTerminal, EachLinkChangesItsTerminal, GreetingChangesNothing, UnlinkedIsOwedNothing, AbsentIsOwedNothing, Awaits, EachLinkCountsAnew, owes_cut, BreaksDialogue, IsLateAt, EachCutHasCause, EachCauseCuts, EachMessageIsGreeted, NoLinkEventCuts, GoesOnTo, DueIsLinked, LinkedIsRegistered}
 use Rattle.gw_owes.proofs.PaymentLemmas.{each-served}
-use Rattle.gw_owes.proofs.RowLemmas.{links-end, reply-commands, reply-no-cut}
-use Rattle.gw_owes.proofs.SetLemmas.{new-is-there, alone-same, alone-set}
+use Rattle.gw_owes.proofs.RowLemmas.{links-end, reply-commands, reply-ends, reply-no-cut}
+use Rattle.gw_owes.proofs.SetLemmas.{new-is-there, alone-same, alone-set, terminals-same}
 use Rattle.gw_owes.proofs.HandlingLemmas.{breaks-cut, by-where, linked-row, each-terminal, each-linked, handle-alone, handle-ends, handle-cuts}
 
 -- ---- the calls
@@ -54,7 +57,17 @@ due-ends known number = each-terminal EndsInOne known number (λ terminal. owing
     (λ terminal found. by-where EndsInOne known (owing known (LinkPt number ∷ [])) (is_due known.moment terminal.standing) refl (λ due. refl))
 
 serve-ends : (known : Known) (number till : ℕ) (header : Header) (request : SaleRequest) → EndsInOne (serve_row known number till header request)
-serve-ends known number till header request = each-served EndsInOne known number till header request refl (λ terminal last asking at. refl) (λ terminal talk at may. refl) (λ terminal talk at may. refl)
+serve-ends known number till header request =
+    each-served EndsInOne known number till header request (record {
+      none = refl;
+      begins = λ terminal last asking at. refl;
+      sent = λ terminal talk at may. refl;
+      wished = λ terminal talk at may. refl;
+      session = λ success. refl;
+      settles = λ terminal at. reply-ends (Some till) (reply_to_settled known.kept (settled_of hows.Sale header terminal.pt.currency known.moment));
+      day = λ terminal last at. refl;
+      displays = λ terminal last outputs command at. refl;
+    })
 
 pub link-rows-end : (known : Known) (number : ℕ) (event : LinkEvent) → EndsInOne (link_row known number event)
 link-rows-end known number LinkIsMade = let ends = links-end known number in ends.made
@@ -112,12 +125,19 @@ link-changes-alone known number LinkIsMade =
 link-changes-alone known number LinkHasFailed = lost-alone known number
 link-changes-alone known number LinkIsLost = lost-alone known number
 
--- a request that a terminal begins to serve, or by which it stops what it serves, changes it alone
+-- a request that a terminal begins to serve, or by which it stops what it serves, changes it alone, and a Login or Logout none
 pub serve-alone : (known : Known) (number till : ℕ) (header : Header) (request : SaleRequest) → ChangesTerminalAlone number known.core (serve_row known number till header request).core
 serve-alone known number till header request =
-    each-served (λ (row : Row). ChangesTerminalAlone number known.core row.core) known number till header request (alone-same number known.core)
-    (λ terminal last asking at. alone-set number known.core terminal _ at.found refl) (λ terminal talk at may. alone-set number known.core terminal _ at.found refl)
-    (λ terminal talk at may. alone-set number known.core terminal _ at.found refl)
+    each-served (λ (row : Row). ChangesTerminalAlone number known.core row.core) known number till header request (record {
+      none = alone-same number known.core;
+      begins = λ terminal last asking at. alone-set number known.core terminal _ at.found refl;
+      sent = λ terminal talk at may. alone-set number known.core terminal _ at.found refl;
+      wished = λ terminal talk at may. alone-set number known.core terminal _ at.found refl;
+      session = λ success. terminals-same number known.core _ refl refl;
+      settles = λ terminal at. alone-same number known.core;
+      day = λ terminal last at. alone-set number known.core terminal _ at.found refl;
+      displays = λ terminal last outputs command at. alone-set number known.core terminal _ at.found refl;
+    })
 
 pub row-changes-alone : EachRowChangesItsTerminal
 row-changes-alone known (Crowded till) number is = absurd cc
@@ -180,7 +200,7 @@ lost-counts known number terminal found =
     subst (λ (o : Option Terminal). Awaits number 0 (of_terminal known (unlinks known number) o)) (sym found) (record {
       terminal = unlinked_terminal terminal known.moment;
       found = new-is-there known.core.terminals number terminal _ found;
-      count = sym (ap (λ (n : ℕ). 0 + n) (reply-commands terminal.asker (reply_to_lost terminal.standing)));
+      count = ap (λ (n : ℕ). many_more n 0) (sym (reply-commands terminal.asker (reply_to_lost terminal.standing)));
     })
 
 pub link-counts-anew : EachLinkCountsAnew
@@ -250,7 +270,17 @@ due-no-cut known number = each-terminal (λ (row : Row). owes_cut row.calls ≡ 
     (λ terminal found. by-where (λ (row : Row). owes_cut row.calls ≡ false) known (owing known (LinkPt number ∷ [])) (is_due known.moment terminal.standing) refl (λ due. refl))
 
 serve-no-cut : (known : Known) (number till : ℕ) (header : Header) (request : SaleRequest) → owes_cut (serve_row known number till header request).calls ≡ false
-serve-no-cut known number till header request = each-served (λ (row : Row). owes_cut row.calls ≡ false) known number till header request refl (λ terminal last asking at. refl) (λ terminal talk at may. refl) (λ terminal talk at may. refl)
+serve-no-cut known number till header request =
+    each-served (λ (row : Row). owes_cut row.calls ≡ false) known number till header request (record {
+      none = refl;
+      begins = λ terminal last asking at. refl;
+      sent = λ terminal talk at may. refl;
+      wished = λ terminal talk at may. refl;
+      session = λ success. refl;
+      settles = λ terminal at. reply-no-cut (Some till) (reply_to_settled known.kept (settled_of hows.Sale header terminal.pt.currency known.moment));
+      day = λ terminal last at. refl;
+      displays = λ terminal last outputs command at. refl;
+    })
 
 pub cuts-have-cause : EachCutHasCause
 cuts-have-cause known (Crowded till) cuts = absurd cc

@@ -1,21 +1,22 @@
 -- What is remembered of a terminal is what the transcript of its link says.
-use Rattle.std.proofs.Common.{◌≡◌, ◌≢◌, ℕ, zero, suc, ◌+◌, List, [], ◌∷◌, ◌++◌, refl, sym, ◌∙◌, ap, subst, Bool, true, false, cond, eqb}
+use Rattle.std.proofs.Common.{◌≡◌, ◌≢◌, ℕ, zero, suc, List, [], ◌∷◌, ◌++◌, refl, sym, ◌∙◌, ap, subst, Bool, true, false, cond, eqb}
 use Rattle.std.proofs.lemmas.Bool.{eqb-true, eqb-false}
 use Rattle.std.specs.Prelude.{map, slice_get, pos, nat_le, nat_lt, Option, Some, None, if◌then◌else◌, option_and_then, Result, Ok, Err}
-use Rattle.std.specs.Fmt.{digits}
 use Rattle.std.specs.Option.{option_map}
 use Rattle.gw_base.specs.declared.figures.Figures.{Figures}
 use Rattle.gw_base.specs.declared.key.Key.{Key}
 use Rattle.gw_base.specs.declared.setup.Pt.{Pt}
-use Rattle.gw_base.specs.Transaction.{transaction_text}
+use Rattle.sale_reply.specs.declared.reply.Shown.{Shown}
 use Rattle.sale_values.specs.declared.header.Header.{Header}
+use Rattle.sale_values.specs.declared.names.Period.{Period}
+use Rattle.sale_values.specs.declared.request.Output.{Output}
 use Rattle.sale_values.specs.declared.request.SaleRequest.{SaleRequest}
 use Rattle.sale_values.specs.declared.request.SaleRequest.TheVariants as requests
 use Rattle.sale_values.specs.Key.{key_of}
 use Rattle.zvt_apdu.specs.Grammar.{ApduValue}
+use Rattle.zvt_msg.specs.declared.command.Command.{Command}
 use Rattle.zvt_msg.specs.declared.command.Command.TheVariants as commands
 use Rattle.zvt_msg.specs.declared.fault.PtFault.{PtFault}
-use Rattle.zvt_bmp.specs.Decode.{decode_field_value, decode_status_field, decode_status_within, decode_status}
 use Rattle.zvt_msg.specs.Message.{MessageValue, Ack, Nack, Intermediate, Line, Block, Status, Completion, Abort, Other}
 use Rattle.zvt_msg.specs.MessageDecode.{decode_pt_message}
 use Rattle.zvt_talk.specs.declared.dialogue_kind.DialogueKind.{DialogueKind}
@@ -27,13 +28,18 @@ use Rattle.zvt_talk.specs.Dialogue.{Dialogue}
 use Rattle.zvt_talk.specs.Laws.{IsTransaction, IsEndOf, IsTransactionEnd, IsEnquiryEnd, IsServiceEnd}
 use Rattle.zvt_talk.specs.Talk.{TalkFacts, meaning, is_end, end_of, talk_after}
 use Rattle.zvt_talk.specs.TalkSteps.{may_send_stop, next_talk, talk_after_stop_wished}
+use Rattle.jrn_record.specs.declared.records.How.TheVariants as hows
 use Rattle.jrn_record.specs.declared.records.Deal.{Deal}
 use Rattle.jrn_record.specs.declared.records.Deal.TheVariants as deals
 use Rattle.jrn_record.specs.declared.records.Intent.{Intent as TheIntent}
 use Rattle.jrn_record.specs.declared.records.Outcome.{Outcome as TheOutcome}
 use Rattle.gw_ledger.specs.declared.entry.Entry.{Entry as TheEntry}
-use Rattle.gw_ledger.specs.History.{history}
 use Rattle.xlate.specs.Ask.{ask_for}
+use Rattle.xlate.specs.Display.{show_lines}
+use Rattle.gw_owes.specs.Awaited.{one_more_awaited}
+use Rattle.gw_owes.specs.DeviceRequests.{requests_device}
+use Rattle.gw_owes.specs.Displays.{asked_to_show, display_row, serving_display}
+use Rattle.gw_owes.specs.Reconciliations.{settled_of, reply_to_settled, day_command, asked_for_day, reconciliation_row, serving_day}
 use Rattle.gw_owes.specs.Reply.{ReplyValue}
 use Rattle.gw_owes.specs.declared.terminal.Service.TheVariants as services
 use Rattle.gw_owes.specs.declared.terminal.Standing.{Standing}
@@ -47,17 +53,20 @@ use Rattle.gw_owes.specs.Terminals.{terminal_at, of_terminal, with_terminal, tal
 use Rattle.gw_owes.specs.Links.{is_linked, cutting, LinkEvent, link_row, LinkIsMade, LinkHasFailed, LinkIsLost}
 use Rattle.gw_owes.specs.Reports.{Report, on_record, least_against, least_reported, standing_reported, outcome_reported, report_of_open, report_against}
 use Rattle.gw_owes.specs.Serving.{at_rest, staying, stops, reply_to_outcome, done_with, resolves, approved_outcome, was_stopped, declined_outcome, approved_row, last_after_decline, serving_transaction}
-use Rattle.gw_owes.specs.Payments.{Asking, asking_of, begins_asking, begins_in, is_beginning, begins_request, serve_row}
-use Rattle.gw_owes.specs.Steps.{step_result}
+use Rattle.gw_owes.specs.Payments.{Asking, asking_of, begins_asking, begins_in, begins_request, serve_row}
+use Rattle.gw_owes.specs.Sessions.{is_session}
+use Rattle.gw_owes.specs.SessionRows.{session_row}
+use Rattle.gw_owes.specs.Steps.{is_beginning, step_result}
 use Rattle.gw_owes.specs.Stops.{serves_key, stops_key, wishes_stop, wishing}
-use Rattle.gw_owes.specs.Handling.{awaited_after, taken_as, meaning_for, meaning_at, taking, registering, enquiring, consequence, handle_message, handle_decoded, handle_row}
+use Rattle.gw_owes.specs.Handling.{awaited_after, taken_as, meaning_for, meaning_at, taking, registering, enquiring, consequence, taken_row, handle_message, handle_decoded, handle_row}
 use Rattle.gw_owes.specs.Greeting.{greeting, sending_calls, greet_decoded, greet_row, oversized_row}
 use Rattle.gw_owes.specs.Deadlines.{is_late, late_row, is_due, due_row}
 use Rattle.gw_owes.specs.TerminalLaws.{owes_cut, ChangesTerminalAlone}
 use Rattle.gw_owes.specs.TerminalRows.{terminal_of, terminal_row}
-use Rattle.gw_owes.specs.Transcript.{Carried, Commanded, Took, Wished, TerminalStep, StepAt, HandlesItem, ChangesLink, awaited_by, dialogue_by, came_by, talk_by, standing_taken, standing_asked, standing_commanded, standing_by, as_carried, FollowsTranscript, commanded_by, took_decoded, took_of, wished_of, wished_for, took_by, transcript_after, transcript_anew, core_with_cut, core_after, is_number, transcript_with_cut, transcript_after_step, known_before, known_after, core_along, transcript_along, known_new, NewCoreFollowsTranscript, EachRowFollowsTranscript, EachLinkBeginsTranscript, EachStepFollowsTranscript}
-use Rattle.gw_owes.specs.TranscriptExample.{ExampleReadyTranscript, ExamplePaymentTranscript, ExampleReversalTranscript, ExampleStopTranscript, ExampleTranscript}
-use Rattle.gw_owes.proofs.HandlingLemmas.{by-where, each-terminal, each-linked}
+use Rattle.gw_owes.specs.Transcript.{Carried, Commanded, Took, Wished, TerminalStep, StepAt, HandlesItem, ChangesLink, awaited_by, dialogue_by, came_by, talk_by, standing_taken, some_transaction, some_day, some_display, standing_asked, standing_commanded, standing_by, as_carried, FollowsTranscript, commanded_by, took_decoded, took_of, wished_of, wished_for, took_by, transcript_after, transcript_anew, core_with_cut, core_after, is_number, transcript_with_cut, transcript_after_step, known_before, known_after, core_along, transcript_along, known_new, NewCoreFollowsTranscript, EachRowFollowsTranscript, EachLinkBeginsTranscript, EachStepFollowsTranscript}
+use Rattle.gw_owes.proofs.DialogueLemmas.{shown-lines}
+use Rattle.gw_owes.proofs.HandlingLemmas.{by-where, each-terminal, each-linked, taken-cases}
+use Rattle.gw_owes.proofs.PaymentLemmas.{session-served, day_row, each-reconciled, shown_row, each-shown}
 use Rattle.gw_owes.proofs.SetLemmas.{new-is-there, same-some}
 use Rattle.gw_owes.proofs.StandingLemmas.{DialogueLaws, talk-is, GoesOn, talk-goes, ended-rests, rests-more, standing-took, rests-unended, runs-ends, wished-talk, StandsIn, stands-in}
 use Rattle.gw_owes.proofs.TerminalLemmas.{link-changes-alone, row-changes-alone}
@@ -116,20 +125,27 @@ ends-talk laws known number transcript ends standing terminal meant taken ended 
 abbrev Follows : Known → ℕ → List Carried → Row → Type 0
 Follows known number transcript row = owes_cut row.calls ≡ false → FollowsTranscript number (commanded_by known.moment row.calls ++ transcript) row.core
 
--- ---- an Outcome
+-- ---- a reply
 
 pub reply-quiet : (moment : ℕ) (asker : Option ℕ) (reply : Option ReplyValue) → commanded_by moment (reply_calls_to asker reply) ≡ []
 reply-quiet moment None reply = refl
 reply-quiet moment (Some till) None = refl
 reply-quiet moment (Some till) (Some reply) = refl
 
--- its Outcome is kept, its till gets the reply, and no command is sent
+-- the terminal is done, its till gets the reply, and no command is sent
+replied-follows : (known : Known) (number : ℕ) (transcript : List Carried) (old terminal : Terminal) (standing : Standing) (reply : Option ReplyValue) → terminal_at known number ≡ Some old → None ≡ talk_by terminal.pt transcript
+    → terminal.awaited ≡ awaited_by transcript → Some (as_carried standing) ≡ standing_by terminal.pt transcript
+    → FollowsTranscript number (commanded_by known.moment (reply_calls_to terminal.asker reply) ++ transcript) (with_terminal known.core number (done_with terminal standing))
+replied-follows known number transcript old terminal standing reply found talk awaited stands =
+    subst (λ (sent : List Carried). FollowsTranscript number (sent ++ transcript) (with_terminal known.core number (done_with terminal standing)))
+    (sym (reply-quiet known.moment terminal.asker reply))
+    (follows known number transcript old (done_with terminal standing) found talk awaited stands)
+
+-- so it is where its Outcome is kept before
 resolves-follows : (known : Known) (number : ℕ) (transcript : List Carried) (old terminal : Terminal) (standing : Standing) (outcome : TheOutcome) → terminal_at known number ≡ Some old → None ≡ talk_by terminal.pt transcript
     → terminal.awaited ≡ awaited_by transcript → Some (as_carried standing) ≡ standing_by terminal.pt transcript → Follows known number transcript (resolves known number terminal standing outcome)
 resolves-follows known number transcript old terminal standing outcome found talk awaited stands no_cut =
-    subst (λ (sent : List Carried). FollowsTranscript number (sent ++ transcript) (with_terminal known.core number (done_with terminal standing)))
-    (sym (reply-quiet known.moment terminal.asker (reply_to_outcome known.kept outcome.slot outcome)))
-    (follows known number transcript old (done_with terminal standing) found talk awaited stands)
+    replied-follows known number transcript old terminal standing (reply_to_outcome known.kept outcome.slot outcome) found talk awaited stands
 
 -- ---- a registration
 
@@ -141,7 +157,7 @@ registering-follows laws known number transcript terminal heard.Line taken no_cu
 registering-follows laws known number transcript terminal heard.Block taken no_cut = goes-on laws known number transcript IsServiceEnd Registering terminal heard.Block taken refl
 registering-follows laws known number transcript terminal heard.Seen taken no_cut = goes-on laws known number transcript IsServiceEnd Registering terminal heard.Seen taken refl
 registering-follows laws known number transcript terminal (heard.Approved figures) taken no_cut = absurd (taken.may_end refl)
-registering-follows laws known number transcript terminal heard.Done taken no_cut = follows known number _ taken.old _ taken.found refl (ap (λ (n : ℕ). n + 1) taken.awaited_is) refl
+registering-follows laws known number transcript terminal heard.Done taken no_cut = follows known number _ taken.old _ taken.found refl (ap one_more_awaited taken.awaited_is) refl
 registering-follows laws known number transcript terminal (heard.Told reported approved result_code) taken no_cut = absurd (taken.may_end refl)
 registering-follows laws known number transcript terminal (heard.Declined result_code reported) taken no_cut = absurd cc
 registering-follows laws known number transcript terminal heard.Unclear taken no_cut = absurd cc
@@ -207,8 +223,8 @@ approved-follows laws known number transcript terminal slot last figures taken =
 stop-follows : (laws : DialogueLaws) (known : Known) (number : ℕ) (transcript : List Carried) (ends : Heard → Type 0) (standing : Standing) (terminal : Terminal) (meant : Heard)
     → HasTaken known number transcript ends standing terminal meant → is_end meant ≡ false → Follows known number transcript (stops known number terminal)
 stop-follows laws known number transcript ends standing terminal meant taken goes no_cut =
-    follows known number (Commanded commands.Stop known.moment ∷ transcript) taken.old (record terminal { awaited = terminal.awaited + 1 }) taken.found
-    (goes-talk laws known number transcript ends standing terminal meant taken goes) (ap (λ (n : ℕ). n + 1) taken.awaited_is)
+    follows known number (Commanded commands.Stop known.moment ∷ transcript) taken.old (record terminal { awaited = one_more_awaited terminal.awaited }) taken.found
+    (goes-talk laws known number transcript ends standing terminal meant taken goes) (ap one_more_awaited taken.awaited_is)
     (goes-standing known number transcript ends standing terminal meant taken goes)
 
 serving-follows : (laws : DialogueLaws) (known : Known) (number : ℕ) (transcript : List Carried) (terminal : Terminal) (slot last : ℕ) (meant : Heard) → HasTaken known number transcript IsTransactionEnd (Serving (services.Transaction slot) last) terminal meant
@@ -227,6 +243,39 @@ serving-follows laws known number transcript terminal slot last (heard.Declined 
     (ends-talk laws known number transcript IsTransactionEnd (Serving (services.Transaction slot) last) terminal (heard.Declined result_code reported) taken refl) taken.awaited_is (sym taken.leads)
 serving-follows laws known number transcript terminal slot last heard.Unclear taken = λ no_cut. absurd cc
 serving-follows laws known number transcript terminal slot last heard.Stray taken = λ no_cut. goes-on laws known number transcript IsTransactionEnd (Serving (services.Transaction slot) last) terminal heard.Stray taken refl
+
+-- ---- an end of day
+
+day-follows : (laws : DialogueLaws) (known : Known) (number : ℕ) (transcript : List Carried) (terminal : Terminal) (header : Header) (period : Period) (last : ℕ) (meant : Heard)
+    → HasTaken known number transcript IsServiceEnd (Serving (services.EndOfDay header period) last) terminal meant → Follows known number transcript (serving_day known number terminal last header meant)
+day-follows laws known number transcript terminal header period last (heard.Begun true) taken = stop-follows laws known number transcript IsServiceEnd (Serving (services.EndOfDay header period) last) terminal (heard.Begun true) taken refl
+day-follows laws known number transcript terminal header period last (heard.Begun false) taken = λ no_cut. goes-on laws known number transcript IsServiceEnd (Serving (services.EndOfDay header period) last) terminal (heard.Begun false) taken refl
+day-follows laws known number transcript terminal header period last (heard.Note intermediate_status) taken = λ no_cut. goes-on laws known number transcript IsServiceEnd (Serving (services.EndOfDay header period) last) terminal (heard.Note intermediate_status) taken refl
+day-follows laws known number transcript terminal header period last heard.Line taken = λ no_cut. goes-on laws known number transcript IsServiceEnd (Serving (services.EndOfDay header period) last) terminal heard.Line taken refl
+day-follows laws known number transcript terminal header period last heard.Block taken = λ no_cut. goes-on laws known number transcript IsServiceEnd (Serving (services.EndOfDay header period) last) terminal heard.Block taken refl
+day-follows laws known number transcript terminal header period last heard.Seen taken = λ no_cut. goes-on laws known number transcript IsServiceEnd (Serving (services.EndOfDay header period) last) terminal heard.Seen taken refl
+day-follows laws known number transcript terminal header period last (heard.Approved figures) taken = absurd (taken.may_end refl)
+day-follows laws known number transcript terminal header period last heard.Done taken = λ no_cut. replied-follows known number transcript taken.old terminal (Ready last) _ taken.found (ends-talk laws known number transcript IsServiceEnd (Serving (services.EndOfDay header period) last) terminal heard.Done taken refl) taken.awaited_is (sym taken.leads)
+day-follows laws known number transcript terminal header period last (heard.Told reported approved result_code) taken = absurd (taken.may_end refl)
+day-follows laws known number transcript terminal header period last (heard.Declined result_code reported) taken = λ no_cut. replied-follows known number transcript taken.old terminal (Ready last) _ taken.found (ends-talk laws known number transcript IsServiceEnd (Serving (services.EndOfDay header period) last) terminal (heard.Declined result_code reported) taken refl) taken.awaited_is (sym taken.leads)
+day-follows laws known number transcript terminal header period last heard.Unclear taken = λ no_cut. absurd cc
+day-follows laws known number transcript terminal header period last heard.Stray taken = λ no_cut. goes-on laws known number transcript IsServiceEnd (Serving (services.EndOfDay header period) last) terminal heard.Stray taken refl
+
+-- ---- a display
+
+display-follows : (laws : DialogueLaws) (known : Known) (number : ℕ) (transcript : List Carried) (terminal : Terminal) (header : Header) (results : Option (List Shown)) (last : ℕ) (meant : Heard)
+    → HasTaken known number transcript IsServiceEnd (Serving (services.Display header results) last) terminal meant → Follows known number transcript (serving_display known number terminal last header results meant)
+display-follows laws known number transcript terminal header results last (heard.Begun stop) taken = λ no_cut. goes-on laws known number transcript IsServiceEnd (Serving (services.Display header results) last) terminal (heard.Begun stop) taken refl
+display-follows laws known number transcript terminal header results last (heard.Note intermediate_status) taken = λ no_cut. goes-on laws known number transcript IsServiceEnd (Serving (services.Display header results) last) terminal (heard.Note intermediate_status) taken refl
+display-follows laws known number transcript terminal header results last heard.Line taken = λ no_cut. goes-on laws known number transcript IsServiceEnd (Serving (services.Display header results) last) terminal heard.Line taken refl
+display-follows laws known number transcript terminal header results last heard.Block taken = λ no_cut. goes-on laws known number transcript IsServiceEnd (Serving (services.Display header results) last) terminal heard.Block taken refl
+display-follows laws known number transcript terminal header results last heard.Seen taken = λ no_cut. goes-on laws known number transcript IsServiceEnd (Serving (services.Display header results) last) terminal heard.Seen taken refl
+display-follows laws known number transcript terminal header results last (heard.Approved figures) taken = absurd (taken.may_end refl)
+display-follows laws known number transcript terminal header results last heard.Done taken = λ no_cut. replied-follows known number transcript taken.old terminal (Ready last) _ taken.found (ends-talk laws known number transcript IsServiceEnd (Serving (services.Display header results) last) terminal heard.Done taken refl) taken.awaited_is (sym taken.leads)
+display-follows laws known number transcript terminal header results last (heard.Told reported approved result_code) taken = absurd (taken.may_end refl)
+display-follows laws known number transcript terminal header results last (heard.Declined result_code reported) taken = λ no_cut. replied-follows known number transcript taken.old terminal (Ready last) _ taken.found (ends-talk laws known number transcript IsServiceEnd (Serving (services.Display header results) last) terminal (heard.Declined result_code reported) taken refl) taken.awaited_is (sym taken.leads)
+display-follows laws known number transcript terminal header results last heard.Unclear taken = λ no_cut. absurd cc
+display-follows laws known number transcript terminal header results last heard.Stray taken = λ no_cut. goes-on laws known number transcript IsServiceEnd (Serving (services.Display header results) last) terminal heard.Stray taken refl
 
 -- ---- what a message makes of a terminal
 
@@ -286,7 +335,7 @@ stray-stays known number terminal Enquiring linked = refl
 stray-stays known number terminal (Ready last) linked = refl
 stray-stays known number terminal (Serving (services.Transaction slot) last) linked = refl
 stray-stays known number terminal (Serving (services.EndOfDay header period) last) linked = refl
-stray-stays known number terminal (Serving (services.Display header outputs) last) linked = refl
+stray-stays known number terminal (Serving (services.Display header results) last) linked = refl
 stray-stays known number terminal (Aside before reported) linked = refl
 
 -- a message changes nothing but what is awaited where no dialogue runs
@@ -351,21 +400,31 @@ consequence-follows laws known number transcript terminal message (Serving (serv
     (takes-in laws known number transcript terminal message talk (Serving (services.Transaction slot) last) IsTransactionEnd is stands runs goes
     (transaction-ends _ (carried-in laws known number transcript terminal (Serving (services.Transaction slot) last) is stands goes.dialogue goes.found_is))))
 consequence-follows laws known number transcript terminal message (Serving (services.EndOfDay header period) last) is stands linked =
-    absurd (carried-in laws known number transcript terminal (Serving (services.EndOfDay header period) last) is stands)
-consequence-follows laws known number transcript terminal message (Serving (services.Display header outputs) last) is stands linked =
-    absurd (carried-in laws known number transcript terminal (Serving (services.Display header outputs) last) is stands)
+    by-talk _ terminal.pt transcript (rests-follows laws known number transcript terminal message (Serving (services.EndOfDay header period) last) is stands linked)
+    (λ talk runs goes. day-follows laws known number (with_message known terminal message transcript) (taking terminal message known.moment) header period last (meaning_at terminal message)
+    (takes-in laws known number transcript terminal message talk (Serving (services.EndOfDay header period) last) IsServiceEnd is stands runs goes
+    (λ end ends. subst (λ (k : DialogueKind). IsEndOf k end) (carried-in laws known number transcript terminal (Serving (services.EndOfDay header period) last) is stands goes.dialogue goes.found_is) ends)))
+consequence-follows laws known number transcript terminal message (Serving (services.Display header results) last) is stands linked =
+    by-talk _ terminal.pt transcript (rests-follows laws known number transcript terminal message (Serving (services.Display header results) last) is stands linked)
+    (λ talk runs goes. display-follows laws known number (with_message known terminal message transcript) (taking terminal message known.moment) header results last (meaning_at terminal message)
+    (takes-in laws known number transcript terminal message talk (Serving (services.Display header results) last) IsServiceEnd is stands runs goes
+    (λ end ends. subst (λ (k : DialogueKind). IsEndOf k end) (carried-in laws known number transcript terminal (Serving (services.Display header results) last) is stands goes.dialogue goes.found_is) ends)))
 consequence-follows laws known number transcript terminal message (Aside before reported) is stands linked =
     rests-follows laws known number transcript terminal message (Aside before reported) is stands linked (ended-rests laws terminal.pt transcript (carried-in laws known number transcript terminal (Aside before reported) is stands))
 
--- what holds where nothing is taken and owed, and where a message is taken, of its consequence, holds of what is taken and of the row
+-- what holds where nothing is taken and owed, and where a message is taken, of its consequence and of a device request, holds of what is taken and of the row
 pub each-taken : (P : List Carried → Row → Type 0) (known : Known) (number : ℕ) (apdu : ApduValue) (terminal : Terminal) → terminal_at known number ≡ Some terminal → P [] (owing_nothing known)
     → ((message : MessageValue) → is_taken message ≡ true → is_linked terminal.standing ≡ true → P (with_message known terminal message []) (consequence known number (taking terminal message known.moment) (meaning_at terminal message) terminal.standing))
+    → ((message : MessageValue) (till : ℕ) (request : ReplyValue) → P (with_message known terminal message []) (staying known number (taking terminal message known.moment))
+    → P (with_message known terminal message []) (requests_device known number (taking terminal message known.moment) till request))
     → P (took_by known (Handle number apdu)) (handle_row known number apdu)
-each-taken P known number apdu terminal found none some = by-decoded (decode_pt_message apdu)
+each-taken P known number apdu terminal found none some asks = by-decoded (decode_pt_message apdu)
   where
     by-taken : (message : MessageValue) → is_linked terminal.standing ≡ true → (taken : Bool) → is_taken message ≡ taken
-        → P (if taken then with_message known terminal message [] else []) (owing_where taken known (consequence known number (taking terminal message known.moment) (meaning_at terminal message) terminal.standing))
-    by-taken message linked true taken = some message taken linked
+        → P (if taken then with_message known terminal message [] else []) (owing_where taken known (taken_row known number (taking terminal message known.moment) (meaning_at terminal message) message))
+    by-taken message linked true taken =
+        taken-cases (P (with_message known terminal message [])) known number (taking terminal message known.moment) (meaning_at terminal message) message
+        (some message taken linked) (λ at stays. asks message at.till at.request stays)
     by-taken message linked false taken = none
 
     by-linked : (message : MessageValue) (linked : Bool) → is_linked terminal.standing ≡ linked
@@ -392,6 +451,8 @@ handle-follows laws known number apdu transcript has =
     (λ no_cut. has)
     (λ message taken linked. consequence-follows laws known number transcript has.terminal message has.terminal.standing
     (record { found = has.found; talk_is = has.talk_is; awaited_is = has.awaited_is; standing_is = has.standing_is }) refl linked)
+    (λ message till request stays no_cut. let there = stays refl in
+    record { terminal = there.terminal; found = there.found; talk_is = there.talk_is; awaited_is = there.awaited_is; standing_is = there.standing_is })
 
 -- ---- the row of a request that a terminal begins to serve
 
@@ -402,7 +463,7 @@ asked-talk deals.Payment intent original pt moment transcript = refl
 asked-talk deals.Reversal intent original pt moment transcript = refl
 
 -- and is served by a terminal that is ready
-asked-standing : (what : Deal) (intent : TheIntent) (original : Option TheEntry) (password : List ℕ) (standing : Option Standing) → standing_commanded (ask_for what intent original password) standing ≡ option_and_then standing_asked standing
+asked-standing : (what : Deal) (intent : TheIntent) (original : Option TheEntry) (password : List ℕ) (standing : Option Standing) → standing_commanded (ask_for what intent original password) standing ≡ option_and_then (standing_asked some_transaction) standing
 asked-standing deals.Payment intent original password standing = refl
 asked-standing deals.Reversal intent original password standing = refl
 
@@ -410,8 +471,8 @@ asking-follows : (known : Known) (number till : ℕ) (transcript : List Carried)
     → FollowsTranscript number transcript known.core → terminal.standing ≡ Ready last → Follows known number transcript (begins_asking known number till terminal last asked)
 asking-follows known number till transcript terminal last None is has stands no_cut = has
 asking-follows known number till transcript terminal last (Some asking) is has stands no_cut =
-    follows known number _ terminal _ is.found (asked-talk asking.intent.what asking.intent asking.original terminal.pt known.moment transcript) (ap (λ (n : ℕ). n + 1) is.awaited_is)
-    (ap (λ (s : Option Standing). option_and_then standing_asked s) (ap (λ (s : Standing). Some (as_carried s)) (sym stands) ∙ is.standing_is)
+    follows known number _ terminal _ is.found (asked-talk asking.intent.what asking.intent asking.original terminal.pt known.moment transcript) (ap one_more_awaited is.awaited_is)
+    (ap (λ (s : Option Standing). option_and_then (standing_asked some_transaction) s) (ap (λ (s : Standing). Some (as_carried s)) (sym stands) ∙ is.standing_is)
     ∙ sym (asked-standing asking.intent.what asking.intent asking.original terminal.pt.password (standing_by terminal.pt transcript)))
 
 begins-follows : (known : Known) (number till : ℕ) (header : Header) (request : SaleRequest) (transcript : List Carried) (terminal : Terminal) (standing : Standing) → IsAsCarried known number transcript terminal
@@ -426,6 +487,11 @@ begins-follows known number till header request transcript terminal (Aside befor
 
 pub as-carried : (known : Known) (number : ℕ) (transcript : List Carried) (has : FollowsTranscript number transcript known.core) → IsAsCarried known number transcript (FollowsTranscript.terminal has)
 as-carried known number transcript has = record { found = has.found; talk_is = has.talk_is; awaited_is = has.awaited_is; standing_is = has.standing_is }
+
+-- so it is of the terminal of this number, however it was found
+pub carried-there : (known : Known) (number : ℕ) (transcript : List Carried) (terminal : Terminal) → FollowsTranscript number transcript known.core → terminal_at known number ≡ Some terminal → IsAsCarried known number transcript terminal
+carried-there known number transcript terminal has found =
+    subst (IsAsCarried known number transcript) (same-some has.terminal terminal (sym has.found ∙ found)) (as-carried known number transcript has)
 
 request-follows : (known : Known) (number till : ℕ) (header : Header) (request : SaleRequest) (transcript : List Carried) → FollowsTranscript number transcript known.core
     → Follows known number transcript (of_terminal known (begins_request known number till header request) (terminal_at known number))
@@ -460,7 +526,7 @@ wish-follows laws known number transcript terminal (Some talk) is runs = by-test
   where
     by-test : (test : Bool) → Follows known number (Wished ∷ transcript) (if test then stops known number (wishing terminal talk) else staying known number (wishing terminal talk))
     by-test true no_cut =
-        wishing-follows laws known number transcript (Commanded commands.Stop known.moment ∷ Wished ∷ transcript) terminal talk (terminal.awaited + 1) is runs refl (ap (λ (n : ℕ). n + 1) is.awaited_is) refl
+        wishing-follows laws known number transcript (Commanded commands.Stop known.moment ∷ Wished ∷ transcript) terminal talk (one_more_awaited terminal.awaited) is runs refl (ap one_more_awaited is.awaited_is) refl
     by-test false no_cut = wishing-follows laws known number transcript (Wished ∷ transcript) terminal talk terminal.awaited is runs refl is.awaited_is refl
 
 abort-follows : (laws : DialogueLaws) (known : Known) (number : ℕ) (key : Key) (transcript : List Carried) → FollowsTranscript number transcript known.core
@@ -473,16 +539,52 @@ abort-follows laws known number key transcript has =
     by-serves true = wish-follows laws known number transcript has.terminal has.terminal.talk (as-carried known number transcript has) refl
     by-serves false = λ no_cut. has
 
+-- a Login and a Logout change no terminal
+session-follows : (known : Known) (number till : ℕ) (header : Header) (request : SaleRequest) (transcript : List Carried) → is_session request ≡ true → FollowsTranscript number transcript known.core
+    → Follows known number transcript (of_terminal known (session_row known number till header request) (terminal_at known number))
+session-follows known number till header request transcript is has =
+    session-served (Follows known number transcript) known number till header request is (λ no_cut. has)
+    (λ success no_cut. record { terminal = has.terminal; found = has.found; talk_is = has.talk_is; awaited_is = has.awaited_is; standing_is = has.standing_is })
+
+-- a terminal that is ready is asked for an end of day
+day-asked : (known : Known) (number till : ℕ) (header : Header) (transcript : List Carried) (terminal : Terminal) (last : ℕ) → IsAsCarried known number transcript terminal → terminal.standing ≡ Ready last
+    → Follows known number transcript (day_row known number till header terminal last)
+day-asked known number till header transcript terminal last is stands no_cut =
+    follows known number (Commanded (day_command terminal.pt) known.moment ∷ transcript) terminal (asked_for_day known till terminal last header) is.found refl (ap one_more_awaited is.awaited_is)
+    (ap (λ (s : Option Standing). option_and_then (standing_asked some_day) s) (ap (λ (s : Standing). Some (as_carried s)) (sym stands) ∙ is.standing_is))
+
+reconciliation-follows : (known : Known) (number till : ℕ) (header : Header) (period : Period) (transcript : List Carried) → FollowsTranscript number transcript known.core
+    → Follows known number transcript (of_terminal known (reconciliation_row known number till header period) (terminal_at known number))
+reconciliation-follows known number till header period transcript has =
+    each-reconciled (Follows known number transcript) known number till header period (λ no_cut. has)
+    (λ terminal at no_cut. subst (λ (sent : List Carried). FollowsTranscript number (sent ++ transcript) known.core) (sym (reply-quiet known.moment (Some till) (reply_to_settled known.kept (settled_of hows.Sale header terminal.pt.currency known.moment)))) has)
+    (λ terminal last at. day-asked known number till header transcript terminal last (carried-there known number transcript terminal has at.found) at.standing_is)
+
+-- lines are shown by a terminal that is ready
+lines-asked : (known : Known) (number till : ℕ) (header : Header) (outputs : List Output) (transcript : List Carried) (terminal : Terminal) (last : ℕ) (command : Command) (lines : List (List ℕ)) → IsAsCarried known number transcript terminal
+    → terminal.standing ≡ Ready last → command ≡ show_lines lines → Follows known number transcript (shown_row known number till header terminal last outputs command)
+lines-asked known number till header outputs transcript terminal last command lines is stands shows =
+    subst (λ (c : Command). Follows known number transcript (shown_row known number till header terminal last outputs c)) (sym shows)
+    (λ no_cut. follows known number (Commanded (show_lines lines) known.moment ∷ transcript) terminal (asked_to_show known till terminal last header outputs (show_lines lines)) is.found refl (ap one_more_awaited is.awaited_is)
+    (ap (λ (s : Option Standing). option_and_then (standing_asked some_display) s) (ap (λ (s : Standing). Some (as_carried s)) (sym stands) ∙ is.standing_is)))
+
+display-begins : (known : Known) (number till : ℕ) (header : Header) (outputs : List Output) (transcript : List Carried) → FollowsTranscript number transcript known.core
+    → Follows known number transcript (of_terminal known (display_row known number till header outputs) (terminal_at known number))
+display-begins known number till header outputs transcript has =
+    each-shown (Follows known number transcript) known number till header outputs (λ no_cut. has)
+    (λ terminal last command at. let lines = shown-lines outputs command at.shown_is in
+    lines-asked known number till header outputs transcript terminal last command lines.0 (carried-there known number transcript terminal has at.found) at.standing_is lines.1)
+
 serve-follows : (laws : DialogueLaws) (known : Known) (number till : ℕ) (header : Header) (request : SaleRequest) (transcript : List Carried) → FollowsTranscript number transcript known.core
     → Follows known number (wished_for known number header request ++ transcript) (serve_row known number till header request)
-serve-follows laws known number till header requests.Login transcript has = λ no_cut. has
-serve-follows laws known number till header requests.Logout transcript has = λ no_cut. has
+serve-follows laws known number till header requests.Login transcript has = session-follows known number till header requests.Login transcript refl has
+serve-follows laws known number till header requests.Logout transcript has = session-follows known number till header requests.Logout transcript refl has
 serve-follows laws known number till header (requests.Payment payment) transcript has = request-follows known number till header (requests.Payment payment) transcript has
 serve-follows laws known number till header (requests.Reversal reversal) transcript has = request-follows known number till header (requests.Reversal reversal) transcript has
 serve-follows laws known number till header (requests.Abort reference) transcript has = abort-follows laws known number (key_of header reference) transcript has
 serve-follows laws known number till header (requests.Status reference) transcript has = λ no_cut. has
-serve-follows laws known number till header (requests.Reconciliation period) transcript has = λ no_cut. has
-serve-follows laws known number till header (requests.Display outputs) transcript has = λ no_cut. has
+serve-follows laws known number till header (requests.Reconciliation period) transcript has = reconciliation-follows known number till header period transcript has
+serve-follows laws known number till header (requests.Display outputs) transcript has = display-begins known number till header outputs transcript has
 serve-follows laws known number till header (requests.Print qualifier) transcript has = λ no_cut. has
 serve-follows laws known number till header requests.Diagnosis transcript has = λ no_cut. has
 
@@ -691,57 +793,3 @@ along-follows laws known (first ∷ rest) number transcript has =
 
 pub steps-follow : DialogueLaws → EachStepFollowsTranscript
 steps-follow laws setup kept steps number pt found = along-follows laws (known_new setup kept) steps number [] (new-follows setup number pt found)
-
--- ---- the example
-
-ready-transcript : ExampleReadyTranscript
-unfolding decode_pt_message history
-ready-transcript = record {
-  registered = refl;
-  registered_awaits = refl;
-  registered_standing = refl;
-  registered_follows = record { terminal = _; found = refl; talk_is = refl; awaited_is = refl; standing_is = refl };
-  ready = refl;
-  ready_awaits = refl;
-  ready_talk = refl;
-  ready_standing = refl;
-  ready_follows = record { terminal = _; found = refl; talk_is = refl; awaited_is = refl; standing_is = refl };
-  cut = refl;
-  cut_follows = record { terminal = _; found = refl; talk_is = refl; awaited_is = refl; standing_is = refl };
-}
-
-payment-transcript : ExamplePaymentTranscript
-unfolding decode_pt_message decode_status decode_status_within decode_status_field decode_field_value history
-payment-transcript = record {
-  serving = record { transcript_is = refl; carried_is = refl; standing_is = refl; follows = record { terminal = _; found = refl; talk_is = refl; awaited_is = refl; standing_is = refl } };
-  serving_awaits = refl;
-  approved = record { transcript_is = refl; carried_is = refl; standing_is = refl; follows = record { terminal = _; found = refl; talk_is = refl; awaited_is = refl; standing_is = refl } };
-  approved_talk = refl;
-  serving_again = record { transcript_is = refl; carried_is = refl; standing_is = refl; follows = record { terminal = _; found = refl; talk_is = refl; awaited_is = refl; standing_is = refl } };
-  declined = record { transcript_is = refl; carried_is = refl; standing_is = refl; follows = record { terminal = _; found = refl; talk_is = refl; awaited_is = refl; standing_is = refl } };
-  refused = record { transcript_is = refl; carried_is = refl; standing_is = refl; follows = record { terminal = _; found = refl; talk_is = refl; awaited_is = refl; standing_is = refl } };
-  aside = record { transcript_is = refl; carried_is = refl; standing_is = refl; follows = record { terminal = _; found = refl; talk_is = refl; awaited_is = refl; standing_is = refl } };
-  unclear = record { transcript_is = refl; carried_is = refl; standing_is = refl; follows = record { terminal = _; found = refl; talk_is = refl; awaited_is = refl; standing_is = refl } };
-}
-
-reversal-transcript : ExampleReversalTranscript
-unfolding decode_pt_message decode_status decode_status_within decode_status_field decode_field_value history transaction_text digits
-reversal-transcript = record {
-  reversing = record { transcript_is = refl; carried_is = refl; standing_is = refl; follows = record { terminal = _; found = refl; talk_is = refl; awaited_is = refl; standing_is = refl } };
-  reversed = record { transcript_is = refl; carried_is = refl; standing_is = refl; follows = record { terminal = _; found = refl; talk_is = refl; awaited_is = refl; standing_is = refl } };
-}
-
-stop-transcript : ExampleStopTranscript
-unfolding decode_pt_message decode_status decode_status_within decode_status_field decode_field_value history
-stop-transcript = record {
-  wished = record { transcript_is = refl; carried_is = refl; standing_is = refl; follows = record { terminal = _; found = refl; talk_is = refl; awaited_is = refl; standing_is = refl } };
-  wished_awaits = refl;
-  unacknowledged = record { transcript_is = refl; carried_is = refl; standing_is = refl; follows = record { terminal = _; found = refl; talk_is = refl; awaited_is = refl; standing_is = refl } };
-  unacknowledged_awaits = refl;
-  late = record { transcript_is = refl; carried_is = refl; standing_is = refl; follows = record { terminal = _; found = refl; talk_is = refl; awaited_is = refl; standing_is = refl } };
-  late_awaits = refl;
-  cut = record { transcript_is = refl; carried_is = refl; standing_is = refl; follows = record { terminal = _; found = refl; talk_is = refl; awaited_is = refl; standing_is = refl } };
-}
-
-pub example-transcript : ExampleTranscript
-example-transcript = record { ready = ready-transcript; payments = payment-transcript; reversal = reversal-transcript; stop = stop-transcript }

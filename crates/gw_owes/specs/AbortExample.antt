@@ -1,20 +1,27 @@
--- Closed examples of Aborts: of requests that are served, open, finished and unknown, the stop of what is served, its end after that, and the late Ack or Nack of a stop.
+-- Closed examples of Aborts: of requests that are served, open, finished and unknown, the stop of what is served, its end after that, of an end of day and a display, and the late Ack or Nack of a stop.
 use Rattle.std.specs.Prelude.{◌≡◌, ℕ, pos, true, false, List, [], ◌∷◌, ◌++◌, Some, None, codes}
+use Rattle.gw_base.specs.declared.condition.Condition.{Condition}
 use Rattle.gw_base.specs.declared.condition.Condition.TheVariants.{Aborted, Cancel, InProgress}
+use Rattle.sale_values.specs.declared.header.Header.{Header}
+use Rattle.sale_values.specs.declared.names.Class.TheVariants as classes
+use Rattle.sale_values.specs.declared.names.Period.TheVariants.{AcquirerReconciliation}
 use Rattle.sale_values.specs.declared.request.SaleRequest.TheVariants as requests
 use Rattle.sale_reply.specs.declared.reply.Detail.TheVariants as details
-use Rattle.sale_reply.specs.declared.reply.Told.TheVariants.{PaymentApproved, PaymentDeclined}
+use Rattle.sale_reply.specs.declared.reply.Told.TheVariants.{PaymentApproved, PaymentDeclined, Reconciled}
 use Rattle.zvt_msg.specs.declared.command.Command.TheVariants as commands
+use Rattle.jrn_record.specs.declared.records.How.TheVariants as hows
 use Rattle.jrn_record.specs.declared.records.Outcome.{Outcome as TheOutcome}
-use Rattle.jrn_record.specs.declared.records.Record.TheVariants.{Intent, Outcome}
+use Rattle.jrn_record.specs.declared.records.Settled.{Settled as TheSettled}
+use Rattle.jrn_record.specs.declared.records.Record.TheVariants.{Intent, Outcome, Settled}
 use Rattle.gw_base.specs.declared.currency.Currency.TheVariants.{Eur}
-use Rattle.gw_owes.specs.declared.terminal.Service.TheVariants.{Transaction}
+use Rattle.gw_owes.specs.declared.terminal.Service.TheVariants.{Transaction, EndOfDay, Display}
+use Rattle.gw_owes.specs.declared.terminal.Standing.{Standing}
 use Rattle.gw_owes.specs.declared.terminal.Standing.TheVariants.{Unlinked, Ready, Serving}
 use Rattle.gw_owes.specs.Calls.{Ask, OwedCall, SendTill, SendPt, CutPt, keep_calls, sending_bytes}
 use Rattle.gw_owes.specs.Links.{LinkIsMade}
-use Rattle.gw_owes.specs.PaymentExample.{Since, ComesTo, paid_at, paid_header, till_header, intent_after, approved_with_amount, approved_reply, declined_for, declined_reply, acknowledged_once, ended_with_reply, since_ready, since_begun, since_payment, since_asked, since_sent, since_linked, since_status}
+use Rattle.gw_owes.specs.PaymentExample.{Since, ComesTo, paid_at, paid_header, till_header, intent_after, approved_with_amount, approved_reply, declined_for, declined_reply, acknowledged_once, ended_with_reply, since_ready, since_begun, since_payment, since_asked, since_sent, since_linked, since_status, header_of_day, since_day_begun}
 use Rattle.gw_owes.specs.Reply.{ReplyValue, Finished, Reject}
-use Rattle.gw_owes.specs.Replies.{failure_reply}
+use Rattle.gw_owes.specs.Replies.{header_of_reply, failure_reply}
 use Rattle.gw_owes.specs.ReversalExample.{since_kept, since_paid, since_reversing, paid_status}
 use Rattle.gw_owes.specs.TerminalExample.{ack, completion, abort, approved_status}
 
@@ -86,6 +93,60 @@ pub record ExampleStoppedEnds : Type 0 where
   pub approved :
       ComesTo (since_sent completion (since_sent approved_status (since_sent (0x84 ∷ 0x83 ∷ 0x00 ∷ []) (from_here since_stopped))))
       (acknowledged_once ++ acknowledged_once ++ ended_with_reply (approved_with_amount 1099) (approved_reply 1099)) (Ready 123)
+
+-- ---- an end of day, and a display
+
+-- the end of day with ServiceID 1 has begun
+abbrev pub since_day : Since
+since_day = from_here since_day_begun
+
+-- the terminal has acknowledged it
+abbrev pub since_day_acknowledged : Since
+since_day_acknowledged = from_here (since_sent ack since_day_begun)
+
+-- the standing of the terminal that serves it
+abbrev pub serving_the_day : Standing
+serving_the_day = Serving (EndOfDay header_of_day AcquirerReconciliation) 122
+
+-- what is kept of it where it is done
+abbrev pub settled_day : TheSettled
+settled_day = record { how = hows.Acquirer; sale = codes "S1"; poi = codes "T1"; service = codes "1"; currency = Eur; moment = pos paid_at }
+
+-- it fails for this reason
+abbrev pub day_fails : Condition → List OwedCall
+day_fails condition = SendTill 1 (failure_reply header_of_day condition) ∷ []
+
+-- An end of day is stopped as a payment is. The terminal aborts with the code 6C: after a stop that is `Aborted`, and without one `Cancel`. It may be done all the same: then its Settled is kept.
+pub record ExampleDayAborted : Type 0 where
+  pub at_once : ComesTo (since_abort (codes "1") since_day_acknowledged) stopped_once serving_the_day
+  pub wished : ComesTo (since_abort (codes "1") since_day) [] serving_the_day
+  pub then_sent : ComesTo (since_sent ack (since_abort (codes "1") since_day)) stopped_once serving_the_day
+  pub twice : ComesTo (since_abort (codes "1") (since_abort (codes "1") since_day_acknowledged)) stopped_once serving_the_day
+  pub refused : ComesTo (since_sent (0x84 ∷ 0x83 ∷ 0x00 ∷ []) (since_abort (codes "1") since_day_acknowledged)) stopped_once serving_the_day
+  pub another : ComesTo (since_abort (codes "2") since_day_acknowledged) (SendTill 1 abort_reject ∷ []) serving_the_day
+  pub after_stop : ComesTo (since_sent (abort 0x6C) (from_here (since_abort (codes "1") since_day_acknowledged))) (acknowledged_once ++ day_fails Aborted) (Ready 122)
+  pub before_stop : ComesTo (since_sent (abort 0x6C) since_day_acknowledged) (acknowledged_once ++ day_fails Cancel) (Ready 122)
+  pub done :
+      ComesTo (since_sent completion (from_here (since_abort (codes "1") since_day_acknowledged)))
+      (acknowledged_once ++ keep_calls 0 (Settled settled_day) ++ SendTill 1 (Finished (header_of_reply header_of_day) (Reconciled AcquirerReconciliation Eur (0, 0) (0, 0))) ∷ []) (Ready 122)
+  pub over : ComesTo (since_abort (codes "1") (from_here (since_sent completion since_day_acknowledged))) (SendTill 1 abort_reject ∷ []) (Ready 122)
+
+-- the header of the Display with ServiceID 1
+abbrev pub header_to_show : Header
+header_to_show = record (till_header (codes "Display") (codes "1")) { class = classes.Device; device = Some (codes "1") }
+
+-- after till 1 asks for it: one line for the customer's display, without a response
+abbrev pub since_display : Since → Since
+since_display since = since_asked 1 header_to_show (requests.Display (record { device = codes "CustomerDisplay"; qualify = codes "Display"; required = false; texts = Some (codes "HELLO" ∷ []) } ∷ [])) since
+
+-- it has begun
+abbrev pub since_shown : Since
+since_shown = from_here (since_display (since_ready 122))
+
+-- an Abort of a display is refused, and nothing is stopped, also once the display is acknowledged
+pub record ExampleDisplayAborted : Type 0 where
+  pub refused : ComesTo (since_abort (codes "1") since_shown) (SendTill 1 abort_reject ∷ []) (Serving (Display header_to_show None) 122)
+  pub then_shown : ComesTo (since_sent ack (since_abort (codes "1") since_shown)) (SendTill 1 abort_reject ∷ []) (Ready 122)
 
 -- ---- the late Ack or Nack of a stop
 

@@ -1,14 +1,17 @@
 -- Laws of Aborts: which gets a Reject and which stops what is served, that `06 B0` is sent once, what a stop leaves as it is, and what a late refusal of it means.
-use Rattle.std.specs.Prelude.{◌≡◌, ◌≤◌, ◌||◌, ℕ, ◌+◌, ◌-◌, ◌+ℤ◌, pos, Bool, true, false, if◌then◌else◌, List, [], ◌∷◌, slice_get, Option, Some, None, Ok, codes}
+use Rattle.std.specs.Prelude.{◌≡◌, ◌≤◌, ◌||◌, ℕ, ◌+ℤ◌, pos, Bool, true, false, if◌then◌else◌, List, [], ◌∷◌, slice_get, Option, Some, None, Ok, codes}
 use Rattle.std.specs.Option.{option_map}
 use Rattle.gw_base.specs.declared.condition.Condition.TheVariants.{Aborted, Cancel}
+use Rattle.gw_base.specs.declared.key.Key.{Key}
 use Rattle.gw_site.specs.Outside.{Connection, is_connected}
 use Rattle.sale_values.specs.declared.fault.SaleFault.TheVariants.{Missing, Wrong}
 use Rattle.sale_values.specs.declared.header.Header.{Header}
+use Rattle.sale_values.specs.declared.names.Period.{Period}
 use Rattle.sale_values.specs.declared.request.Reference.{Reference}
 use Rattle.sale_values.specs.declared.request.SaleRequest.TheVariants as requests
 use Rattle.sale_values.specs.Key.{key_of}
 use Rattle.sale_reply.specs.declared.reply.Detail.TheVariants as details
+use Rattle.sale_reply.specs.declared.reply.Shown.{Shown}
 use Rattle.zvt_apdu.specs.Grammar.{ApduValue}
 use Rattle.zvt_msg.specs.declared.command.Command.{Command}
 use Rattle.zvt_msg.specs.declared.command.Command.TheVariants as commands
@@ -20,18 +23,23 @@ use Rattle.zvt_talk.specs.declared.phase.Phase.TheVariants as phases
 use Rattle.zvt_talk.specs.declared.statuses.Statuses.{Statuses}
 use Rattle.zvt_talk.specs.Laws.{IsAckOrNack}
 use Rattle.zvt_talk.specs.Talk.{TalkFacts}
-use Rattle.gw_owes.specs.declared.terminal.Service.TheVariants.{Transaction}
+use Rattle.jrn_record.specs.declared.records.Record.{Record}
+use Rattle.gw_owes.specs.declared.terminal.Service.{Service}
+use Rattle.gw_owes.specs.declared.terminal.Service.TheVariants.{Transaction, EndOfDay, Display}
 use Rattle.gw_owes.specs.declared.terminal.Standing.TheVariants.{Ready, Serving}
 use Rattle.gw_owes.specs.declared.terminal.Terminal.{Terminal}
+use Rattle.gw_owes.specs.Awaited.{one_more_awaited, one_less_awaited}
 use Rattle.gw_owes.specs.Calls.{Sending, Ask, Acknowledge, Refuse, OwedCall, SendTill, SendPt, CutTill, CutPt, LinkPt, WriteBody, WriteGate, WriteFirstGate, Sync, records_kept}
+use Rattle.gw_owes.specs.Days.{is_day_served}
 use Rattle.gw_owes.specs.Diagnosis.{NamedTerminal, named_terminal}
 use Rattle.gw_owes.specs.Dialogues.{HasItsDialogue}
 use Rattle.gw_owes.specs.Handling.{handle_row}
 use Rattle.gw_owes.specs.Items.{RoundItem, Asked, Serve}
 use Rattle.gw_owes.specs.KeptReplies.{is_open_key}
-use Rattle.gw_owes.specs.PaymentLaws.{MeansAt, outcome_calls, sends_till}
+use Rattle.gw_owes.specs.PaymentLaws.{MeansAt, MeansServed, outcome_calls, sends_till}
 use Rattle.gw_owes.specs.ReadAs.{NoMessage, Request}
 use Rattle.gw_owes.specs.Reply.{Reject}
+use Rattle.gw_owes.specs.Replies.{failure_reply}
 use Rattle.gw_owes.specs.Requests.{reply_to, request_reply}
 use Rattle.gw_owes.specs.Row.{Known, Row}
 use Rattle.gw_owes.specs.Rows.{row_of}
@@ -39,15 +47,18 @@ use Rattle.gw_owes.specs.Serving.{last_after_decline, was_stopped}
 use Rattle.gw_owes.specs.Stops.{serves_key}
 use Rattle.gw_owes.specs.TerminalLaws.{GoesOnTo}
 use Rattle.gw_owes.specs.TerminalRows.{terminal_of, terminal_row}
-use Rattle.gw_owes.specs.Terminals.{terminal_at}
+use Rattle.gw_owes.specs.Terminals.{terminal_at, reply_calls_to}
 use Rattle.gw_owes.specs.Transcript.{Carried, FollowsTranscript, awaited_by}
 
 -- ---- what a till gets
 
--- an Abort of a key that is open gets no reply, and each other a Reject
+-- an Abort of a key that is open, or that of an end of day that is served, gets no reply, and each other a Reject
 pub record GetsRejectOrNothing (known : Known) (header : Header) (reference : Reference) : Type 0 where
-  pub silent : is_open_key known.kept header reference ≡ true → request_reply known header (requests.Abort reference) ≡ None
-  pub reject : is_open_key known.kept header reference ≡ false → request_reply known header (requests.Abort reference) ≡ Some (Reject header.sale header.poi (pos known.moment) details.Abort)
+  pub of_open : is_open_key known.kept header reference ≡ true → request_reply known header (requests.Abort reference) ≡ None
+  pub of_day : is_day_served known.core (key_of header reference) ≡ true → request_reply known header (requests.Abort reference) ≡ None
+  pub reject :
+      is_open_key known.kept header reference ≡ false → is_day_served known.core (key_of header reference) ≡ false
+      → request_reply known header (requests.Abort reference) ≡ Some (Reject header.sale header.poi (pos known.moment) details.Abort)
 
 -- so it is with each
 abbrev pub EachAbortGetsRejectOrNothing : Type 0
@@ -85,6 +96,19 @@ abbrev pub UnservedStopsNothing : Type 0
 UnservedStopsNothing =
     (tills : List Connection) (known : Known) (till : ℕ) (header : Header) (reference : Reference) → IsUnserved known header reference
     → (row_of tills known (Asked till (Request header (requests.Abort reference)))).items ≡ []
+
+-- ---- what may be stopped
+
+-- what may be stopped: a payment, a reversal or an end of day, and never a display
+abbrev pub IsStoppable : Service → Type 0
+IsStoppable (Transaction slot) = Unit {0}
+IsStoppable (EndOfDay header period) = Unit {0}
+IsStoppable (Display header results) = ⊥
+
+-- a terminal that serves a display serves no key, so that no Abort stops it
+abbrev pub DisplayServesNoKey : Type 0
+DisplayServesNoKey =
+    (kept : List Record) (key : Key) (terminal : Terminal) (header : Header) (results : Option (List Shown)) (last : ℕ) → terminal.standing ≡ Serving (Display header results) last → serves_key kept key terminal ≡ false
 
 -- ---- the stop
 
@@ -137,7 +161,7 @@ abbrev pub BegunIsStopped : Type 0
 BegunIsStopped =
     (known : Known) (number till : ℕ) (header : Header) (reference : Reference) (terminal : Terminal) (talk : TalkFacts) (statuses : Statuses) → ServesAborted known number header reference terminal talk
     → talk.phase ≡ phases.Begun false statuses
-    → GoesOnIn number terminal talk (phases.Begun true statuses) (terminal.awaited + 1) (stop_calls number) (terminal_row known (Serve number till header (requests.Abort reference)))
+    → GoesOnIn number terminal talk (phases.Begun true statuses) (one_more_awaited terminal.awaited) (stop_calls number) (terminal_row known (Serve number till header (requests.Abort reference)))
 
 -- where the command isn't acknowledged yet the stop is wished, and nothing is sent
 abbrev pub AskedIsWished : Type 0
@@ -146,7 +170,7 @@ AskedIsWished =
     → talk.phase ≡ phases.Asked stop_wished
     → GoesOnIn number terminal talk (phases.Asked true) terminal.awaited [] (terminal_row known (Serve number till header (requests.Abort reference)))
 
--- a stop that is wished is sent as soon as the command of a payment or a reversal is acknowledged
+-- a stop that is wished is sent as soon as the command of a payment, a reversal or an end of day is acknowledged
 pub record SendsWished (number : ℕ) (terminal : Terminal) (row : Row) : Type 0 where
   pub next : Terminal
   pub found : slice_get row.core.terminals number ≡ Some next
@@ -157,8 +181,8 @@ pub record SendsWished (number : ℕ) (terminal : Terminal) (row : Row) : Type 0
 -- so it is with each Ack of a terminal that serves one
 abbrev pub WishedIsSent : Type 0
 WishedIsSent =
-    (known : Known) (number : ℕ) (apdu : ApduValue) (terminal : Terminal) (slot last : ℕ) (talk : TalkFacts) → terminal_at known number ≡ Some terminal → terminal.standing ≡ Serving (Transaction slot) last
-    → HasItsDialogue terminal → terminal.talk ≡ Some talk → talk.phase ≡ phases.Asked true → decode_pt_message apdu ≡ Ok Ack
+    (known : Known) (number : ℕ) (apdu : ApduValue) (terminal : Terminal) (service : Service) (last : ℕ) (talk : TalkFacts) → terminal_at known number ≡ Some terminal → terminal.standing ≡ Serving service last
+    → IsStoppable service → HasItsDialogue terminal → terminal.talk ≡ Some talk → talk.phase ≡ phases.Asked true → decode_pt_message apdu ≡ Ok Ack
     → SendsWished number terminal (handle_row known number apdu)
 
 -- where the stop was sent an Abort sends nothing more
@@ -168,13 +192,14 @@ StoppedIsNotStoppedAgain =
     → talk.phase ≡ phases.Begun true statuses
     → GoesOnIn number terminal talk (phases.Begun true statuses) terminal.awaited [] (terminal_row known (Serve number till header (requests.Abort reference)))
 
--- The row sends its terminal the first stop of its dialogue: the terminal serves a payment or a reversal, in which none was sent before, and one has been from here on; nothing else is owed.
+-- The row sends its terminal the first stop of its dialogue: the terminal serves a payment, a reversal or an end of day, in which none was sent before, and one has been from here on; nothing else is owed.
 pub record IsFirstStop (known : Known) (number : ℕ) (row : Row) : Type 0 where
   pub terminal : Terminal
   pub found : terminal_at known number ≡ Some terminal
-  pub slot : ℕ
+  pub service : Service
   pub last : ℕ
-  pub serves : terminal.standing ≡ Serving (Transaction slot) last
+  pub serves : terminal.standing ≡ Serving service last
+  pub stoppable : IsStoppable service
   pub before : was_stopped terminal.talk ≡ false
   pub next : Terminal
   pub next_is : slice_get row.core.terminals number ≡ Some next
@@ -218,15 +243,15 @@ EachAbortEndsNothing =
 pub record StaysBegun (known : Known) (number : ℕ) (terminal : Terminal) (talk : TalkFacts) (row : Row) : Type 0 where
   pub terminal_is :
       slice_get row.core.terminals number
-      ≡ Some (record terminal { talk = Some (record talk { deadline = pos known.moment +ℤ pos talk.command_time }); awaited = terminal.awaited - 1 })
+      ≡ Some (record terminal { talk = Some (record talk { deadline = pos known.moment +ℤ pos talk.command_time }); awaited = one_less_awaited terminal.awaited })
   pub calls_are : row.calls ≡ []
   pub none_more : row.items ≡ []
 
--- an Ack or a Nack in the dialogue of a payment or a reversal that is begun ends nothing: it is that of a stop, or of nothing
+-- an Ack or a Nack in the dialogue of a payment, a reversal or an end of day that is begun ends nothing: it is that of a stop, or of nothing
 abbrev pub AckOrNackEndsNothing : Type 0
 AckOrNackEndsNothing =
-    (known : Known) (number : ℕ) (apdu : ApduValue) (message : MessageValue) (terminal : Terminal) (slot last : ℕ) (talk : TalkFacts) (stop_sent : Bool) (statuses : Statuses)
-    → terminal_at known number ≡ Some terminal → terminal.standing ≡ Serving (Transaction slot) last → terminal.talk ≡ Some talk → talk.phase ≡ phases.Begun stop_sent statuses
+    (known : Known) (number : ℕ) (apdu : ApduValue) (message : MessageValue) (terminal : Terminal) (service : Service) (last : ℕ) (talk : TalkFacts) (stop_sent : Bool) (statuses : Statuses)
+    → terminal_at known number ≡ Some terminal → terminal.standing ≡ Serving service last → IsStoppable service → terminal.talk ≡ Some talk → talk.phase ≡ phases.Begun stop_sent statuses
     → decode_pt_message apdu ≡ Ok message → IsAckOrNack message → StaysBegun known number terminal talk (handle_row known number apdu)
 
 -- ---- the end after a stop
@@ -239,6 +264,13 @@ AbortCodeIsKept =
     (outcome_calls known terminal
     (record { approved = false; slot = slot; number = 0; receipt = 0; amount = 0; condition = Some (if was_stopped terminal.talk then Aborted else Cancel); moment = pos known.moment }))
     (handle_row known number apdu)
+
+-- so it is of an end of day, of which nothing is kept: its till gets a Failure with that condition
+abbrev pub AbortCodeOfDayIsReplied : Type 0
+AbortCodeOfDayIsReplied =
+    (known : Known) (number : ℕ) (apdu : ApduValue) (terminal : Terminal) (header : Header) (period : Period) (last : ℕ) (reported : Option ℕ)
+    → MeansServed known number apdu terminal (EndOfDay header period) last (heard.Declined 0x6C reported)
+    → GoesOnTo number (Ready last) (reply_calls_to terminal.asker (Some (failure_reply header (if was_stopped terminal.talk then Aborted else Cancel)))) (handle_row known number apdu)
 
 -- ---- the late refusal of a stop
 

@@ -1,10 +1,8 @@
 -- What is awaited on a link is of the stops that were sent on it, and of the command of the dialogue that runs; without a stop each refusal is that command's own.
-use Rattle.std.specs.Prelude.{◌≡◌, ◌≤◌, ℕ, ◌+◌, Bool, true, false, List, [], ◌∷◌, slice_get, Option, Some, None}
+use Rattle.std.specs.Prelude.{◌≡◌, ◌≢◌, ◌≤◌, ℕ, ◌+◌, Bool, false, List, [], ◌∷◌, slice_get, Option, Some, None}
 use Rattle.std.specs.Option.{option_map}
 use Rattle.gw_base.specs.declared.setup.Pt.{Pt}
 use Rattle.gw_base.specs.declared.setup.Setup.{Setup}
-use Rattle.zvt_msg.specs.declared.command.Command.{Command}
-use Rattle.zvt_msg.specs.declared.command.Command.TheVariants as commands
 use Rattle.zvt_msg.specs.Message.{MessageValue, Nack}
 use Rattle.zvt_talk.specs.declared.meaning.Heard.{Heard}
 use Rattle.zvt_talk.specs.declared.meaning.Heard.TheVariants as heard
@@ -14,6 +12,8 @@ use Rattle.zvt_talk.specs.Talk.{TalkFacts}
 use Rattle.jrn_record.specs.declared.records.Record.{Record}
 use Rattle.gw_ledger.specs.Sums.{one_if}
 use Rattle.gw_owes.specs.declared.terminal.Terminal.{Terminal}
+use Rattle.gw_owes.specs.AbortLaws.{is_stop}
+use Rattle.gw_owes.specs.Awaited.{most_awaited}
 use Rattle.gw_owes.specs.Core.{Core}
 use Rattle.gw_owes.specs.Items.{RoundItem}
 use Rattle.gw_owes.specs.Row.{Known}
@@ -26,16 +26,6 @@ use Rattle.gw_owes.specs.Transcript.{Carried, Commanded, Took, Wished, FollowsTr
 use Rattle.gw_owes.specs.TranscriptExample.{steps_to_serving, steps_to_late, core_after_steps, transcript_after_steps}
 
 -- ---- what may be awaited
-
--- the command is a stop
-abbrev pub is_stop : Command → Bool
-is_stop (commands.Register password config currency) = false
-is_stop (commands.Authorise amount currency) = false
-is_stop (commands.Enquire password) = false
-is_stop (commands.Reverse password receipt) = false
-is_stop (commands.EndOfDay password) = false
-is_stop commands.Stop = true
-is_stop (commands.Show lines) = false
 
 -- how many stops were sent on the link
 abbrev pub stops_in : List Carried → ℕ
@@ -55,9 +45,14 @@ abbrev pub unacknowledged : Option TalkFacts → ℕ
 unacknowledged None = 0
 unacknowledged (Some talk) = unacknowledged_in talk.phase
 
+-- so many Acks and Nacks are awaited, where so many stops were sent and so many commands aren't acknowledged: no more than both; and no more than one beside those of the stops even where it is the greatest count, which doesn't fall
+pub record AwaitsWithin (stops own awaited : ℕ) : Type 0 where
+  pub both : awaited ≢ most_awaited → awaited ≤ stops + own
+  pub one_beside : awaited ≤ stops + 1
+
 -- of the terminal of this number no more Acks and Nacks are awaited than stops were sent on its link, and 1 while the command of its dialogue isn't acknowledged
 abbrev pub AwaitsNoMore : ℕ → List Carried → Core → Type 0
-AwaitsNoMore number transcript core = (terminal : Terminal) → slice_get core.terminals number ≡ Some terminal → terminal.awaited ≤ stops_in transcript + unacknowledged terminal.talk
+AwaitsNoMore number transcript core = (terminal : Terminal) → slice_get core.terminals number ≡ Some terminal → AwaitsWithin (stops_in transcript) (unacknowledged terminal.talk) terminal.awaited
 
 -- ---- the laws
 

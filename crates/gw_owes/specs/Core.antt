@@ -3,6 +3,7 @@ use Rattle.std.specs.Prelude.{ℕ, List, [], None, map}
 use Rattle.gw_base.specs.declared.key.Key.{Key}
 use Rattle.gw_base.specs.declared.setup.Pt.{Pt}
 use Rattle.gw_base.specs.declared.setup.Setup.{Setup}
+use Rattle.gw_owes.specs.declared.terminal.LoggedOut.{LoggedOut}
 use Rattle.gw_owes.specs.declared.terminal.Standing.TheVariants.{Unlinked}
 use Rattle.gw_owes.specs.declared.terminal.Terminal.{Terminal}
 
@@ -13,19 +14,15 @@ pub record Wait : Type 0 where
   pub till : ℕ
   pub deadline : ℕ
 
--- a SaleID that is logged out at a POIID
-pub record LoggedOut : Type 0 where
-  pub sale : List ℕ
-  pub poi : List ℕ
-
 -- what is remembered: nothing of it outlasts the run
 pub record Core : Type 0 where
   -- in the setup's order
   pub terminals : List Terminal
   -- in the order of their acceptance
   pub waits : List Wait
+  -- which SaleIDs are logged out, and where: in the order of their logouts
   pub logged_out : List LoggedOut
-  -- how many device requests were owed
+  -- how many device requests were owed, by which the next one is numbered; after the greatest number comes 0
   pub device_requests : ℕ
 
 -- nothing is remembered

@@ -2,7 +2,7 @@
 use Rattle.std.specs.Prelude.{◌≡◌, ◌≢◌, ◌≤◌, ℕ, Bool, true, false, slice_get, Option, Some, None}
 use Rattle.gw_base.specs.declared.setup.Setup.{Setup}
 use Rattle.zvt_talk.specs.declared.dialogue_kind.DialogueKind.{DialogueKind}
-use Rattle.zvt_talk.specs.declared.dialogue_kind.DialogueKind.TheVariants.{Registration, Enquiry, Payment, Reversal, EndOfDay, Display as DisplayDialogue}
+use Rattle.zvt_talk.specs.declared.dialogue_kind.DialogueKind.TheVariants.{Registration, Enquiry, Payment, Reversal, EndOfDay as EndOfDayDialogue, Display as DisplayDialogue}
 use Rattle.zvt_talk.specs.declared.phase.Phase.{Phase}
 use Rattle.zvt_talk.specs.declared.phase.Phase.TheVariants.{Asked, Begun, Ended}
 use Rattle.zvt_talk.specs.Talk.{TalkFacts}
@@ -39,32 +39,44 @@ runs_transaction Registration = false
 runs_transaction Enquiry = false
 runs_transaction Payment = true
 runs_transaction Reversal = true
-runs_transaction EndOfDay = false
+runs_transaction EndOfDayDialogue = false
 runs_transaction DisplayDialogue = false
 
--- so many Acks and Nacks are awaited in a payment or a reversal that goes on: that of its command until it comes, and beside it those of stops, of earlier ones and then of its own
+-- so many Acks and Nacks are awaited in a payment, a reversal or an end of day that goes on: that of its command until it comes, and beside it those of stops, of earlier ones and then of its own
 abbrev pub AwaitedServing : Phase → ℕ → Type 0
 AwaitedServing (Asked stop_wished) awaited = 1 ≤ awaited
 AwaitedServing (Begun stop_sent statuses) awaited = Unit {0}
 AwaitedServing (Ended stop_sent) awaited = ⊥
 
--- the dialogue of a payment or a reversal runs, and so many Acks and Nacks are awaited
-pub record RunsTransaction (talk : Option TalkFacts) (awaited : ℕ) : Type 0 where
+-- so many in a display, which ends with the first of them that comes: that of its command, and beside it those of earlier stops; no stop is wished of it
+abbrev pub AwaitedShowing : Phase → ℕ → Type 0
+AwaitedShowing (Asked stop_wished) awaited = (stop_wished ≡ false) × (1 ≤ awaited)
+AwaitedShowing (Begun stop_sent statuses) awaited = ⊥
+AwaitedShowing (Ended stop_sent) awaited = ⊥
+
+-- what is served runs in a dialogue of this kind
+abbrev pub IsKindOfService : Service → DialogueKind → Type 0
+IsKindOfService (Transaction slot) dialogue_kind = runs_transaction dialogue_kind ≡ true
+IsKindOfService (EndOfDay header period) dialogue_kind = dialogue_kind ≡ EndOfDayDialogue
+IsKindOfService (Display header results) dialogue_kind = dialogue_kind ≡ DisplayDialogue
+
+-- so many Acks and Nacks are awaited in the dialogue of what is served
+abbrev pub AwaitedOfService : Service → Phase → ℕ → Type 0
+AwaitedOfService (Transaction slot) phase awaited = AwaitedServing phase awaited
+AwaitedOfService (EndOfDay header period) phase awaited = AwaitedServing phase awaited
+AwaitedOfService (Display header results) phase awaited = AwaitedShowing phase awaited
+
+-- the dialogue of what is served runs, and so many Acks and Nacks are awaited
+pub record RunsService (service : Service) (talk : Option TalkFacts) (awaited : ℕ) : Type 0 where
   pub facts : TalkFacts
   pub talk_is : talk ≡ Some facts
-  pub kind_is : runs_transaction facts.dialogue_kind ≡ true
-  pub awaited_is : AwaitedServing facts.phase awaited
+  pub kind_is : IsKindOfService service facts.dialogue_kind
+  pub awaited_is : AwaitedOfService service facts.phase awaited
 
 -- no dialogue runs, and nothing is awaited
 pub record RunsNone (talk : Option TalkFacts) (awaited : ℕ) : Type 0 where
   pub none : talk ≡ None
   pub awaited_is : awaited ≡ 0
-
--- the dialogue of what is served; only payments and reversals are begun yet
-abbrev pub IsDialogueOfService : Service → Option TalkFacts → ℕ → Type 0
-IsDialogueOfService (Transaction slot) talk awaited = RunsTransaction talk awaited
-IsDialogueOfService (EndOfDay header period) talk awaited = ⊥
-IsDialogueOfService (Display header outputs) talk awaited = ⊥
 
 -- the dialogue of a standing; where a terminal is ready, or set aside, none runs, but the Ack or Nack of a stop may still be awaited
 abbrev pub IsDialogueOf : Standing → Option TalkFacts → ℕ → Type 0
@@ -72,7 +84,7 @@ IsDialogueOf (Unlinked due) talk awaited = RunsNone talk awaited
 IsDialogueOf Registering talk awaited = RunsDialogue Registration talk awaited
 IsDialogueOf Enquiring talk awaited = RunsDialogue Enquiry talk awaited
 IsDialogueOf (Ready last) talk awaited = talk ≡ None
-IsDialogueOf (Serving service last) talk awaited = IsDialogueOfService service talk awaited
+IsDialogueOf (Serving service last) talk awaited = RunsService service talk awaited
 IsDialogueOf (Aside before reported) talk awaited = talk ≡ None
 
 -- the terminal has the dialogue of its standing

@@ -1,5 +1,5 @@
 -- What a message of a terminal means in each of its standings, and what follows from it. It was acknowledged before.
-use Rattle.std.specs.Prelude.{ℕ, ◌-◌, pos, nat_le, true, false, if◌then◌else◌, [], ◌∷◌, Option, Some, None, Result, Ok, Err}
+use Rattle.std.specs.Prelude.{ℕ, pos, nat_le, if◌then◌else◌, [], ◌∷◌, Option, Some, None, unwrap_or, Result, Ok, Err}
 use Rattle.std.specs.Option.{option_map}
 use Rattle.gw_base.specs.declared.setup.Pt.{Pt}
 use Rattle.zvt_apdu.specs.Grammar.{ApduValue}
@@ -13,7 +13,11 @@ use Rattle.zvt_talk.specs.declared.meaning.Heard.TheVariants as heard
 use Rattle.zvt_talk.specs.Came.{is_taken}
 use Rattle.zvt_talk.specs.Talk.{TalkFacts}
 use Rattle.zvt_talk.specs.TalkSteps.{meaning_for_talk, next_talk}
+use Rattle.gw_owes.specs.Awaited.{one_less_awaited}
 use Rattle.gw_owes.specs.Calls.{Ask, SendPt}
+use Rattle.gw_owes.specs.DeviceRequests.{device_row}
+use Rattle.gw_owes.specs.Displays.{serving_display}
+use Rattle.gw_owes.specs.Reconciliations.{serving_day}
 use Rattle.gw_owes.specs.declared.terminal.Service.{Service}
 use Rattle.gw_owes.specs.declared.terminal.Service.TheVariants.{Transaction, EndOfDay, Display}
 use Rattle.gw_owes.specs.declared.terminal.Standing.{Standing}
@@ -23,14 +27,14 @@ use Rattle.gw_owes.specs.Row.{Known, Row, owing_nothing, owing_where}
 use Rattle.gw_owes.specs.Terminals.{terminal_becomes, after_command}
 use Rattle.gw_owes.specs.Links.{of_linked}
 use Rattle.gw_owes.specs.Reports.{on_record, report_row}
-use Rattle.gw_owes.specs.Serving.{staying, breaking, stops, serving_transaction}
+use Rattle.gw_owes.specs.Serving.{staying, breaking, serving_transaction}
 
 -- ---- what is awaited
 
 -- how many Acks and Nacks are awaited after a message, by how many were before it: an Ack or a Nack is one of them in every standing, and pays for no later command where none was awaited
 abbrev pub awaited_after : MessageValue → ℕ → ℕ
-awaited_after Ack awaited = awaited - 1
-awaited_after (Nack error_code) awaited = awaited - 1
+awaited_after Ack awaited = one_less_awaited awaited
+awaited_after (Nack error_code) awaited = one_less_awaited awaited
 awaited_after (Intermediate intermediate_status) awaited = awaited
 awaited_after (Line text) awaited = awaited
 awaited_after (Block objects) awaited = awaited
@@ -109,26 +113,11 @@ enquiring known number terminal (heard.Declined result_code reported) = breaking
 enquiring known number terminal heard.Unclear = breaking known number terminal
 enquiring known number terminal heard.Stray = staying known number terminal
 
--- An end of day or a display, of which none is begun yet: a stop that was wished is sent once the command is acknowledged; where the end is unclear the connection is cut.
-abbrev pub serving_other : Known → ℕ → Terminal → Heard → Row
-serving_other known number terminal (heard.Begun true) = stops known number terminal
-serving_other known number terminal (heard.Begun false) = staying known number terminal
-serving_other known number terminal (heard.Note intermediate_status) = staying known number terminal
-serving_other known number terminal heard.Line = staying known number terminal
-serving_other known number terminal heard.Block = staying known number terminal
-serving_other known number terminal heard.Seen = staying known number terminal
-serving_other known number terminal (heard.Approved figures) = staying known number terminal
-serving_other known number terminal heard.Done = staying known number terminal
-serving_other known number terminal (heard.Told reported approved result_code) = staying known number terminal
-serving_other known number terminal (heard.Declined result_code reported) = staying known number terminal
-serving_other known number terminal heard.Unclear = breaking known number terminal
-serving_other known number terminal heard.Stray = staying known number terminal
-
 -- what is served, by its service and the last trace number before it
 abbrev pub serving : Known → ℕ → Terminal → Service → ℕ → Heard → Row
 serving known number terminal (Transaction slot) last meant = serving_transaction known number terminal slot last meant
-serving known number terminal (EndOfDay header period) last meant = serving_other known number terminal meant
-serving known number terminal (Display header outputs) last meant = serving_other known number terminal meant
+serving known number terminal (EndOfDay header period) last meant = serving_day known number terminal last header meant
+serving known number terminal (Display header results) last meant = serving_display known number terminal last header results meant
 
 -- by the standing: where no dialogue runs nothing follows
 abbrev pub consequence : Known → ℕ → Terminal → Heard → Standing → Row
@@ -141,10 +130,14 @@ consequence known number terminal meant (Aside before reported) = staying known 
 
 -- ---- the row
 
+-- what a message that was taken leaves and owes: a device request, or else what follows by the standing
+abbrev pub taken_row : Known → ℕ → Terminal → Heard → MessageValue → Row
+taken_row known number terminal meant message = unwrap_or (device_row known number terminal meant message) (consequence known number terminal meant terminal.standing)
+
 -- what a message that was acknowledged leaves and owes
 abbrev pub handle_message : Known → ℕ → Terminal → MessageValue → Row
 handle_message known number terminal message =
-    owing_where (is_taken message) known (consequence known number (taking terminal message known.moment) (meaning_at terminal message) terminal.standing)
+    owing_where (is_taken message) known (taken_row known number (taking terminal message known.moment) (meaning_at terminal message) message)
 
 -- the same of the terminal of this number, where it is linked
 abbrev pub handled_row : Known → ℕ → MessageValue → Row

@@ -1,5 +1,5 @@
 -- What the records have under a key: the kept reply, or a request that is still open.
-use Rattle.std.specs.Prelude.{Bool, false, is_some, not, List, Option, Some, None, option_map, option_and_then}
+use Rattle.std.specs.Prelude.{Bool, true, false, is_some, not, List, Option, Some, None, option_map, option_and_then}
 use Rattle.gw_base.specs.declared.condition.Condition.TheVariants.{InProgress, NotFound}
 use Rattle.gw_base.specs.declared.key.Key.{Key}
 use Rattle.sale_values.specs.declared.header.Header.{Header}
@@ -46,6 +46,12 @@ repeated_reply header found (Some body) = Repeated (header_of_reply header) (hea
 abbrev pub status_reply : Header → Option Found → ReplyValue
 status_reply header None = failure_reply header NotFound
 status_reply header (Some found) = repeated_reply header found (result_body_of found)
+
+-- the same where the end of day of its key may be served: then it is in progress, unless it is found
+abbrev pub status_reply_at : Header → Option Found → Bool → ReplyValue
+status_reply_at header (Some found) served = status_reply header (Some found)
+status_reply_at header None true = failure_reply header InProgress
+status_reply_at header None false = status_reply header None
 
 -- ---- an Abort
 

@@ -1,13 +1,26 @@
 -- The definitions of what each item of a round owes: what a till's bytes are read as, the calls, and what is remembered.
 pub mod AbortExample
 pub mod AbortLaws
+pub mod AskerLaws
+pub mod Awaited
 pub mod AwaitedLaws
 pub mod Calls
 pub mod Content
 pub mod Core
+pub mod DayExample
+pub mod DayLaws
+pub mod DayRefusals
+pub mod Days
 pub mod Deadlines
+pub mod DealLaws
+pub mod DeviceExample
+pub mod DeviceLaws
+pub mod DeviceRequests
 pub mod Diagnosis
 pub mod Dialogues
+pub mod DisplayExample
+pub mod DisplayLaws
+pub mod Displays
 pub mod Events
 pub mod Greeting
 pub mod Handling
@@ -20,6 +33,7 @@ pub mod PaymentExample
 pub mod PaymentLaws
 pub mod Payments
 pub mod ReadAs
+pub mod Reconciliations
 pub mod RecordExample
 pub mod RecordLaws
 pub mod Replies
@@ -33,6 +47,10 @@ pub mod Reversals
 pub mod Row
 pub mod Rows
 pub mod Serving
+pub mod SessionExample
+pub mod SessionLaws
+pub mod SessionRows
+pub mod Sessions
 pub mod StepExample
 pub mod StepLaws
 pub mod Steps

@@ -8,6 +8,7 @@ use Rattle.gw_site.specs.Outside.{Connection, is_connected}
 use Rattle.sale_values.specs.declared.header.Header.{Header}
 use Rattle.sale_values.specs.declared.names.Class.TheVariants as classes
 use Rattle.sale_values.specs.declared.names.Kind.TheVariants as kinds
+use Rattle.sale_values.specs.declared.names.Period.TheVariants.{AcquirerReconciliation}
 use Rattle.sale_values.specs.declared.request.PaymentAsk.{PaymentAsk}
 use Rattle.sale_values.specs.declared.request.SaleRequest.{SaleRequest}
 use Rattle.sale_values.specs.declared.request.SaleRequest.TheVariants as requests
@@ -18,7 +19,7 @@ use Rattle.jrn_record.specs.declared.records.Deal.TheVariants as deals
 use Rattle.jrn_record.specs.declared.records.Intent.{Intent as TheIntent}
 use Rattle.jrn_record.specs.declared.records.Outcome.{Outcome as TheOutcome}
 use Rattle.jrn_record.specs.declared.records.Record.TheVariants.{Intent, Outcome}
-use Rattle.gw_owes.specs.declared.terminal.Service.TheVariants.{Transaction}
+use Rattle.gw_owes.specs.declared.terminal.Service.TheVariants.{Transaction, EndOfDay}
 use Rattle.gw_owes.specs.declared.terminal.Standing.{Standing}
 use Rattle.gw_owes.specs.declared.terminal.Standing.TheVariants.{Unlinked, Enquiring, Ready, Serving, Aside}
 use Rattle.gw_owes.specs.declared.terminal.Terminal.{Terminal}
@@ -386,3 +387,28 @@ pub record ExampleRoom : Type 0 where
   pub enough : ComesTo (since_payment 1 (codes "1") 1099 (with_slot_count 2 (since_ready 0))) (begun_calls 0) (Serving (Transaction 0) 0)
   pub too_few : ComesTo (since_payment 1 (codes "1") 1099 (with_slot_count 1 (since_ready 0))) (SendTill 1 (payment_failure (codes "1") UnavailableService) ∷ []) (Ready 0)
   pub second : ComesTo (since_payment 1 (codes "2") 500 (with_slot_count 2 since_approved)) (approved_calls ++ SendTill 1 (payment_failure (codes "2") UnavailableService) ∷ []) (Ready 123)
+
+-- ---- while an end of day is served
+
+-- the header of an end of day with ServiceID 1
+abbrev pub header_of_day : Header
+header_of_day = till_header (codes "Reconciliation") (codes "1")
+
+-- till 1 asks for it at a terminal that is ready with trace number 122
+abbrev pub since_day_begun : Since
+since_day_begun = since_asked 1 header_of_day (requests.Reconciliation AcquirerReconciliation) (since_ready 122)
+
+-- the terminal is asked for it, and nothing is kept
+abbrev pub day_begun_calls : List OwedCall
+day_begun_calls = SendPt 0 (Ask (commands.EndOfDay one_pt.password)) ∷ []
+
+-- then this till asks for a payment of 10.99 under this ServiceID, and it fails for this reason: the terminal is asked nothing more
+pub record FailsBesideDay (till : ℕ) (service : List ℕ) (slots : ℕ) (condition : Condition) : Type 0 where
+  pub fails : ComesTo (since_payment till service 1099 (with_slot_count slots since_day_begun)) (day_begun_calls ++ SendTill till (payment_failure service condition) ∷ []) (Serving (EndOfDay header_of_day AcquirerReconciliation) 122)
+
+-- A payment under the key of the end of day isn't allowed, whichever till asks, also where there is no room for it. One under another key finds the terminal busy where there is room for it and for the Settled, which is three slots, and with two there is none.
+pub record ExampleBesideDay : Type 0 where
+  pub same_key : FailsBesideDay 1 (codes "1") 3 NotAllowed
+  pub other_till : FailsBesideDay 2 (codes "1") 2 NotAllowed
+  pub other_key : FailsBesideDay 2 (codes "2") 3 Busy
+  pub no_room : FailsBesideDay 2 (codes "2") 2 UnavailableService

@@ -2,11 +2,13 @@
 use Rattle.std.specs.Prelude.{◌≡◌, ◌≢◌, ◌⊎◌, ◌<◌, ◌≤◌, ℕ, pos, Bool, true, false, ◌||◌, bytes_eq, List, [], ◌∷◌, ◌++◌, length, slice_get, Option, Some, None, Ok}
 use Rattle.std.specs.Option.{option_map}
 use Rattle.gw_base.specs.Currency.{currency_letters, currency_number}
-use Rattle.gw_base.specs.declared.condition.Condition.TheVariants.{Aborted}
+use Rattle.gw_base.specs.declared.condition.Condition.TheVariants.{Aborted, NotAllowed}
 use Rattle.gw_base.specs.declared.figures.Figures.{Figures}
 use Rattle.gw_base.specs.declared.key.Key.{Key}
 use Rattle.gw_site.specs.Outside.{Connection, is_connected}
 use Rattle.sale_values.specs.declared.header.Header.{Header}
+use Rattle.sale_values.specs.declared.names.Period.{Period}
+use Rattle.sale_values.specs.declared.request.Output.{Output}
 use Rattle.sale_values.specs.declared.request.PaymentAsk.{PaymentAsk}
 use Rattle.sale_values.specs.declared.request.Reference.{Reference}
 use Rattle.sale_values.specs.declared.request.ReversalAsk.{ReversalAsk}
@@ -21,6 +23,7 @@ use Rattle.zvt_msg.specs.MessageDecode.{decode_pt_message}
 use Rattle.zvt_talk.specs.declared.meaning.Heard.{Heard}
 use Rattle.zvt_talk.specs.declared.meaning.Heard.TheVariants as heard
 use Rattle.jrn_record.specs.declared.records.Deal.TheVariants as deals
+use Rattle.jrn_record.specs.declared.records.How.TheVariants as hows
 use Rattle.jrn_record.specs.declared.records.Intent.{Intent as TheIntent}
 use Rattle.jrn_record.specs.declared.records.Outcome.{Outcome as TheOutcome}
 use Rattle.jrn_record.specs.declared.records.Record.{Record}
@@ -32,19 +35,26 @@ use Rattle.gw_ledger.specs.Keys.{intent_key}
 use Rattle.gw_ledger.specs.Slots.{is_reversed}
 use Rattle.gw_ledger.specs.Sums.{is_intent}
 use Rattle.xlate.specs.Codes.{condition_of_code}
-use Rattle.gw_owes.specs.declared.terminal.Service.TheVariants.{Transaction}
+use Rattle.gw_owes.specs.declared.terminal.Service.{Service}
+use Rattle.gw_owes.specs.declared.terminal.Service.TheVariants.{Transaction, EndOfDay}
 use Rattle.gw_owes.specs.declared.terminal.Standing.TheVariants.{Ready, Serving, Aside}
 use Rattle.gw_owes.specs.declared.terminal.Terminal.{Terminal}
 use Rattle.gw_owes.specs.Calls.{Sending, Ask, Acknowledge, Refuse, OwedCall, SendTill, SendPt, CutTill, CutPt, LinkPt, WriteBody, WriteGate, WriteFirstGate, Sync, keep_calls, records_kept}
+use Rattle.gw_owes.specs.Days.{is_day_key}
 use Rattle.gw_owes.specs.Diagnosis.{NamedTerminal, named_terminal}
 use Rattle.gw_owes.specs.Handling.{meaning_at, handle_row}
 use Rattle.gw_owes.specs.Items.{RoundItem, Crowded, Message, Asked, Unframed, Gone, Greet, Handle, Serve, NextWaiting, Oversized, LinkLost, Late, Overdue, Due}
 use Rattle.gw_owes.specs.KeptReplies.{own_key, found_for}
 use Rattle.gw_owes.specs.ReadAs.{ReadAs, Request}
+use Rattle.gw_owes.specs.Reconciliations.{settle_calls, settled_of}
+use Rattle.gw_owes.specs.Reply.{ReplyValue, Plain, Finished, Repeated, Diagnosis, Display as DisplayReply, Print, DisplayRequest, PrintRequest, Reject}
+use Rattle.gw_owes.specs.Replies.{failure_reply}
 use Rattle.gw_owes.specs.Reports.{Report, on_record, outcome_reported}
+use Rattle.gw_owes.specs.Requests.{request_reply}
 use Rattle.gw_owes.specs.Reversals.{original_of}
 use Rattle.gw_owes.specs.Row.{Known, Row}
 use Rattle.gw_owes.specs.Rows.{row_of}
+use Rattle.gw_owes.specs.Sessions.{is_session}
 use Rattle.gw_owes.specs.Serving.{was_stopped, reply_to_outcome, last_after_decline}
 use Rattle.gw_owes.specs.StepLaws.{has_steps}
 use Rattle.gw_owes.specs.Steps.{Begins, step_result}
@@ -248,13 +258,17 @@ EachBegunIsReversed =
 
 -- ---- a payment or a reversal ends
 
--- a terminal that serves the payment or the reversal of this slot, with this trace number before it, sends a message that means this
-pub record MeansAt (known : Known) (number : ℕ) (apdu : ApduValue) (terminal : Terminal) (slot last : ℕ) (meant : Heard) : Type 0 where
+-- a terminal that serves this, with this trace number before it, sends a message that means this
+pub record MeansServed (known : Known) (number : ℕ) (apdu : ApduValue) (terminal : Terminal) (service : Service) (last : ℕ) (meant : Heard) : Type 0 where
   pub found : terminal_at known number ≡ Some terminal
-  pub standing_is : terminal.standing ≡ Serving (Transaction slot) last
+  pub standing_is : terminal.standing ≡ Serving service last
   pub message : MessageValue
   pub decoded : decode_pt_message apdu ≡ Ok message
   pub means : meaning_at terminal message ≡ meant
+
+-- it serves the payment or the reversal of this slot
+abbrev pub MeansAt : Known → ℕ → ApduValue → Terminal → ℕ → ℕ → Heard → Type 0
+MeansAt known number apdu terminal slot last meant = MeansServed known number apdu terminal (Transaction slot) last meant
 
 -- the calls that keep an Outcome in the next slot, and then send its reply to the till that asked, where it is there
 abbrev pub outcome_calls : Known → Terminal → TheOutcome → List OwedCall
@@ -332,15 +346,71 @@ pub record ReportResolves (known : Known) (number : ℕ) (apdu : ApduValue) (cal
 abbrev pub ResolvesKey : Known → ℕ → ApduValue → List OwedCall → Type 0
 ResolvesKey known number apdu calls = EndsServed known number apdu calls ⊎ ReportResolves known number apdu calls
 
--- where a message of a terminal sends a till anything, an Outcome is kept first, and that is the reply to it
-abbrev pub EachTillHasItsOutcomeKept : Type 0
-EachTillHasItsOutcomeKept = (known : Known) (number : ℕ) (apdu : ApduValue) → sends_till (handle_row known number apdu).calls ≡ true → ResolvesKey known number apdu (handle_row known number apdu).calls
+-- an end of day that a terminal serves is done: its Settled is kept in the next slot, and then its till gets the reply, where it is there
+pub record EndsDay (known : Known) (number : ℕ) (apdu : ApduValue) (calls : List OwedCall) : Type 0 where
+  pub terminal : Terminal
+  pub header : Header
+  pub period : Period
+  pub last : ℕ
+  pub means : MeansServed known number apdu terminal (EndOfDay header period) last heard.Done
+  pub calls_are : calls ≡ settle_calls known.kept terminal.asker (settled_of hows.Acquirer header terminal.pt.currency known.moment)
 
--- a message of a terminal keeps no record but the Outcome of what it ends, or of what it reports
+-- what a message of a terminal ends is kept: what it serves, or reports of while it is open, as an Outcome, and an end of day as a Settled
+abbrev pub KeepsAtEnd : Known → ℕ → ApduValue → List OwedCall → Type 0
+KeepsAtEnd known number apdu calls = ResolvesKey known number apdu calls ⊎ EndsDay known number apdu calls
+
+-- of what is no payment and no reversal, and no end of day that is done, the till that asked gets a reply with which nothing is kept
+pub record RepliesUnkept (known : Known) (number : ℕ) (apdu : ApduValue) (calls : List OwedCall) : Type 0 where
+  pub terminal : Terminal
+  pub service : Service
+  pub last : ℕ
+  pub meant : Heard
+  pub means : MeansServed known number apdu terminal service last meant
+  pub no_transaction : (slot : ℕ) → service ≢ Transaction slot
+  pub none_done : (header : Header) (period : Period) → service ≡ EndOfDay header period → meant ≢ heard.Done
+  pub till : ℕ
+  pub asker_is : terminal.asker ≡ Some till
+  pub reply : ReplyValue
+  pub calls_are : calls ≡ SendTill till reply ∷ []
+
+-- it is a device request, and no reply to what was asked
+abbrev pub is_device_request : ReplyValue → Bool
+is_device_request (Plain header verdict) = false
+is_device_request (Finished header body) = false
+is_device_request (Repeated header repeated body) = false
+is_device_request (Diagnosis header status) = false
+is_device_request (DisplayReply header results) = false
+is_device_request (Print header qualifier verdict) = false
+is_device_request (DisplayRequest header intermediate_status) = true
+is_device_request (PrintRequest header lines) = true
+is_device_request (Reject sale poi moment detail) = false
+
+-- a message on the way of what is served goes to the till that asked, as a device request, and nothing else is owed
+pub record RequestsOfTill (known : Known) (number : ℕ) (apdu : ApduValue) (calls : List OwedCall) : Type 0 where
+  pub terminal : Terminal
+  pub service : Service
+  pub last : ℕ
+  pub meant : Heard
+  pub means : MeansServed known number apdu terminal service last meant
+  pub till : ℕ
+  pub asker_is : terminal.asker ≡ Some till
+  pub request : ReplyValue
+  pub device : is_device_request request ≡ true
+  pub calls_are : calls ≡ SendTill till request ∷ []
+
+-- why a message of a terminal sends a till anything: what ends is kept; or what is served is no payment, no reversal and no end of day that is done; or it is a device request
+abbrev pub SendsTillOf : Known → ℕ → ApduValue → List OwedCall → Type 0
+SendsTillOf known number apdu calls = KeepsAtEnd known number apdu calls ⊎ (RepliesUnkept known number apdu calls ⊎ RequestsOfTill known number apdu calls)
+
+-- Where a message of a terminal sends a till anything of a payment or a reversal but a device request, an Outcome is kept first, and that is the reply to it. Of an end of day a Settled is, unless it isn't done; of a display nothing.
+abbrev pub EachTillHasItsOutcomeKept : Type 0
+EachTillHasItsOutcomeKept = (known : Known) (number : ℕ) (apdu : ApduValue) → sends_till (handle_row known number apdu).calls ≡ true → SendsTillOf known number apdu (handle_row known number apdu).calls
+
+-- a message of a terminal keeps no record but the Outcome of what it ends, or of what it reports, and the Settled of an end of day
 abbrev pub EachRecordIsOfAnEnd : Type 0
 EachRecordIsOfAnEnd =
     (known : Known) (number : ℕ) (apdu : ApduValue) (the_record : Record) (more : List Record) → records_kept (handle_row known number apdu).calls ≡ the_record ∷ more
-    → ResolvesKey known number apdu (handle_row known number apdu).calls
+    → KeepsAtEnd known number apdu (handle_row known number apdu).calls
 
 -- ---- a report resolves what is open
 
@@ -373,11 +443,11 @@ UnperformedIsAborted =
 
 -- ---- repeats
 
--- a request on a key that is on record begins nothing; an Abort has none of its own, but names another
+-- a request on a key that is on record begins nothing; an Abort has none of its own, but names another, and a Login, a Logout and a Display ask for no key
 abbrev pub RepeatBeginsNothing : Type 0
 RepeatBeginsNothing =
     (tills : List Connection) (known : Known) (till : ℕ) (header : Header) (request : SaleRequest) (found : Found) → found_for known.kept header ≡ Some found → ((reference : Reference) → request ≢ requests.Abort reference)
-    → (row_of tills known (Asked till (Request header request))).items ≡ []
+    → ((outputs : List Output) → request ≢ requests.Display outputs) → is_session request ≡ false → (row_of tills known (Asked till (Request header request))).items ≡ []
 
 -- what a till asks sends no terminal anything, and keeps no record
 pub record AsksNoTerminal (calls : List OwedCall) : Type 0 where
@@ -401,7 +471,13 @@ is_transaction_request (requests.Display outputs) = false
 is_transaction_request (requests.Print qualifier) = false
 is_transaction_request requests.Diagnosis = false
 
--- a till's Payment or Reversal, on a key that is not on record, begins at the terminal that its POIID names, and there is no reply yet
+-- a Payment or a Reversal on a key that is not on record, but is that of the end of day that its terminal serves, isn't allowed: a key asks for one thing
+abbrev pub KeyOfDayIsNotAllowed : Type 0
+KeyOfDayIsNotAllowed =
+    (known : Known) (header : Header) (request : SaleRequest) (named : NamedTerminal) → is_transaction_request request ≡ true → named_terminal known.core header.poi ≡ Some named → found_for known.kept header ≡ None
+    → is_day_key header (Some named) ≡ true → request_reply known header request ≡ Some (failure_reply header NotAllowed)
+
+-- a till's Payment or Reversal, on a key that is not on record and isn't that of the end of day that is served there, begins at the terminal that its POIID names, and there is no reply yet
 pub record BeginsAtNamed (known : Known) (till : ℕ) (as_read : ReadAs) (row : Row) : Type 0 where
   pub header : Header
   pub request : SaleRequest
@@ -410,6 +486,7 @@ pub record BeginsAtNamed (known : Known) (till : ℕ) (as_read : ReadAs) (row : 
   pub unknown : found_for known.kept header ≡ None
   pub named : NamedTerminal
   pub named_is : named_terminal known.core header.poi ≡ Some named
+  pub no_day : is_day_key header (Some named) ≡ false
   pub items_are : row.items ≡ Serve named.number till header request ∷ []
   pub no_reply : row.calls ≡ []
 
@@ -424,11 +501,49 @@ pub record StopsAtNamed (known : Known) (till : ℕ) (as_read : ReadAs) (row : R
   pub items_are : row.items ≡ Serve named.number till header (requests.Abort reference) ∷ []
   pub no_reply : row.calls ≡ []
 
--- a message of a till begins nothing, or a payment or a reversal, or stops one
+-- a till's Login or Logout succeeds at the terminal that its POIID names; its reply is owed by the item that it begins
+pub record LogsAtNamed (known : Known) (till : ℕ) (as_read : ReadAs) (row : Row) : Type 0 where
+  pub header : Header
+  pub request : SaleRequest
+  pub request_is : as_read ≡ Request header request
+  pub session : is_session request ≡ true
+  pub named : NamedTerminal
+  pub named_is : named_terminal known.core header.poi ≡ Some named
+  pub items_are : row.items ≡ Serve named.number till header request ∷ []
+  pub no_reply : row.calls ≡ []
+
+-- a till's Reconciliation, on such a key, is settled or begun at the terminal that its POIID names, and there is no reply yet
+pub record ReconcilesAtNamed (known : Known) (till : ℕ) (as_read : ReadAs) (row : Row) : Type 0 where
+  pub header : Header
+  pub period : Period
+  pub request_is : as_read ≡ Request header (requests.Reconciliation period)
+  pub unknown : found_for known.kept header ≡ None
+  pub named : NamedTerminal
+  pub named_is : named_terminal known.core header.poi ≡ Some named
+  pub no_day : is_day_key header (Some named) ≡ false
+  pub items_are : row.items ≡ Serve named.number till header (requests.Reconciliation period) ∷ []
+  pub no_reply : row.calls ≡ []
+
+-- a till's Display begins at the terminal that its POIID names, and there is no reply yet
+pub record ShowsAtNamed (known : Known) (till : ℕ) (as_read : ReadAs) (row : Row) : Type 0 where
+  pub header : Header
+  pub outputs : List Output
+  pub request_is : as_read ≡ Request header (requests.Display outputs)
+  pub named : NamedTerminal
+  pub named_is : named_terminal known.core header.poi ≡ Some named
+  pub items_are : row.items ≡ Serve named.number till header (requests.Display outputs) ∷ []
+  pub no_reply : row.calls ≡ []
+
+-- what a message of a till begins: a payment or a reversal, the stop of what is served, a Login or Logout, a reconciliation, or a display
+abbrev pub BeginsSomething : Known → ℕ → ReadAs → Row → Type 0
+BeginsSomething known till as_read row =
+    BeginsAtNamed known till as_read row ⊎ (StopsAtNamed known till as_read row ⊎ (LogsAtNamed known till as_read row ⊎ (ReconcilesAtNamed known till as_read row ⊎ ShowsAtNamed known till as_read row)))
+
+-- a message of a till begins nothing, or one of these
 abbrev pub EachAskedBegins : Type 0
 EachAskedBegins =
     (tills : List Connection) (known : Known) (till : ℕ) (as_read : ReadAs)
-    → ((row_of tills known (Asked till as_read)).items ≡ []) ⊎ (BeginsAtNamed known till as_read (row_of tills known (Asked till as_read)) ⊎ StopsAtNamed known till as_read (row_of tills known (Asked till as_read)))
+    → ((row_of tills known (Asked till as_read)).items ≡ []) ⊎ BeginsSomething known till as_read (row_of tills known (Asked till as_read))
 
 -- the item is what a till asks
 abbrev pub is_asked_item : RoundItem → Bool

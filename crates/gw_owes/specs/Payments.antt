@@ -1,5 +1,5 @@
 -- The beginning of a payment or a reversal: its Intent is kept, and then its terminal is asked.
-use Rattle.std.specs.Prelude.{ℕ, pos, Bool, true, false, ◌++◌, [], ◌∷◌, length, Option, Some, None, unwrap_or, option_map}
+use Rattle.std.specs.Prelude.{ℕ, pos, ◌++◌, [], ◌∷◌, length, Option, Some, None, unwrap_or, option_map}
 use Rattle.gw_base.specs.declared.currency.Currency.{Currency}
 use Rattle.sale_values.specs.declared.header.Header.{Header}
 use Rattle.sale_values.specs.declared.request.PaymentAsk.{PaymentAsk}
@@ -15,9 +15,12 @@ use Rattle.gw_owes.specs.declared.terminal.Standing.{Standing}
 use Rattle.gw_owes.specs.declared.terminal.Standing.TheVariants.{Unlinked, Registering, Enquiring, Ready, Serving, Aside}
 use Rattle.gw_owes.specs.declared.terminal.Terminal.{Terminal}
 use Rattle.gw_owes.specs.Calls.{Ask, SendPt, keep_calls}
+use Rattle.gw_owes.specs.Displays.{display_row}
+use Rattle.gw_owes.specs.Reconciliations.{reconciliation_row}
 use Rattle.gw_owes.specs.Reversals.{original_of, reversal_intent}
 use Rattle.gw_owes.specs.Row.{Known, Row, owing_nothing, owing_where}
-use Rattle.gw_owes.specs.Steps.{StepResult, KeptReply, Fails, Begins, step_result}
+use Rattle.gw_owes.specs.SessionRows.{session_row}
+use Rattle.gw_owes.specs.Steps.{is_beginning, step_result}
 use Rattle.gw_owes.specs.Stops.{stop_row}
 use Rattle.gw_owes.specs.Terminals.{terminal_at, of_terminal, terminal_becomes, after_command}
 
@@ -91,12 +94,6 @@ begins_in known number till header request terminal (Ready last) = begins_asking
 begins_in known number till header request terminal (Serving service last) = owing_nothing known
 begins_in known number till header request terminal (Aside before reported) = owing_nothing known
 
--- the result is that the service begins
-abbrev pub is_beginning : StepResult → Bool
-is_beginning KeptReply = false
-is_beginning (Fails condition) = false
-is_beginning Begins = true
-
 -- a terminal begins what the request asks for, where the steps say so
 abbrev pub begins_request : Known → ℕ → ℕ → Header → SaleRequest → Terminal → Row
 begins_request known number till header request terminal =
@@ -105,15 +102,15 @@ begins_request known number till header request terminal =
 
 -- ---- the row
 
--- what a request of a till leaves and owes at the terminal that serves it: payments and reversals begin yet, and an Abort stops what is served
+-- what a request of a till leaves and owes at the terminal that serves it: a Login or a Logout succeeds, payments, reversals, reconciliations and displays begin, and an Abort stops what is served
 abbrev pub serve_row : Known → ℕ → ℕ → Header → SaleRequest → Row
-serve_row known number till header requests.Login = owing_nothing known
-serve_row known number till header requests.Logout = owing_nothing known
+serve_row known number till header requests.Login = of_terminal known (session_row known number till header requests.Login) (terminal_at known number)
+serve_row known number till header requests.Logout = of_terminal known (session_row known number till header requests.Logout) (terminal_at known number)
 serve_row known number till header (requests.Payment payment) = of_terminal known (begins_request known number till header (requests.Payment payment)) (terminal_at known number)
 serve_row known number till header (requests.Reversal reversal) = of_terminal known (begins_request known number till header (requests.Reversal reversal)) (terminal_at known number)
 serve_row known number till header (requests.Abort reference) = stop_row known number header reference
 serve_row known number till header (requests.Status reference) = owing_nothing known
-serve_row known number till header (requests.Reconciliation period) = owing_nothing known
-serve_row known number till header (requests.Display outputs) = owing_nothing known
+serve_row known number till header (requests.Reconciliation period) = of_terminal known (reconciliation_row known number till header period) (terminal_at known number)
+serve_row known number till header (requests.Display outputs) = of_terminal known (display_row known number till header outputs) (terminal_at known number)
 serve_row known number till header (requests.Print qualifier) = owing_nothing known
 serve_row known number till header requests.Diagnosis = owing_nothing known

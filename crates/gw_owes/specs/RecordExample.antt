@@ -1,13 +1,17 @@
--- Closed examples of the records beside what is remembered, in which the whole premise of each law holds: a payment that begins, its end, one whose end is unclear, a reversal that begins, and a stop.
+-- Closed examples of the records beside what is remembered, in which the whole premise of each law holds: a payment that begins, its end, one whose end is unclear, a reversal that begins, a stop, and the end of an end of day.
 use Rattle.std.specs.Prelude.{◌≡◌, ℕ, pos, true, false, [], ◌∷◌, All, Some, None, codes}
-use Rattle.jrn_record.specs.declared.records.Record.TheVariants.{Intent, Outcome}
+use Rattle.sale_values.specs.declared.names.Period.TheVariants.{AcquirerReconciliation}
+use Rattle.jrn_record.specs.declared.records.How.TheVariants.{Acquirer}
+use Rattle.jrn_record.specs.declared.records.Record.TheVariants.{Intent, Outcome, Settled}
+use Rattle.jrn_record.specs.declared.records.Settled.{Settled as TheSettled}
 use Rattle.zvt_msg.specs.declared.command.Command.TheVariants.{Stop}
-use Rattle.zvt_talk.specs.declared.dialogue_kind.DialogueKind.TheVariants.{Payment}
+use Rattle.zvt_talk.specs.declared.dialogue_kind.DialogueKind.TheVariants as kinds
 use Rattle.zvt_talk.specs.declared.phase.Phase.TheVariants.{Begun}
 use Rattle.zvt_talk.specs.Talk.{TalkFacts}
+use Rattle.zvt_talk.specs.TalkSteps.{no_statuses}
 use Rattle.gw_ledger.specs.Example.{day}
-use Rattle.gw_ledger.specs.Premises.{day_opened, fourth, fourth_approval, second_reversal}
-use Rattle.gw_owes.specs.declared.terminal.Service.TheVariants.{Transaction}
+use Rattle.gw_ledger.specs.Premises.{day_opened, day_settled, fourth, fourth_approval, second_reversal}
+use Rattle.gw_owes.specs.declared.terminal.Service.TheVariants.{Transaction, EndOfDay}
 use Rattle.gw_owes.specs.declared.terminal.Standing.TheVariants.{Ready, Serving}
 use Rattle.gw_owes.specs.declared.terminal.Terminal.{Terminal}
 use Rattle.gw_owes.specs.Calls.{Ask, SendPt, records_kept}
@@ -18,7 +22,7 @@ use Rattle.gw_owes.specs.ReadAs.{ReadAs, Request}
 use Rattle.gw_owes.specs.RecordLaws.{AreTerminalsInOrder, AreOthersInOrder, IsInOrder, IsReadItem, KeepsInOrder}
 use Rattle.gw_owes.specs.Row.{Known}
 use Rattle.gw_owes.specs.Rows.{row_of}
-use Rattle.gw_owes.specs.StepExample.{abort_header, abort_of_service, day_known, day_pt, euros, payment_header, reversal_header, reversal_of_text}
+use Rattle.gw_owes.specs.StepExample.{abort_header, abort_of_service, day_known, day_pt, euros, payment_header, period_header, reversal_header, reversal_of_text}
 use Rattle.gw_owes.specs.TerminalLaws.{owes_cut}
 use Rattle.gw_owes.specs.TerminalRows.{terminal_row}
 
@@ -31,7 +35,7 @@ ready_known = record (day_known day (Ready 125)) { moment = 0 }
 -- the dialogue of a payment of 1.00, which was acknowledged, and whose last status approves it
 abbrev pub approving_talk : TalkFacts
 approving_talk = record {
-  dialogue_kind = Payment;
+  dialogue_kind = kinds.Payment;
   none = 0x83;
   command_time = 180;
   deadline = pos 180;
@@ -45,6 +49,22 @@ paying_terminal = record (new_terminal day_pt) { standing = Serving (Transaction
 -- the day with the payment that is open
 abbrev pub serving_known : Known
 serving_known = record (day_known day_opened (Ready 125)) { core = record no_core { terminals = paying_terminal ∷ [] }; moment = 0 }
+
+-- the dialogue of an end of day, which was acknowledged
+abbrev pub settling_talk : TalkFacts
+settling_talk = record approving_talk { dialogue_kind = kinds.EndOfDay; phase = Begun false no_statuses }
+
+-- the terminal that serves it
+abbrev pub settling_terminal : Terminal
+settling_terminal = record (new_terminal day_pt) { standing = Serving (EndOfDay (period_header (codes "4")) AcquirerReconciliation) 125; talk = Some settling_talk; asker = Some 3 }
+
+-- the day, at whose terminal an end of day is served
+abbrev pub settling_known : Known
+settling_known = record ready_known { core = record no_core { terminals = settling_terminal ∷ [] } }
+
+-- its Settled
+abbrev pub day_ended : TheSettled
+day_ended = record day_settled { how = Acquirer }
 
 -- ---- items
 
@@ -114,3 +134,10 @@ pub record ExampleStopKeepsNothing : Type 0 where
   pub read : IsReadItem serving_known.setup fourth_stops
   pub calls : (terminal_row serving_known fourth_stops).calls ≡ SendPt 0 (Ask Stop) ∷ []
   pub keeps : KeepsInOrder serving_known [] (terminal_row serving_known fourth_stops).core
+
+-- the end of day is completed: its Settled is kept
+pub record ExampleSettledKept : Type 0 where
+  pub in_order : IsInOrder settling_known
+  pub uncut : owes_cut (terminal_row settling_known (sends 0x06 0x0F)).calls ≡ false
+  pub kept : records_kept (terminal_row settling_known (sends 0x06 0x0F)).calls ≡ Settled day_ended ∷ []
+  pub keeps : KeepsInOrder settling_known (Settled day_ended ∷ []) (terminal_row settling_known (sends 0x06 0x0F)).core

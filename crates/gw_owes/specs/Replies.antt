@@ -1,5 +1,5 @@
 -- The replies that refuse: a Failure, a Reject, and what a body or a message of another form gets.
-use Rattle.std.specs.Prelude.{ℕ, pos, Bool, bytes_eq, if◌then◌else◌, List, [], ◌∷◌, map, Option, Some, None, codes}
+use Rattle.std.specs.Prelude.{ℕ, pos, Bool, bytes_eq, if◌then◌else◌, List, [], ◌∷◌, map, Option, Some, None, option_map, codes}
 use Rattle.std.specs.List.{list_any}
 use Rattle.gw_base.specs.declared.condition.Condition.{Condition}
 use Rattle.gw_base.specs.declared.condition.Condition.TheVariants.{MessageFormat, UnavailableService}
@@ -33,6 +33,10 @@ header_of_reply header = record {
   poi = header.poi;
 }
 
+-- a Success
+abbrev pub success : Verdict
+success = record { condition = None; path = None }
+
 -- a Failure for this reason
 abbrev pub failure : Condition → Verdict
 failure condition = record { condition = Some condition; path = None }
@@ -53,9 +57,17 @@ output_refused condition output = record { device = output.device; qualify = out
 abbrev pub is_response_required : List Output → Bool
 is_response_required outputs = list_any (λ (output : Output). output.required) outputs
 
+-- the results of a Display in which no output is shown, for this reason; none where no output asks for a response
+abbrev pub refused_results : Condition → List Output → Option (List Shown)
+refused_results condition outputs = if is_response_required outputs then Some (map (output_refused condition) outputs) else None
+
+-- the reply to a Display with these results, where there are any
+abbrev pub display_reply : Header → Option (List Shown) → Option ReplyValue
+display_reply header results = option_map (Display (header_of_reply header)) results
+
 -- the reply to a Display that is refused, which each of its outputs has as its result; none where no output asks for a response
 abbrev pub display_refusal : Condition → Header → List Output → Option ReplyValue
-display_refusal condition header outputs = if is_response_required outputs then Some (Display (header_of_reply header) (map (output_refused condition) outputs)) else None
+display_refusal condition header outputs = display_reply header (refused_results condition outputs)
 
 -- the result of a Display with a member of another form at this path: one output stands for all
 abbrev pub malformed_output : List ℕ → Shown

@@ -1,10 +1,11 @@
 -- Closed examples in which the premises of the laws of reversals and Aborts hold: one that may begin, why others may not, what ends one that is served, each cause of a refusal, and dialogues that are to stop.
 use Rattle.std.specs.Prelude.{◌≡◌, ◌<◌, ℕ, pos, true, false, List, [], ◌∷◌, ◌++◌, Option, Some, None, Ok, codes}
 use Rattle.gw_base.specs.declared.condition.Condition.{Condition}
-use Rattle.gw_base.specs.declared.condition.Condition.TheVariants.{Busy, InProgress, NotAllowed, NotFound, UnavailableDevice, UnavailableService}
+use Rattle.gw_base.specs.declared.condition.Condition.TheVariants.{Busy, InProgress, LoggedOut, NotAllowed, NotFound, UnavailableDevice, UnavailableService}
 use Rattle.gw_base.specs.declared.figures.Figures.{Figures}
 use Rattle.gw_site.specs.Outside.{is_connected}
 use Rattle.sale_values.specs.declared.header.Header.{Header}
+use Rattle.sale_values.specs.declared.names.Period.TheVariants.{AcquirerReconciliation}
 use Rattle.sale_values.specs.declared.request.Reference.{Reference}
 use Rattle.sale_values.specs.declared.request.ReversalAsk.{ReversalAsk}
 use Rattle.sale_values.specs.declared.request.SaleRequest.TheVariants as requests
@@ -21,12 +22,13 @@ use Rattle.zvt_msg.specs.MessageDecode.{decode_pt_message}
 use Rattle.jrn_record.specs.declared.records.Record.{Record}
 use Rattle.jrn_record.specs.declared.records.Record.TheVariants.{Intent}
 use Rattle.gw_ledger.specs.declared.entry.Entry.{Entry as TheEntry}
-use Rattle.gw_owes.specs.declared.terminal.Service.TheVariants.{Transaction}
+use Rattle.gw_owes.specs.declared.terminal.Service.TheVariants.{Transaction, EndOfDay}
 use Rattle.gw_owes.specs.declared.terminal.Standing.{Standing}
 use Rattle.gw_owes.specs.declared.terminal.Standing.TheVariants.{Enquiring, Ready, Serving, Unlinked}
 use Rattle.gw_owes.specs.declared.terminal.Terminal.{Terminal}
 use Rattle.gw_owes.specs.AbortLaws.{ServesAborted}
 use Rattle.gw_owes.specs.Core.{new_core, new_terminal}
+use Rattle.gw_owes.specs.Days.{is_day_key}
 use Rattle.gw_owes.specs.Diagnosis.{named_terminal}
 use Rattle.gw_owes.specs.Dialogues.{HasItsDialogue}
 use Rattle.gw_owes.specs.Items.{Asked as AskedItem, Serve}
@@ -40,6 +42,7 @@ use Rattle.gw_owes.specs.ReversalLaws.{IsReversalAt, NamesIrreversible, RefusesR
 use Rattle.gw_owes.specs.Reversals.{original_of}
 use Rattle.gw_owes.specs.Row.{Known}
 use Rattle.gw_owes.specs.Rows.{row_of}
+use Rattle.gw_owes.specs.Sessions.{is_logged_out}
 use Rattle.gw_owes.specs.Steps.{Begins, is_used_up, lacks_room, step_result}
 use Rattle.gw_owes.specs.StepLaws.{has_steps}
 use Rattle.gw_owes.specs.TerminalExample.{one_pt, setup_with, standing_known}
@@ -73,10 +76,12 @@ pub record ExampleReversalAccepted : Type 0 where
   pub named : named_terminal (known_ready payment_records).core (codes "T1") ≡ Some (record { number = 0; terminal = ready_with_paid })
   pub found : terminal_at (known_ready payment_records) 0 ≡ Some ready_with_paid
   pub unknown : found_for payment_records header_to_reverse ≡ None
+  pub no_day : is_day_key header_to_reverse (Some (record { number = 0; terminal = ready_with_paid })) ≡ false
+  pub logged_in : is_logged_out (known_ready payment_records).core (codes "S1") (codes "T1") ≡ false
   pub original : original_of payment_records (codes "T1") whole_reversal ≡ Some original_entry
   pub reversible : IsReversible payment_records whole_reversal original_entry (approved_with_amount 1099)
   pub number_left : is_used_up payment_records (codes "T1") (Some (record { number = 0; terminal = ready_with_paid })) ≡ false
-  pub room : lacks_room 1000000 payment_records ≡ false
+  pub room : lacks_room 1000000 payment_records (ready_with_paid ∷ []) ≡ false
   pub steps : has_steps (requests.Reversal whole_reversal) ≡ true
   pub begins : step_result (known_ready payment_records) header_to_reverse (requests.Reversal whole_reversal) (Some (record { number = 0; terminal = ready_with_paid })) ≡ Begins
   pub item : BeginsThere 1 header_to_reverse (requests.Reversal whole_reversal) 0 (row_of two_tills (known_ready payment_records) (AskedItem 1 (Request header_to_reverse (requests.Reversal whole_reversal))))
@@ -189,15 +194,25 @@ pub record ExampleReversalMeans : Type 0 where
 abbrev pub known_in_slots : ℕ → List Record → Standing → Known
 known_in_slots slots kept standing = let since = with_slot_count slots (since_kept kept standing) in since.known
 
+-- there, till `S1` is logged out at `T1`
+abbrev pub with_logout : Known → Known
+with_logout known = record known { core = record known.core { logged_out = record { sale = codes "S1"; poi = codes "T1" } ∷ [] } }
+
 -- there, a reversal under this header has the cause of this condition
 abbrev pub HasCauseIn : Known → Header → ReversalAsk → Condition → Type 0
 HasCauseIn known header reversal condition = RefusesReversal known header reversal (named_terminal known.core header.poi) condition
 
--- the key is open, or has other content; the POIID names no terminal; the text names no entry, or one that may not be reversed, as a part is asked; no trace number is left, or no room; the terminal isn't linked; and it serves another reversal
+-- the header of an end of day with the same ServiceID
+abbrev pub header_of_day_there : Header
+header_of_day_there = till_header (codes "Reconciliation") (codes "2")
+
+-- the key is open, or has other content; the terminal serves the end of day of the key; the POIID names no terminal; the till is logged out there; the text names no entry, or one that may not be reversed, as a part is asked; no trace number is left, or no room; the terminal isn't linked; and it serves another reversal
 pub record ExampleReversalCauses : Type 0 where
   pub in_progress : HasCauseIn (known_in_slots 1000000 reversing_records (Serving (Transaction 2) 123)) header_to_reverse whole_reversal InProgress
   pub other_content : HasCauseIn (known_in_slots 1000000 reversing_records (Serving (Transaction 2) 123)) header_to_reverse (reversal_ask_of paid_text (Some 1)) NotAllowed
+  pub key_of_day : HasCauseIn (known_in_slots 1000000 payment_records (Serving (EndOfDay header_of_day_there AcquirerReconciliation) 123)) header_to_reverse whole_reversal NotAllowed
   pub unconfigured : HasCauseIn (known_in_slots 1000000 payment_records (Ready 123)) (record header_to_reverse { poi = codes "T2" }) whole_reversal UnavailableDevice
+  pub logged_out : HasCauseIn (with_logout (known_in_slots 1000000 payment_records (Ready 123))) header_to_reverse whole_reversal LoggedOut
   pub named_none : HasCauseIn (known_in_slots 1000000 payment_records (Ready 123)) header_to_reverse (reversal_ask_of (codes "000999-0001-0") None) NotFound
   pub irreversible : HasCauseIn (known_in_slots 1000000 payment_records (Ready 123)) header_to_reverse (reversal_ask_of paid_text (Some 1)) NotAllowed
   pub used_up : HasCauseIn (known_in_slots 1000000 payment_records (Ready 999999)) header_to_reverse whole_reversal UnavailableService

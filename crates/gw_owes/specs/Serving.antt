@@ -1,5 +1,5 @@
 -- What a message means for a payment or a reversal that a terminal serves: its end is kept, and then its till gets the reply.
-use Rattle.std.specs.Prelude.{ℕ, ◌+◌, pos, nat_lt, Bool, true, false, if◌then◌else◌, List, [], ◌∷◌, ◌++◌, length, Option, Some, None, option_and_then}
+use Rattle.std.specs.Prelude.{ℕ, pos, nat_lt, Bool, true, false, if◌then◌else◌, List, [], ◌∷◌, ◌++◌, length, Option, Some, None, option_and_then}
 use Rattle.gw_base.specs.declared.condition.Condition.{Condition}
 use Rattle.gw_base.specs.declared.figures.Figures.{Figures}
 use Rattle.zvt_msg.specs.declared.command.Command.TheVariants as command
@@ -17,6 +17,7 @@ use Rattle.xlate.specs.Codes.{condition_of_code}
 use Rattle.gw_owes.specs.declared.terminal.Standing.{Standing}
 use Rattle.gw_owes.specs.declared.terminal.Standing.TheVariants.{Ready, Aside}
 use Rattle.gw_owes.specs.declared.terminal.Terminal.{Terminal}
+use Rattle.gw_owes.specs.Awaited.{one_more_awaited}
 use Rattle.gw_owes.specs.Calls.{Ask, SendPt, CutPt, keep_calls}
 use Rattle.gw_owes.specs.KeptReplies.{kept_reply}
 use Rattle.gw_owes.specs.Reply.{ReplyValue}
@@ -35,7 +36,7 @@ breaking known number terminal = terminal_becomes known number terminal (CutPt n
 
 -- the stop of what is served, whose dialogue goes on
 abbrev pub stops : Known → ℕ → Terminal → Row
-stops known number terminal = terminal_becomes known number (record terminal { awaited = terminal.awaited + 1 }) (SendPt number (Ask command.Stop) ∷ [])
+stops known number terminal = terminal_becomes known number (record terminal { awaited = one_more_awaited terminal.awaited }) (SendPt number (Ask command.Stop) ∷ [])
 
 -- ---- Outcomes
 
@@ -108,7 +109,7 @@ abbrev pub declined_row : Known → ℕ → Terminal → ℕ → ℕ → ℕ →
 declined_row known number terminal slot last result_code reported =
     resolves known number terminal (Ready (last_after_decline last reported)) (declined_outcome slot result_code (was_stopped terminal.talk) known.moment)
 
--- A payment or a reversal: a stop that was wished is sent once the command is acknowledged; its end is kept, and its till gets the reply; where that is unclear the connection is cut and the key stays open. It is never done without an approval, and reports nothing. Nothing on its way is shown to its till yet.
+-- A payment or a reversal: a stop that was wished is sent once the command is acknowledged; its end is kept, and its till gets the reply; where that is unclear the connection is cut and the key stays open. It is never done without an approval, and reports nothing.
 abbrev pub serving_transaction : Known → ℕ → Terminal → ℕ → ℕ → Heard → Row
 serving_transaction known number terminal slot last (heard.Begun true) = stops known number terminal
 serving_transaction known number terminal slot last (heard.Begun false) = staying known number terminal

@@ -7,7 +7,8 @@ use Rattle.gw_base.specs.declared.setup.Pt.{Pt}
 use Rattle.sale_values.specs.declared.header.Header.{Header}
 use Rattle.sale_values.specs.declared.names.Class.TheVariants as classes
 use Rattle.sale_values.specs.declared.names.Kind.TheVariants as kinds
-use Rattle.sale_values.specs.declared.names.Period.TheVariants.{SaleReconciliation, AcquirerReconciliation}
+use Rattle.sale_values.specs.declared.names.Period.{Period}
+use Rattle.sale_values.specs.declared.names.Period.TheVariants.{SaleReconciliation, AcquirerSynchronisation, AcquirerReconciliation, PreviousReconciliation}
 use Rattle.sale_values.specs.declared.request.Reference.{Reference}
 use Rattle.sale_values.specs.declared.request.SaleRequest.{SaleRequest}
 use Rattle.sale_values.specs.declared.request.SaleRequest.TheVariants as requests
@@ -18,7 +19,7 @@ use Rattle.jrn_record.specs.declared.records.Record.{Record}
 use Rattle.jrn_record.specs.declared.records.Record.TheVariants.{Outcome}
 use Rattle.gw_ledger.specs.Example.{day, day_approval, pay, approved}
 use Rattle.gw_ledger.specs.Premises.{day_opened, day_closed}
-use Rattle.gw_owes.specs.declared.terminal.Service.TheVariants.{Transaction}
+use Rattle.gw_owes.specs.declared.terminal.Service.TheVariants.{Transaction, EndOfDay}
 use Rattle.gw_owes.specs.declared.terminal.Standing.{Standing}
 use Rattle.gw_owes.specs.declared.terminal.Standing.TheVariants.{Unlinked, Registering, Enquiring, Ready, Serving, Aside}
 use Rattle.gw_owes.specs.Core.{no_core, new_terminal}
@@ -241,12 +242,20 @@ pub record ExampleUsedUp : Type 0 where
   pub ready : IsFailure (day_known day (Ready 999999)) (payment_header (codes "5")) (euros 100) UnavailableService
   pub serving : IsFailure (day_known day (Serving (Transaction 4) 999999)) (payment_header (codes "5")) (euros 100) UnavailableService
 
--- A new payment needs two free slots, and one more for the payment that is open. Where they are there, the terminal, which isn't linked, is the reason.
+-- the terminal serves the end of day with ServiceID 5
+abbrev pub serving_fifth : Standing
+serving_fifth = Serving (EndOfDay (period_header (codes "5")) AcquirerReconciliation) 125
+
+-- A new payment needs two free slots, one more for the payment that is open, and one more for the end of day that is served. Where they are there, the terminal, which isn't linked or is busy, is the reason.
 pub record ExampleRoom : Type 0 where
   pub one_free : IsFailure (with_slots 7 (day_known day (Unlinked None))) (payment_header (codes "5")) (euros 100) UnavailableService
   pub two_free : IsFailure (with_slots 8 (day_known day (Unlinked None))) (payment_header (codes "5")) (euros 100) UnavailableDevice
   pub two_free_one_open : IsFailure (with_slots 9 (day_known day_opened (Unlinked None))) (payment_header (codes "5")) (euros 100) UnavailableService
   pub three_free_one_open : IsFailure (with_slots 10 (day_known day_opened (Unlinked None))) (payment_header (codes "5")) (euros 100) UnavailableDevice
+  pub two_free_one_served : IsFailure (with_slots 8 (day_known day serving_fifth)) (payment_header (codes "6")) (euros 100) UnavailableService
+  pub three_free_one_served : IsFailure (with_slots 9 (day_known day serving_fifth)) (payment_header (codes "6")) (euros 100) Busy
+  pub three_free_both : IsFailure (with_slots 10 (day_known day_opened serving_fifth)) (payment_header (codes "6")) (euros 100) UnavailableService
+  pub four_free_both : IsFailure (with_slots 11 (day_known day_opened serving_fifth)) (payment_header (codes "6")) (euros 100) Busy
 
 -- a new payment at a terminal that takes no request
 pub record ExampleUnavailable : Type 0 where
@@ -272,3 +281,55 @@ pub record ExampleBeginning : Type 0 where
   pub unlinked_begins_none : begun_for (day_known day (Unlinked None)) (codes "5") ≡ []
   pub open_begins_none : begun_for (day_known day_opened (Ready 125)) (codes "4") ≡ []
   pub finished_begins_none : begun_for (day_known day_declined (Ready 125)) (codes "4") ≡ []
+
+-- ---- reconciliations
+
+-- a reconciliation of this type with this ServiceID fails for this reason
+abbrev pub IsPeriodFailure : Known → List ℕ → Period → Condition → Type 0
+IsPeriodFailure known service period condition = IsFailure known (period_header service) (requests.Reconciliation period) condition
+
+-- one that begins, asked by till 3: it has no reply yet
+pub record PeriodBegins (known : Known) (service : List ℕ) (period : Period) : Type 0 where
+  pub no_reply : request_reply known (period_header service) (requests.Reconciliation period) ≡ None
+  pub items_are : begun_by known 3 (Request (period_header service) (requests.Reconciliation period)) ≡ Serve 0 3 (period_header service) (requests.Reconciliation period) ∷ []
+
+-- A new reconciliation needs a POIID that is configured, then a type that is served, then two free slots, and no trace number. One of the till's own then begins whatever the terminal does; an end of day begins at a terminal that is ready, and one that serves another finds it busy.
+pub record ExampleNewReconciliation : Type 0 where
+  pub synchronisation : IsPeriodFailure (day_known day (Ready 125)) (codes "5") AcquirerSynchronisation UnavailableService
+  pub previous : IsPeriodFailure (day_known day (Unlinked None)) (codes "5") PreviousReconciliation UnavailableService
+  pub not_configured_first : IsPeriodFailure (without_terminals (day_known day (Ready 125))) (codes "5") AcquirerSynchronisation UnavailableDevice
+  pub own : PeriodBegins (day_known day (Ready 125)) (codes "5") SaleReconciliation
+  pub own_unlinked : PeriodBegins (day_known day (Unlinked None)) (codes "5") SaleReconciliation
+  pub own_aside : PeriodBegins (day_known day (Aside 125 50)) (codes "5") SaleReconciliation
+  pub own_serving : PeriodBegins (day_known day_opened (Serving (Transaction 6) 125)) (codes "5") SaleReconciliation
+  pub own_used_up : PeriodBegins (day_known day (Ready 999999)) (codes "5") SaleReconciliation
+  pub own_two_free : PeriodBegins (with_slots 8 (day_known day (Ready 125))) (codes "5") SaleReconciliation
+  pub own_one_free : IsPeriodFailure (with_slots 7 (day_known day (Ready 125))) (codes "5") SaleReconciliation UnavailableService
+  pub end_of_day : PeriodBegins (day_known day (Ready 125)) (codes "5") AcquirerReconciliation
+  pub end_of_day_used_up : PeriodBegins (day_known day (Ready 999999)) (codes "5") AcquirerReconciliation
+  pub end_of_day_unlinked : IsPeriodFailure (day_known day (Unlinked None)) (codes "5") AcquirerReconciliation UnavailableDevice
+  pub end_of_day_aside : IsPeriodFailure (day_known day (Aside 125 50)) (codes "5") AcquirerReconciliation UnavailableDevice
+  pub end_of_day_serving : IsPeriodFailure (day_known day_opened (Serving (Transaction 6) 125)) (codes "5") AcquirerReconciliation Busy
+  pub end_of_day_one_free : IsPeriodFailure (with_slots 7 (day_known day (Ready 125))) (codes "5") AcquirerReconciliation UnavailableService
+
+-- While an end of day is served, it is in progress where it is asked for again, and its key isn't allowed for anything else, also where that isn't served or there is no room. The same ServiceID of another till, and another ServiceID, find the terminal busy, but for a reconciliation of the till's own, which begins. A TransactionStatus that names it is in progress; without a reference it is still about the last payment or reversal. An Abort of it gets nothing and is to stop it; that of another key is refused.
+pub record ExampleDayServed : Type 0 where
+  pub again : IsPeriodFailure (day_known day serving_fifth) (codes "5") AcquirerReconciliation InProgress
+  pub again_without_room : IsPeriodFailure (with_slots 6 (day_known day serving_fifth)) (codes "5") AcquirerReconciliation InProgress
+  pub again_begins_none : begun_by (day_known day serving_fifth) 3 (Request (period_header (codes "5")) (requests.Reconciliation AcquirerReconciliation)) ≡ []
+  pub own_type : IsPeriodFailure (day_known day serving_fifth) (codes "5") SaleReconciliation NotAllowed
+  pub unserved_type : IsPeriodFailure (day_known day serving_fifth) (codes "5") PreviousReconciliation NotAllowed
+  pub as_payment : IsFailure (day_known day serving_fifth) (payment_header (codes "5")) (euros 100) NotAllowed
+  pub as_reversal : IsFailure (day_known day serving_fifth) (reversal_header (codes "5")) (reversal_of_text (codes "000123-0017-0") None) NotAllowed
+  pub other_till : IsFailure (day_known day serving_fifth) (record (period_header (codes "5")) { sale = codes "R" }) (requests.Reconciliation AcquirerReconciliation) Busy
+  pub other_service : IsPeriodFailure (day_known day serving_fifth) (codes "6") AcquirerReconciliation Busy
+  pub own_beside : PeriodBegins (day_known day serving_fifth) (codes "6") SaleReconciliation
+  pub on_record : request_reply (day_known day serving_fifth) (payment_header (codes "1")) (euros 1099) ≡ Some first_reply
+  pub status : IsFailure (day_known day serving_fifth) asking_header (status_of_service (codes "5")) InProgress
+  pub status_by_reference : IsFailure (day_known day serving_fifth) (record asking_header { poi = codes "B" }) (requests.Status (Some (record (reference_to (codes "5")) { poi = Some (codes "A") }))) InProgress
+  pub status_of_another : IsFailure (day_known day serving_fifth) asking_header (status_of_service (codes "6")) NotFound
+  pub last_status : request_reply (day_known day serving_fifth) asking_header (requests.Status None) ≡ Some third_repeated
+  pub abort : request_reply (day_known day serving_fifth) abort_header (abort_of_service (codes "5")) ≡ None
+  pub abort_begins : begun_by (day_known day serving_fifth) 3 (Request abort_header (abort_of_service (codes "5"))) ≡ Serve 0 3 abort_header (abort_of_service (codes "5")) ∷ []
+  pub abort_of_another : request_reply (day_known day serving_fifth) abort_header (abort_of_service (codes "6")) ≡ Some abort_refused
+  pub abort_of_another_begins : begun_by (day_known day serving_fifth) 3 (Request abort_header (abort_of_service (codes "6"))) ≡ []

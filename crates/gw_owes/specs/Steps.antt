@@ -2,8 +2,10 @@
 use Rattle.std.specs.Prelude.{ℕ, ◌+◌, ◌==◌, nat_lt, bytes_eq, is_some, not, Bool, true, false, ◌&&◌, ◌||◌, if◌then◌else◌, List, [], ◌∷◌, length, Option, Some, None, option_and_then}
 use Rattle.gw_base.specs.Currency.{currency_letters}
 use Rattle.gw_base.specs.declared.condition.Condition.{Condition}
-use Rattle.gw_base.specs.declared.condition.Condition.TheVariants.{Busy, InProgress, NotAllowed, NotFound, UnavailableDevice, UnavailableService}
+use Rattle.gw_base.specs.declared.condition.Condition.TheVariants.{Busy, InProgress, LoggedOut, NotAllowed, NotFound, UnavailableDevice, UnavailableService}
 use Rattle.sale_values.specs.declared.header.Header.{Header}
+use Rattle.sale_values.specs.declared.names.Period.{Period}
+use Rattle.sale_values.specs.declared.names.Period.TheVariants.{SaleReconciliation, AcquirerSynchronisation, AcquirerReconciliation, PreviousReconciliation}
 use Rattle.sale_values.specs.declared.request.SaleRequest.{SaleRequest}
 use Rattle.sale_values.specs.declared.request.SaleRequest.TheVariants as requests
 use Rattle.jrn_record.specs.declared.records.Record.{Record}
@@ -13,6 +15,8 @@ use Rattle.gw_ledger.specs.Sums.{open_count_of}
 use Rattle.gw_owes.specs.declared.terminal.Standing.{Standing}
 use Rattle.gw_owes.specs.declared.terminal.Standing.TheVariants.{Unlinked, Registering, Enquiring, Ready, Serving, Aside}
 use Rattle.gw_owes.specs.Content.{is_normal, has_same_content}
+use Rattle.gw_owes.specs.declared.terminal.Terminal.{Terminal}
+use Rattle.gw_owes.specs.Days.{days_served, is_day_again, is_day_key}
 use Rattle.gw_owes.specs.Diagnosis.{NamedTerminal}
 use Rattle.gw_owes.specs.Items.{RoundItem, Serve}
 use Rattle.gw_owes.specs.KeptReplies.{found_for, is_finished, kept_reply}
@@ -20,6 +24,7 @@ use Rattle.gw_owes.specs.Reply.{ReplyValue}
 use Rattle.gw_owes.specs.Replies.{failure_reply}
 use Rattle.gw_owes.specs.Reversals.{names_irreversible, names_none}
 use Rattle.gw_owes.specs.Row.{Known}
+use Rattle.gw_owes.specs.Sessions.{is_logged_out}
 
 -- what a step gives
 pub data StepResult : Type 0 where
@@ -27,7 +32,7 @@ pub data StepResult : Type 0 where
   KeptReply : StepResult
   -- a Failure
   Fails : Condition → StepResult
-  -- the terminal begins to serve the request: there is no reply yet
+  -- it begins, at the terminal that is named: there is no reply yet
   Begins : StepResult
 
 -- one step
@@ -47,7 +52,14 @@ abbrev pub has_reply : Option Found → Bool
 has_reply None = false
 has_reply (Some found) = is_finished found
 
--- the service isn't there: a payment whose type isn't `Normal`, and as yet each reconciliation
+-- the reconciliation type isn't served
+abbrev pub is_unserved_period : Period → Bool
+is_unserved_period SaleReconciliation = false
+is_unserved_period AcquirerSynchronisation = true
+is_unserved_period AcquirerReconciliation = false
+is_unserved_period PreviousReconciliation = true
+
+-- the service isn't there: a payment whose type isn't `Normal`, and a reconciliation of a type that isn't served
 abbrev pub is_unserved : SaleRequest → Bool
 is_unserved requests.Login = true
 is_unserved requests.Logout = true
@@ -55,7 +67,7 @@ is_unserved (requests.Payment ask) = not (is_normal ask.kind)
 is_unserved (requests.Reversal ask) = false
 is_unserved (requests.Abort reference) = true
 is_unserved (requests.Status reference) = true
-is_unserved (requests.Reconciliation period) = true
+is_unserved (requests.Reconciliation period) = is_unserved_period period
 is_unserved (requests.Display outputs) = true
 is_unserved (requests.Print qualifier) = true
 is_unserved requests.Diagnosis = true
@@ -100,9 +112,42 @@ has_last number (Some named) = is_last_of number named.terminal.standing
 abbrev pub is_used_up : List Record → List ℕ → Option NamedTerminal → Bool
 is_used_up kept poi named = (last_number_of kept poi == greatest_number) || has_last greatest_number named
 
--- fewer slots are free than two for the Intent and its Outcome, and one for each key that is open
-abbrev pub lacks_room : ℕ → List Record → Bool
-lacks_room slots kept = nat_lt slots (length kept + (open_count_of kept + 2))
+-- the request is one for a payment or a reversal, of which each has a trace number of its own
+abbrev pub asks_transaction : SaleRequest → Bool
+asks_transaction requests.Login = false
+asks_transaction requests.Logout = false
+asks_transaction (requests.Payment ask) = true
+asks_transaction (requests.Reversal ask) = true
+asks_transaction (requests.Abort reference) = false
+asks_transaction (requests.Status reference) = false
+asks_transaction (requests.Reconciliation period) = false
+asks_transaction (requests.Display outputs) = false
+asks_transaction (requests.Print qualifier) = false
+asks_transaction requests.Diagnosis = false
+
+-- fewer slots are free than two for the Intent and its Outcome, one for each key that is open, and one for each end of day that is served
+abbrev pub lacks_room : ℕ → List Record → List Terminal → Bool
+lacks_room slots kept terminals = nat_lt slots (length kept + (open_count_of kept + (days_served terminals + 2)))
+
+-- the reconciliation is one of the till's own
+abbrev pub is_sale_period : Period → Bool
+is_sale_period SaleReconciliation = true
+is_sale_period AcquirerSynchronisation = false
+is_sale_period AcquirerReconciliation = false
+is_sale_period PreviousReconciliation = false
+
+-- the request is a reconciliation of the till's own, which asks nothing of the terminal
+abbrev pub asks_settling : SaleRequest → Bool
+asks_settling requests.Login = false
+asks_settling requests.Logout = false
+asks_settling (requests.Payment ask) = false
+asks_settling (requests.Reversal ask) = false
+asks_settling (requests.Abort reference) = false
+asks_settling (requests.Status reference) = false
+asks_settling (requests.Reconciliation period) = is_sale_period period
+asks_settling (requests.Display outputs) = false
+asks_settling (requests.Print qualifier) = false
+asks_settling requests.Diagnosis = false
 
 -- a terminal of this standing takes no request: it isn't linked, not yet ready, or set aside
 abbrev pub is_out_of_service : Standing → Bool
@@ -140,13 +185,17 @@ steps known header request found named =
     record { applies = is_repeated known.kept request found && has_reply found; result = KeptReply }
     ∷ record { applies = is_repeated known.kept request found; result = Fails InProgress }
     ∷ record { applies = is_some found; result = Fails NotAllowed }
+    ∷ record { applies = is_day_again header request named; result = Fails InProgress }
+    ∷ record { applies = is_day_key header named; result = Fails NotAllowed }
     ∷ record { applies = not (is_some named); result = Fails UnavailableDevice }
+    ∷ record { applies = is_logged_out known.core header.sale header.poi; result = Fails LoggedOut }
     ∷ record { applies = is_unserved request; result = Fails UnavailableService }
     ∷ record { applies = asks_other_currency request named; result = Fails NotAllowed }
     ∷ record { applies = names_none known.kept header.poi request; result = Fails NotFound }
     ∷ record { applies = names_irreversible known.kept header.poi request; result = Fails NotAllowed }
-    ∷ record { applies = is_used_up known.kept header.poi named; result = Fails UnavailableService }
-    ∷ record { applies = lacks_room known.setup.slots known.kept; result = Fails UnavailableService }
+    ∷ record { applies = asks_transaction request && is_used_up known.kept header.poi named; result = Fails UnavailableService }
+    ∷ record { applies = lacks_room known.setup.slots known.kept known.core.terminals; result = Fails UnavailableService }
+    ∷ record { applies = asks_settling request; result = Begins }
     ∷ record { applies = is_unavailable named; result = Fails UnavailableDevice }
     ∷ record { applies = is_ready named; result = Begins }
     ∷ []
@@ -171,6 +220,12 @@ abbrev pub service_reply : Known → Header → SaleRequest → Option NamedTerm
 service_reply known header request named = reply_of_result known.kept header (step_result known header request named)
 
 -- ---- what begins
+
+-- the result is that the service begins
+abbrev pub is_beginning : StepResult → Bool
+is_beginning KeptReply = false
+is_beginning (Fails condition) = false
+is_beginning Begins = true
 
 -- the item of what begins at a terminal
 abbrev pub item_of_result : ℕ → Header → SaleRequest → ℕ → StepResult → List RoundItem

@@ -1,5 +1,5 @@
 -- The stop of what a terminal serves: it is wished by a till's Abort, and `06 B0` is sent once.
-use Rattle.std.specs.Prelude.{ℕ, ◌==◌, is_some, not, Bool, false, ◌&&◌, if◌then◌else◌, List, [], ◌∷◌, Option, Some, None}
+use Rattle.std.specs.Prelude.{ℕ, ◌==◌, is_some, not, Bool, false, ◌&&◌, ◌||◌, if◌then◌else◌, List, [], ◌∷◌, Option, Some, None}
 use Rattle.gw_base.specs.declared.key.Key.{Key}
 use Rattle.sale_values.specs.declared.header.Header.{Header}
 use Rattle.sale_values.specs.declared.request.Reference.{Reference}
@@ -17,6 +17,7 @@ use Rattle.gw_owes.specs.declared.terminal.Service.TheVariants.{Transaction, End
 use Rattle.gw_owes.specs.declared.terminal.Standing.{Standing}
 use Rattle.gw_owes.specs.declared.terminal.Standing.TheVariants.{Unlinked, Registering, Enquiring, Ready, Serving, Aside}
 use Rattle.gw_owes.specs.declared.terminal.Terminal.{Terminal}
+use Rattle.gw_owes.specs.Days.{serves_day}
 use Rattle.gw_owes.specs.Diagnosis.{NamedTerminal, named_terminal}
 use Rattle.gw_owes.specs.Items.{RoundItem, Serve}
 use Rattle.gw_owes.specs.Row.{Known, Row, owing_nothing, owing_where}
@@ -25,11 +26,11 @@ use Rattle.gw_owes.specs.Terminals.{terminal_at, of_terminal}
 
 -- ---- what is served
 
--- the service is the payment or the reversal of this entry; a display never is, and no end of day is begun yet
+-- the service is the payment or the reversal of this entry; an end of day and a display never are
 abbrev pub is_service_of : TheEntry → Service → Bool
 is_service_of entry (Transaction slot) = entry.slot == slot
 is_service_of entry (EndOfDay header period) = false
-is_service_of entry (Display header outputs) = false
+is_service_of entry (Display header results) = false
 
 -- a terminal of this standing serves the entry
 abbrev pub serves_entry : TheEntry → Standing → Bool
@@ -50,9 +51,9 @@ abbrev pub serves_any : Standing → Option Found → Bool
 serves_any standing None = false
 serves_any standing (Some found) = serves_found standing found
 
--- the terminal serves the payment or the reversal of this key, which is open
+-- the terminal serves the payment or the reversal of this key, which is open, or the end of day of this key
 abbrev pub serves_key : List Record → Key → Terminal → Bool
-serves_key kept key terminal = serves_any terminal.standing (found_of kept key)
+serves_key kept key terminal = serves_any terminal.standing (found_of kept key) || serves_day key terminal.standing
 
 -- ---- what an Abort begins
 

@@ -1,24 +1,32 @@
 -- Laws of what the items of terminals, and their links, leave and owe.
-use Rattle.std.specs.Prelude.{◌≡◌, ◌≢◌, ◌⊎◌, ◌<◌, ◌≤◌, ℕ, ◌+◌, pos, int_le, Bool, true, false, List, [], ◌∷◌, length, map, slice_get, Option, Some, None, Ok, Err}
+use Rattle.std.specs.Prelude.{◌≡◌, ◌≢◌, ◌⊎◌, ◌<◌, ◌≤◌, ℕ, ◌+◌, pos, int_le, Bool, true, false, List, [], ◌∷◌, length, map, slice_get, if◌then◌else◌, Option, Some, None, Ok, Err}
 use Rattle.gw_base.specs.declared.figures.Figures.{Figures}
 use Rattle.gw_base.specs.declared.setup.Pt.{Pt}
 use Rattle.sale_values.specs.declared.header.Header.{Header}
+use Rattle.sale_values.specs.declared.names.Period.TheVariants.{SaleReconciliation}
 use Rattle.sale_values.specs.declared.request.SaleRequest.{SaleRequest}
+use Rattle.sale_values.specs.declared.request.SaleRequest.TheVariants as requests
 use Rattle.zvt_apdu.specs.Grammar.{ApduValue}
 use Rattle.zvt_msg.specs.declared.fault.PtFault.{PtFault}
 use Rattle.zvt_msg.specs.Message.{MessageValue, Nack, Other}
 use Rattle.zvt_msg.specs.MessageDecode.{decode_pt_message}
+use Rattle.zvt_talk.specs.declared.meaning.Heard.{Heard}
 use Rattle.zvt_talk.specs.declared.meaning.Heard.TheVariants as heard
 use Rattle.zvt_talk.specs.declared.phase.Phase.TheVariants.{Asked}
 use Rattle.zvt_talk.specs.Laws.{IsAckOrNack}
 use Rattle.zvt_talk.specs.Talk.{TalkFacts}
+use Rattle.jrn_record.specs.declared.records.How.TheVariants as hows
+use Rattle.jrn_record.specs.declared.records.Record.TheVariants.{Settled}
+use Rattle.gw_owes.specs.Awaited.{most_awaited, many_more}
 use Rattle.gw_owes.specs.Calls.{Sending, Ask, Acknowledge, Refuse, OwedCall, SendTill, SendPt, CutTill, CutPt, LinkPt, WriteBody, WriteGate, WriteFirstGate, Sync, sending_bytes, records_kept}
-use Rattle.gw_owes.specs.declared.terminal.Service.TheVariants.{Transaction}
+use Rattle.gw_owes.specs.declared.terminal.Service.{Service}
+use Rattle.gw_owes.specs.declared.terminal.Service.TheVariants.{Transaction, EndOfDay, Display}
 use Rattle.gw_owes.specs.declared.terminal.Standing.{Standing}
 use Rattle.gw_owes.specs.declared.terminal.Standing.TheVariants.{Unlinked, Registering, Enquiring, Ready, Serving, Aside}
 use Rattle.gw_owes.specs.declared.terminal.Terminal.{Terminal}
 use Rattle.gw_owes.specs.Core.{Core}
 use Rattle.gw_owes.specs.Items.{RoundItem, Crowded, Message, Asked as AskedItem, Unframed, Gone, Greet, Handle, Serve, NextWaiting, Oversized, LinkLost, Late, Overdue, Due}
+use Rattle.gw_owes.specs.Reconciliations.{settled_of}
 use Rattle.gw_owes.specs.Row.{Known, Row, owing_nothing}
 use Rattle.gw_owes.specs.Terminals.{terminal_at, registration}
 use Rattle.gw_owes.specs.Links.{is_linked, LinkEvent, LinkIsMade, link_row}
@@ -34,14 +42,12 @@ use Rattle.gw_owes.specs.TerminalRows.{terminal_of, terminal_row, is_link_lost}
 abbrev pub settings_of : Core → List Pt
 settings_of core = map (λ (terminal : Terminal). terminal.pt) core.terminals
 
--- of what is remembered only the terminal of this number may be changed, and not its settings
+-- only the terminal of this number but for its settings, who is logged out, and the number of the next device request may be changed
 pub record ChangesTerminalAlone (number : ℕ) (old new : Core) : Type 0 where
   pub others : (other : ℕ) → other ≢ number → slice_get new.terminals other ≡ slice_get old.terminals other
   pub settings : settings_of new ≡ settings_of old
   pub count : length new.terminals ≡ length old.terminals
   pub waits : new.waits ≡ old.waits
-  pub logged_out : new.logged_out ≡ old.logged_out
-  pub device_requests : new.device_requests ≡ old.device_requests
 
 -- an item of a terminal changes that terminal alone
 abbrev pub EachRowChangesItsTerminal : Type 0
@@ -83,10 +89,11 @@ AbsentIsOwedNothing = (known : Known) (number : ℕ) (apdu : ApduValue) → term
 
 -- ---- what is awaited
 
--- an Ack or a Nack is one of those that were awaited; where none was, none is after it
+-- an Ack or a Nack is one of those that were awaited; where none was, none is after it, and the greatest count stays
 pub record TakesOne (message : MessageValue) : Type 0 where
-  pub one : (awaited : ℕ) → IsAckOrNack message → awaited_after message (awaited + 1) ≡ awaited
+  pub one : (awaited : ℕ) → IsAckOrNack message → awaited + 1 < most_awaited → awaited_after message (awaited + 1) ≡ awaited
   pub none : IsAckOrNack message → awaited_after message 0 ≡ 0
+  pub most : IsAckOrNack message → awaited_after message most_awaited ≡ most_awaited
   pub other : (awaited : ℕ) → (IsAckOrNack message → ⊥) → awaited_after message awaited ≡ awaited
 
 -- whatever the message
@@ -116,7 +123,7 @@ commands_in (Sync ∷ calls) = commands_in calls
 pub record Awaits (number awaited : ℕ) (row : Row) : Type 0 where
   pub terminal : Terminal
   pub found : slice_get row.core.terminals number ≡ Some terminal
-  pub count : terminal.awaited ≡ awaited + commands_in row.calls
+  pub count : terminal.awaited ≡ many_more (commands_in row.calls) awaited
 
 -- each message of a terminal that is linked counts once, and each command that is sent for it
 abbrev pub EachMessageCounts : Type 0
@@ -138,6 +145,12 @@ EachLinkCountsAnew = (known : Known) (number : ℕ) (event : LinkEvent) (termina
 abbrev pub LateNackIsUnclear : Type 0
 LateNackIsUnclear =
     (terminal : Terminal) (talk : TalkFacts) (stop_wished : Bool) (error_code : ℕ) → terminal.talk ≡ Some talk → talk.phase ≡ Asked stop_wished → 2 ≤ terminal.awaited
+    → meaning_at terminal (Nack error_code) ≡ heard.Unclear
+
+-- so it is while the count is the greatest, whatever came since
+abbrev pub NackAtMostIsUnclear : Type 0
+NackAtMostIsUnclear =
+    (terminal : Terminal) (talk : TalkFacts) (stop_wished : Bool) (error_code : ℕ) → terminal.talk ≡ Some talk → talk.phase ≡ Asked stop_wished → terminal.awaited ≡ most_awaited
     → meaning_at terminal (Nack error_code) ≡ heard.Unclear
 
 -- ---- cuts
@@ -346,14 +359,58 @@ EnquiredIsSetAside =
     → report.trace < least_reported (on_record known.kept terminal.pt.poi)
     → GoesOnTo number (Aside (least_reported (on_record known.kept terminal.pt.poi)) report.trace) [] (handle_row known number apdu)
 
--- the terminal of this number is set aside after the item too: no record is kept for it, and no command is sent to it
+-- the one record that these calls keep for the item is the Settled of a reconciliation of a till's own, which asks nothing of the terminal
+pub record KeepsSettled (known : Known) (item : RoundItem) (number : ℕ) (calls : List OwedCall) : Type 0 where
+  pub till : ℕ
+  pub header : Header
+  pub item_is : item ≡ Serve number till header (requests.Reconciliation SaleReconciliation)
+  pub terminal : Terminal
+  pub found : terminal_at known number ≡ Some terminal
+  pub kept_one : records_kept calls ≡ Settled (settled_of hows.Sale header terminal.pt.currency known.moment) ∷ []
+
+-- the terminal of this number is set aside after the item too: no record is kept but the Settled of a till's own reconciliation, and no command is sent to it
 pub record StaysAside (known : Known) (item : RoundItem) (number before reported : ℕ) : Type 0 where
   pub aside : IsAsideAt (terminal_row known item).core number before reported
-  pub kept_none : records_kept (terminal_row known item).calls ≡ []
+  pub kept : (records_kept (terminal_row known item).calls ≡ []) ⊎ KeepsSettled known item number (terminal_row known item).calls
   pub asked_none : commands_in (terminal_row known item).calls ≡ 0
 
--- whatever it sends, it stays so until its link is lost: no record is kept for it, and no command is sent to it
+-- whatever it sends, it stays so until its link is lost: no payment, no reversal and no end of day is kept for it, and no command is sent to it
 abbrev pub AsideStaysAside : Type 0
 AsideStaysAside =
     (known : Known) (item : RoundItem) (number before reported : ℕ) → terminal_of item ≡ Some number → is_link_lost item ≡ false → IsAsideAt known.core number before reported
     → StaysAside known item number before reported
+
+-- ---- what has no trace number
+
+-- an end of day or a display, which has no trace number
+abbrev pub HasNoTrace : Service → Type 0
+HasNoTrace (Transaction slot) = ⊥
+HasNoTrace (EndOfDay header period) = Unit {0}
+HasNoTrace (Display header results) = Unit {0}
+
+-- what is served is done or declined
+abbrev pub is_done_or_declined : Heard → Bool
+is_done_or_declined (heard.Begun stop) = false
+is_done_or_declined (heard.Note intermediate_status) = false
+is_done_or_declined heard.Line = false
+is_done_or_declined heard.Block = false
+is_done_or_declined heard.Seen = false
+is_done_or_declined (heard.Approved figures) = false
+is_done_or_declined heard.Done = true
+is_done_or_declined (heard.Told trace approved result_code) = false
+is_done_or_declined (heard.Declined result_code trace) = true
+is_done_or_declined heard.Unclear = false
+is_done_or_declined heard.Stray = false
+
+-- after the row the terminal of this number has this standing
+pub record HasStandingAfter (number : ℕ) (standing : Standing) (row : Row) : Type 0 where
+  pub terminal : Terminal
+  pub found : slice_get row.core.terminals number ≡ Some terminal
+  pub standing_is : terminal.standing ≡ standing
+
+-- a terminal that serves an end of day or a display is ready once that is done or declined, with the last trace number that it had before; until then it serves it
+abbrev pub EachServedLeavesLast : Type 0
+EachServedLeavesLast =
+    (known : Known) (number : ℕ) (apdu : ApduValue) (terminal : Terminal) (service : Service) (last : ℕ) (message : MessageValue) → terminal_at known number ≡ Some terminal
+    → terminal.standing ≡ Serving service last → HasNoTrace service → decode_pt_message apdu ≡ Ok message
+    → HasStandingAfter number (if is_done_or_declined (meaning_at terminal message) then Ready last else Serving service last) (handle_row known number apdu)

@@ -17,7 +17,8 @@ use Rattle.gw_owes.specs.declared.terminal.Standing.TheVariants.{Unlinked, Regis
 use Rattle.gw_owes.specs.declared.terminal.Terminal.{Terminal}
 use Rattle.gw_owes.specs.Core.{Wait, Core}
 use Rattle.gw_owes.specs.Row.{Known, Row, owing_nothing, becoming}
-use Rattle.gw_owes.specs.Replies.{failure_reply, display_refusal}
+use Rattle.gw_owes.specs.Awaited.{one_more_awaited}
+use Rattle.gw_owes.specs.Replies.{failure_reply, display_reply}
 
 -- ---- terminals by their numbers
 
@@ -47,7 +48,7 @@ talk_of_command pt command moment = option_map (λ dialogue. talk_after dialogue
 -- the terminal once a command was sent to it: it has this standing, and one Ack or Nack more is awaited
 abbrev pub after_command : Terminal → Command → Standing → ℕ → Terminal
 after_command terminal command standing moment =
-    record terminal { standing = standing; talk = talk_of_command terminal.pt command moment; awaited = terminal.awaited + 1 }
+    record terminal { standing = standing; talk = talk_of_command terminal.pt command moment; awaited = one_more_awaited terminal.awaited }
 
 -- the registration of a terminal
 abbrev pub registration : Pt → Command
@@ -76,7 +77,7 @@ reply_calls_to (Some till) (Some reply) = SendTill till reply ∷ []
 abbrev pub reply_to_unfinished : Service → Option ReplyValue
 reply_to_unfinished (Transaction slot) = None
 reply_to_unfinished (EndOfDay header period) = Some (failure_reply header UnavailableDevice)
-reply_to_unfinished (Display header outputs) = display_refusal UnavailableDevice header outputs
+reply_to_unfinished (Display header results) = display_reply header results
 
 -- the reply that the loss of a link owes, by the terminal's standing
 abbrev pub reply_to_lost : Standing → Option ReplyValue
@@ -91,7 +92,7 @@ reply_to_lost (Aside before reported) = None
 abbrev pub asker_of_unfinished : Option ℕ → Service → Option ℕ
 asker_of_unfinished asker (Transaction slot) = asker
 asker_of_unfinished asker (EndOfDay header period) = None
-asker_of_unfinished asker (Display header outputs) = None
+asker_of_unfinished asker (Display header results) = None
 
 -- the till that is remembered once the link is lost
 abbrev pub asker_of_lost : Option ℕ → Standing → Option ℕ

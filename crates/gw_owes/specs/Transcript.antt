@@ -1,10 +1,13 @@
 -- The transcript of a terminal's link, which is all that was sent and taken on it, and the stops wished, and what the gateway remembers of the terminal by that flat list.
-use Rattle.std.specs.Prelude.{◌≡◌, ℕ, ◌+◌, pos, Bool, false, if◌then◌else◌, List, [], ◌∷◌, ◌++◌, nat_lt, slice_get, Option, Some, None, is_some, option_and_then, Result, Ok, Err, ◌==◌}
+use Rattle.std.specs.Prelude.{◌≡◌, ℕ, pos, Bool, false, if◌then◌else◌, List, [], ◌∷◌, ◌++◌, nat_lt, slice_get, Option, Some, None, is_some, option_and_then, Result, Ok, Err, ◌==◌}
 use Rattle.std.specs.Option.{option_or}
 use Rattle.gw_base.specs.declared.key.Key.{Key}
 use Rattle.gw_base.specs.declared.setup.Pt.{Pt}
 use Rattle.gw_base.specs.declared.setup.Setup.{Setup}
 use Rattle.sale_values.specs.declared.header.Header.{Header}
+use Rattle.sale_values.specs.declared.names.Class.TheVariants as classes
+use Rattle.sale_values.specs.declared.names.Kind.TheVariants as kinds
+use Rattle.sale_values.specs.declared.names.Period.TheVariants.{AcquirerReconciliation}
 use Rattle.sale_values.specs.declared.request.SaleRequest.{SaleRequest}
 use Rattle.sale_values.specs.declared.request.SaleRequest.TheVariants as requests
 use Rattle.sale_values.specs.Key.{key_of}
@@ -19,6 +22,7 @@ use Rattle.zvt_talk.specs.Came.{Came, Message as CameMessage, StopWished, is_tak
 use Rattle.zvt_talk.specs.Dialogue.{Dialogue, dialogue_kind_of, dialogue_of}
 use Rattle.zvt_talk.specs.Talk.{TalkFacts, end_of, talk_after, talk_goes_on}
 use Rattle.jrn_record.specs.declared.records.Record.{Record}
+use Rattle.gw_owes.specs.Awaited.{one_more_awaited}
 use Rattle.gw_owes.specs.Calls.{Sending, Ask, Acknowledge, Refuse, OwedCall, SendTill, SendPt, CutTill, CutPt, LinkPt, WriteBody, WriteGate, WriteFirstGate, Sync, records_kept}
 use Rattle.gw_owes.specs.declared.terminal.Service.{Service}
 use Rattle.gw_owes.specs.declared.terminal.Service.TheVariants.{Transaction, EndOfDay, Display}
@@ -48,10 +52,10 @@ pub data Carried : Type 0 where
 
 -- ---- what is remembered, by the transcript
 
--- how many Acks and Nacks are awaited: the commands, less the Acks and Nacks after them; never below 0, at each message
+-- how many Acks and Nacks are awaited: the commands, less the Acks and Nacks after them; never below 0, at each message, and once it is the greatest count it stays
 abbrev pub awaited_by : List Carried → ℕ
 awaited_by [] = 0
-awaited_by (Commanded command moment ∷ earlier) = awaited_by earlier + 1
+awaited_by (Commanded command moment ∷ earlier) = one_more_awaited (awaited_by earlier)
 awaited_by (Took message moment least ∷ earlier) = awaited_after message (awaited_by earlier)
 awaited_by (Wished ∷ earlier) = awaited_by earlier
 
@@ -109,11 +113,25 @@ standing_served (heard.Declined result_code reported) last = Some (Ready (last_a
 standing_served heard.Unclear last = None
 standing_served heard.Stray last = None
 
--- the standing that the end of what is served leads to; only payments and reversals are begun yet
+-- the standing that the end of an end of day or a display leads to, which leaves the last trace number: only one that is done and a decline lead to one without a cut
+abbrev pub standing_done : Heard → ℕ → Option Standing
+standing_done (heard.Begun stop) last = None
+standing_done (heard.Note intermediate_status) last = None
+standing_done heard.Line last = None
+standing_done heard.Block last = None
+standing_done heard.Seen last = None
+standing_done (heard.Approved figures) last = None
+standing_done heard.Done last = Some (Ready last)
+standing_done (heard.Told reported approved result_code) last = None
+standing_done (heard.Declined result_code reported) last = Some (Ready last)
+standing_done heard.Unclear last = None
+standing_done heard.Stray last = None
+
+-- the standing that the end of what is served leads to
 abbrev pub standing_of_service : Heard → Service → ℕ → Option Standing
 standing_of_service end (Transaction slot) last = standing_served end last
-standing_of_service end (EndOfDay header period) last = None
-standing_of_service end (Display header outputs) last = None
+standing_of_service end (EndOfDay header period) last = standing_done end last
+standing_of_service end (Display header results) last = standing_done end last
 
 -- the standing that the end of a dialogue leads to, by the one in which it ran and the least trace number that may be reported; what follows a registration's end is a command or a cut
 abbrev pub standing_ended : ℕ → Heard → Standing → Option Standing
@@ -136,24 +154,40 @@ ended_with pt message moment earlier =
     then option_and_then (λ dialogue. end_of dialogue (came_with message moment (awaited_by earlier) (came_by earlier))) (dialogue_by pt earlier)
     else None
 
--- a terminal that is ready serves a payment or a reversal
-abbrev pub standing_asked : Standing → Option Standing
-standing_asked (Unlinked due) = None
-standing_asked Registering = None
-standing_asked Enquiring = None
-standing_asked (Ready last) = Some (Serving (Transaction 0) last)
-standing_asked (Serving service last) = None
-standing_asked (Aside before reported) = None
+-- a payment or a reversal, in no slot of the records
+abbrev pub some_transaction : Service
+some_transaction = Transaction 0
 
--- which standing a command leads to: a stop leaves it; no end of day and no display is begun yet
+-- the header of no request
+abbrev pub blank_header : Header
+blank_header = record { class = classes.Service; category = []; kind = kinds.Request; service = None; device = None; sale = []; poi = [] }
+
+-- an end of day of no request
+abbrev pub some_day : Service
+some_day = EndOfDay blank_header AcquirerReconciliation
+
+-- a display of no request
+abbrev pub some_display : Service
+some_display = Display blank_header None
+
+-- a terminal that is ready serves this
+abbrev pub standing_asked : Service → Standing → Option Standing
+standing_asked service (Unlinked due) = None
+standing_asked service Registering = None
+standing_asked service Enquiring = None
+standing_asked service (Ready last) = Some (Serving service last)
+standing_asked service (Serving other last) = None
+standing_asked service (Aside before reported) = None
+
+-- which standing a command leads to: a stop leaves it
 abbrev pub standing_commanded : Command → Option Standing → Option Standing
 standing_commanded (commands.Register password config currency) standing = Some Registering
-standing_commanded (commands.Authorise amount currency) standing = option_and_then standing_asked standing
+standing_commanded (commands.Authorise amount currency) standing = option_and_then (standing_asked some_transaction) standing
 standing_commanded (commands.Enquire password) standing = Some Enquiring
-standing_commanded (commands.Reverse password receipt) standing = option_and_then standing_asked standing
-standing_commanded (commands.EndOfDay password) standing = None
+standing_commanded (commands.Reverse password receipt) standing = option_and_then (standing_asked some_transaction) standing
+standing_commanded (commands.EndOfDay password) standing = option_and_then (standing_asked some_day) standing
 standing_commanded commands.Stop standing = standing
-standing_commanded (commands.Show lines) standing = None
+standing_commanded (commands.Show lines) standing = option_and_then (standing_asked some_display) standing
 
 -- the standing, where the transcript leaves one: without a command the terminal is unlinked
 abbrev pub standing_by : Pt → List Carried → Option Standing
@@ -162,19 +196,19 @@ standing_by pt (Commanded command moment ∷ earlier) = standing_commanded comma
 standing_by pt (Took message moment least ∷ earlier) = option_and_then (standing_taken least (ended_with pt message moment earlier)) (standing_by pt earlier)
 standing_by pt (Wished ∷ earlier) = standing_by pt earlier
 
--- what is served without its slot in the records
-abbrev pub without_slot : Service → Service
-without_slot (Transaction slot) = Transaction 0
-without_slot (EndOfDay header period) = EndOfDay header period
-without_slot (Display header outputs) = Display header outputs
+-- what is served without that of which no transcript says anything: the slot of its Intent, or its request
+abbrev pub service_as_carried : Service → Service
+service_as_carried (Transaction slot) = some_transaction
+service_as_carried (EndOfDay header period) = some_day
+service_as_carried (Display header results) = some_display
 
--- a standing without that of which no transcript says anything: the moment at which the terminal is linked again, and the slot of what it serves
+-- a standing without that of which no transcript says anything: the moment at which the terminal is linked again, and that of what it serves
 abbrev pub as_carried : Standing → Standing
 as_carried (Unlinked due) = Unlinked None
 as_carried Registering = Registering
 as_carried Enquiring = Enquiring
 as_carried (Ready last) = Ready last
-as_carried (Serving service last) = Serving (without_slot service) last
+as_carried (Serving service last) = Serving (service_as_carried service) last
 as_carried (Aside before reported) = Aside before reported
 
 -- the terminal of this number is there, and its dialogue, what it awaits and its standing are those of the transcript
@@ -216,7 +250,7 @@ abbrev pub took_of : Known → Option Terminal → Result MessageValue PtFault �
 took_of known None decoded = []
 took_of known (Some terminal) decoded = if is_linked terminal.standing then took_decoded known.moment (least_reported (on_record known.kept terminal.pt.poi)) decoded else []
 
--- a stop is wished where the terminal serves the payment or the reversal of this key
+-- a stop is wished where the terminal serves the payment, the reversal or the end of day of this key
 abbrev pub wished_of : List Record → Key → Option Terminal → List Carried
 wished_of kept key None = []
 wished_of kept key (Some terminal) = if serves_key kept key terminal then Wished ∷ [] else []

@@ -1,22 +1,28 @@
--- Closed examples of transcripts, message by message: a terminal that becomes ready, and then serves payments, each of which ends in another way, a reversal, and a payment that is to stop.
-use Rattle.std.specs.Prelude.{◌≡◌, ℕ, List, [], ◌∷◌, ◌++◌, Option, Some, None, codes, slice_get}
+-- Closed examples of transcripts, message by message: a terminal that becomes ready, and then serves payments, each of which ends in another way, a reversal, a payment that is to stop, ends of day and displays.
+use Rattle.std.specs.Prelude.{◌≡◌, ℕ, true, List, [], ◌∷◌, ◌++◌, Option, Some, None, codes, slice_get}
 use Rattle.std.specs.Option.{option_map}
+use Rattle.gw_base.specs.declared.condition.Condition.TheVariants.{UnavailableDevice}
+use Rattle.sale_values.specs.declared.header.Header.{Header}
+use Rattle.sale_values.specs.declared.names.Period.TheVariants.{AcquirerReconciliation}
+use Rattle.sale_values.specs.declared.request.Output.{Output}
 use Rattle.sale_values.specs.declared.request.PaymentAsk.{PaymentAsk}
 use Rattle.sale_values.specs.declared.request.SaleRequest.TheVariants as requests
-use Rattle.zvt_msg.specs.declared.command.Command.TheVariants.{Authorise, Reverse, Stop}
-use Rattle.zvt_msg.specs.Message.{Ack, Nack, Status, Completion, Abort}
-use Rattle.gw_owes.specs.declared.terminal.Service.TheVariants.{Transaction}
+use Rattle.zvt_msg.specs.declared.command.Command.TheVariants.{Authorise, Reverse, EndOfDay, Stop}
+use Rattle.zvt_msg.specs.Message.{Ack, Nack, Intermediate, Status, Completion, Abort}
+use Rattle.xlate.specs.Display.{show_lines}
+use Rattle.gw_owes.specs.declared.terminal.Service.TheVariants as services
 use Rattle.gw_owes.specs.declared.terminal.Standing.{Standing}
 use Rattle.gw_owes.specs.declared.terminal.Standing.TheVariants.{Unlinked, Enquiring, Ready, Serving, Aside}
 use Rattle.gw_owes.specs.declared.terminal.Terminal.{Terminal}
 use Rattle.gw_owes.specs.Core.{Core}
+use Rattle.gw_owes.specs.Replies.{refused_results}
 use Rattle.gw_owes.specs.Items.{Handle, Serve}
 use Rattle.gw_owes.specs.Row.{Known}
 use Rattle.gw_owes.specs.Terminals.{registration}
 use Rattle.gw_owes.specs.Links.{LinkIsMade}
 use Rattle.gw_owes.specs.Handling.{enquiry_command}
 use Rattle.gw_owes.specs.TerminalExample.{one_pt, setup_with, header_for}
-use Rattle.gw_owes.specs.Transcript.{Carried, Commanded, Took, Wished, awaited_by, talk_by, standing_by, StepAt, HandlesItem, ChangesLink, FollowsTranscript, core_along, transcript_along, known_new}
+use Rattle.gw_owes.specs.Transcript.{Carried, Commanded, Took, Wished, awaited_by, talk_by, some_day, some_display, standing_by, StepAt, HandlesItem, ChangesLink, FollowsTranscript, core_along, transcript_along, known_new}
 
 -- ---- what happens
 
@@ -87,6 +93,27 @@ aborts_service moment service = record {
   step = HandlesItem (Serve 0 3 (header_for (codes "Abort") (codes "T1")) (requests.Abort (record { service = service; sale = None; poi = None })));
 }
 
+-- the header of a request for an end of day with this ServiceID
+abbrev pub day_request_header : List ℕ → Header
+day_request_header service = record (header_for (codes "Reconciliation") (codes "T1")) { service = Some service }
+
+-- till 3 asks for an end of day with this ServiceID, and the terminal begins to serve it
+abbrev pub begins_day_at : ℕ → List ℕ → StepAt
+begins_day_at moment service =
+    record { moment = moment; step = HandlesItem (Serve 0 3 (day_request_header service) (requests.Reconciliation AcquirerReconciliation)) }
+
+-- it sends an intermediate status
+abbrev pub notes : ℕ → StepAt
+notes moment = handles moment 0x04 0xFF (0x0A ∷ [])
+
+-- an output for the customer's display
+abbrev pub hello_output : Output
+hello_output = record { device = codes "CustomerDisplay"; qualify = codes "Display"; required = true; texts = Some (codes "Hello" ∷ []) }
+
+-- till 3 asks for a Display of it, and the terminal begins to show it
+abbrev pub begins_display_at : ℕ → StepAt
+begins_display_at moment = record { moment = moment; step = HandlesItem (Serve 0 3 (header_for (codes "Display") (codes "T1")) (requests.Display (hello_output ∷ []))) }
+
 -- ---- where it leads to
 
 -- the first payment is begun
@@ -140,6 +167,26 @@ steps_to_late = steps_to_unacknowledged ++ begins_service 11 (codes "2") ∷ []
 -- a refusal comes, which may be that of the stop: that is unclear, and the connection is cut
 abbrev pub steps_to_late_cut : List StepAt
 steps_to_late_cut = steps_to_late ++ refuses 12 ∷ []
+
+-- an end of day is begun
+abbrev pub steps_to_day : List StepAt
+steps_to_day = steps_to_ready ++ begins_day_at 5 (codes "1") ∷ []
+
+-- it is acknowledged, shows an intermediate status, is aborted, and is done all the same, before its stop is acknowledged or refused
+abbrev pub steps_to_day_done : List StepAt
+steps_to_day_done = steps_to_day ++ acknowledges 6 ∷ notes 7 ∷ aborts_service 8 (codes "1") ∷ completes 9 ∷ []
+
+-- a display is begun
+abbrev pub steps_to_display : List StepAt
+steps_to_display = steps_to_day_done ++ begins_display_at 10 ∷ []
+
+-- an Ack comes, with which it is done
+abbrev pub steps_to_displayed : List StepAt
+steps_to_displayed = steps_to_display ++ acknowledges 11 ∷ []
+
+-- an end of day is refused at once, and so is a display
+abbrev pub steps_to_day_refused : List StepAt
+steps_to_day_refused = steps_to_ready ++ begins_day_at 5 (codes "1") ∷ refuses 6 ∷ begins_display_at 7 ∷ refuses 8 ∷ []
 
 -- what is known as the run of the one terminal begins
 abbrev pub one_known : Known
@@ -216,6 +263,26 @@ unacknowledged_transcript = Took Completion 10 0 ∷ took_status 0x00 123 9 0 �
 abbrev pub late_transcript : List Carried
 late_transcript = Commanded (Authorise 1099 978) 11 ∷ unacknowledged_transcript
 
+-- that of the one that serves the end of day
+abbrev pub day_transcript : List Carried
+day_transcript = Commanded (EndOfDay one_pt.password) 5 ∷ ready_transcript
+
+-- that of the one that was asked to stop it, and is done all the same
+abbrev pub day_done_transcript : List Carried
+day_done_transcript = Took Completion 9 0 ∷ Commanded Stop 8 ∷ Wished ∷ Took (Intermediate 0x0A) 7 0 ∷ Took Ack 6 0 ∷ day_transcript
+
+-- that of the one that shows the output then
+abbrev pub display_transcript : List Carried
+display_transcript = Commanded (show_lines (codes "Hello" ∷ [])) 10 ∷ day_done_transcript
+
+-- that of the one that has shown it
+abbrev pub displayed_transcript : List Carried
+displayed_transcript = Took Ack 11 0 ∷ display_transcript
+
+-- that of the one that has refused both
+abbrev pub day_refused_transcript : List Carried
+day_refused_transcript = Took (Nack 0x6C) 8 0 ∷ Commanded (show_lines (codes "Hello" ∷ [])) 7 ∷ Took (Nack 0x6C) 6 0 ∷ day_transcript
+
 -- ---- the examples
 
 -- the transcripts on the way to ready, and what they say: an enquiry with its Ack awaited, and then a terminal that is ready with 0, without a dialogue; and the one after a cut
@@ -232,7 +299,7 @@ pub record ExampleReadyTranscript : Type 0 where
   pub cut : transcript_after_steps steps_to_cut ≡ []
   pub cut_follows : FollowsTranscript 0 [] (core_after_steps steps_to_cut)
 
--- the transcript after steps, which end in this standing: it says the same but for the slot of what is served, and the moment at which the terminal is linked again
+-- the transcript after steps, which end in this standing: it says the same but for the slot or the request of what is served, and the moment at which the terminal is linked again
 pub record EndsWithTranscript (steps : List StepAt) (transcript : List Carried) (carried standing : Standing) : Type 0 where
   pub transcript_is : transcript_after_steps steps ≡ transcript
   pub carried_is : standing_by one_pt transcript ≡ Some carried
@@ -241,11 +308,11 @@ pub record EndsWithTranscript (steps : List StepAt) (transcript : List Carried) 
 
 -- the transcripts of four payments: the first is approved, the second is declined with a greater trace number, the third is refused without one, and the fourth is approved with one that isn't greater; and of a payment whose end is unclear
 pub record ExamplePaymentTranscript : Type 0 where
-  pub serving : EndsWithTranscript steps_to_serving serving_transcript (Serving (Transaction 0) 0) (Serving (Transaction 0) 0)
+  pub serving : EndsWithTranscript steps_to_serving serving_transcript (Serving (services.Transaction 0) 0) (Serving (services.Transaction 0) 0)
   pub serving_awaits : awaited_by serving_transcript ≡ 1
   pub approved : EndsWithTranscript steps_to_approved approved_transcript (Ready 123) (Ready 123)
   pub approved_talk : talk_by one_pt approved_transcript ≡ None
-  pub serving_again : EndsWithTranscript steps_to_serving_again serving_again_transcript (Serving (Transaction 0) 123) (Serving (Transaction 2) 123)
+  pub serving_again : EndsWithTranscript steps_to_serving_again serving_again_transcript (Serving (services.Transaction 0) 123) (Serving (services.Transaction 2) 123)
   pub declined : EndsWithTranscript steps_to_declined declined_transcript (Ready 200) (Ready 200)
   pub refused : EndsWithTranscript steps_to_refused refused_transcript (Ready 200) (Ready 200)
   pub aside : EndsWithTranscript steps_to_aside aside_transcript (Aside 200 150) (Aside 200 150)
@@ -253,18 +320,31 @@ pub record ExamplePaymentTranscript : Type 0 where
 
 -- the transcripts of a reversal, which is approved
 pub record ExampleReversalTranscript : Type 0 where
-  pub reversing : EndsWithTranscript steps_to_reversing reversing_transcript (Serving (Transaction 0) 123) (Serving (Transaction 2) 123)
+  pub reversing : EndsWithTranscript steps_to_reversing reversing_transcript (Serving (services.Transaction 0) 123) (Serving (services.Transaction 2) 123)
   pub reversed : EndsWithTranscript steps_to_reversed reversed_transcript (Ready 124) (Ready 124)
 
 -- the transcripts of a payment of which a stop is wished twice, and sent once; of its Ack or Nack, which is awaited beside that of the next payment; and of a refusal that may be it
 pub record ExampleStopTranscript : Type 0 where
-  pub wished : EndsWithTranscript steps_to_wished wished_transcript (Serving (Transaction 0) 0) (Serving (Transaction 0) 0)
+  pub wished : EndsWithTranscript steps_to_wished wished_transcript (Serving (services.Transaction 0) 0) (Serving (services.Transaction 0) 0)
   pub wished_awaits : awaited_by wished_transcript ≡ 1
   pub unacknowledged : EndsWithTranscript steps_to_unacknowledged unacknowledged_transcript (Ready 123) (Ready 123)
   pub unacknowledged_awaits : awaited_by unacknowledged_transcript ≡ 1
-  pub late : EndsWithTranscript steps_to_late late_transcript (Serving (Transaction 0) 123) (Serving (Transaction 2) 123)
+  pub late : EndsWithTranscript steps_to_late late_transcript (Serving (services.Transaction 0) 123) (Serving (services.Transaction 2) 123)
   pub late_awaits : awaited_by late_transcript ≡ 2
   pub cut : EndsWithTranscript steps_to_late_cut [] (Unlinked None) (Unlinked (Some 17))
+
+-- the transcripts of an end of day that is to stop and is done all the same; of a display after it, which is done with the next Ack, while another is still awaited; and of an end of day and a display that are refused
+pub record ExampleDayTranscript : Type 0 where
+  pub day : EndsWithTranscript steps_to_day day_transcript (Serving some_day 0) (Serving (services.EndOfDay (day_request_header (codes "1")) AcquirerReconciliation) 0)
+  pub day_awaits : awaited_by day_transcript ≡ 1
+  pub day_done : EndsWithTranscript steps_to_day_done day_done_transcript (Ready 0) (Ready 0)
+  pub day_done_awaits : awaited_by day_done_transcript ≡ 1
+  pub display : EndsWithTranscript steps_to_display display_transcript (Serving some_display 0) (Serving (services.Display (header_for (codes "Display") (codes "T1")) (refused_results UnavailableDevice (hello_output ∷ []))) 0)
+  pub display_awaits : awaited_by display_transcript ≡ 2
+  pub displayed : EndsWithTranscript steps_to_displayed displayed_transcript (Ready 0) (Ready 0)
+  pub displayed_awaits : awaited_by displayed_transcript ≡ 1
+  pub refused : EndsWithTranscript steps_to_day_refused day_refused_transcript (Ready 0) (Ready 0)
+  pub refused_awaits : awaited_by day_refused_transcript ≡ 0
 
 -- the examples
 pub record ExampleTranscript : Type 0 where
@@ -272,3 +352,4 @@ pub record ExampleTranscript : Type 0 where
   pub payments : ExamplePaymentTranscript
   pub reversal : ExampleReversalTranscript
   pub stop : ExampleStopTranscript
+  pub days : ExampleDayTranscript

@@ -4,13 +4,22 @@
 
 ghost use Rattle.gw_owes.specs.Laws.{EachRowEndsInOne, FindsBadLengths, LinksEndInOne, PtBytesGiveItems, ReadsOneWay, TillBytesGiveItems};
 
+mod asker_laws;
+mod day_laws;
+mod device_laws;
+mod display_laws;
 mod payment_laws;
 mod record_laws;
 mod reversal_laws;
+mod session_laws;
 mod step_laws;
 mod terminal;
 mod terminal_laws;
 
+pub use asker_laws::law_askers;
+pub use day_laws::{law_day_examples, law_day_refusals, law_days};
+pub use device_laws::{law_device_examples, law_device_requests};
+pub use display_laws::{law_display_examples, law_displays};
 pub use payment_laws::{
     law_open_reports, law_payment_begins, law_payment_ends, law_payment_examples, law_repeats,
 };
@@ -19,8 +28,9 @@ pub use reversal_laws::{
     law_abort_examples, law_aborts, law_refusals, law_reversal_examples, law_reversal_premises,
     law_reversals,
 };
+pub use session_laws::{law_session_examples, law_sessions};
 pub use step_laws::{law_on_record, law_step_examples};
-pub use terminal::{Service, Standing, Terminal};
+pub use terminal::{LoggedOut, Service, Standing, Terminal};
 pub use terminal_laws::{
     law_awaited, law_dialogues, law_greetings, law_set_aside, law_terminal_alone,
     law_terminal_cuts, law_terminal_row_examples, law_transcript, law_unlinked, law_way_to_ready,

@@ -1,6 +1,6 @@
 //! Laws of payments and reversals. Each function does nothing: its contract is the law.
-ghost use Rattle.gw_owes.specs.PaymentExample.{ExampleApproved, ExampleCommandFails, ExampleDeclined, ExampleNotAbove, ExamplePaymentAccepted, ExamplePaymentBegins, ExampleReportsOfOpen, ExampleRoom, ExampleSecondRequest, ExampleUnclearEnd};
-ghost use Rattle.gw_owes.specs.PaymentLaws.{ApprovalIsKept, DeclineIsKept, EachAcceptedBegins, EachAskedBegins, EachAskedSendsNoTerminal, EachBegunIsReversed, EachBegunIsServed, EachIntentIsAsked, EachRecordIsOfAnEnd, EachTillHasItsOutcomeKept, EachTransactionIsKeptFirst, NotAboveIsSetAside, OnlyAskedBegins, RepeatBeginsNothing, ReportedApprovalIsKept, ReportedDeclineIsKept, UnclearKeepsNothing, UnperformedIsAborted};
+ghost use Rattle.gw_owes.specs.PaymentExample.{ExampleApproved, ExampleBesideDay, ExampleCommandFails, ExampleDeclined, ExampleNotAbove, ExamplePaymentAccepted, ExamplePaymentBegins, ExampleReportsOfOpen, ExampleRoom, ExampleSecondRequest, ExampleUnclearEnd};
+ghost use Rattle.gw_owes.specs.PaymentLaws.{ApprovalIsKept, DeclineIsKept, EachAcceptedBegins, EachAskedBegins, EachAskedSendsNoTerminal, EachBegunIsReversed, EachBegunIsServed, EachIntentIsAsked, EachRecordIsOfAnEnd, EachTillHasItsOutcomeKept, EachTransactionIsKeptFirst, KeyOfDayIsNotAllowed, NotAboveIsSetAside, OnlyAskedBegins, RepeatBeginsNothing, ReportedApprovalIsKept, ReportedDeclineIsKept, UnclearKeepsNothing, UnperformedIsAborted};
 
 /// A payment and a reversal begin only with their Intent kept first, in the next slot, with the key of the request and the terminal's
 /// last trace number: a payment with the amount that is asked and the terminal's currency, a reversal with the amount, the currency
@@ -15,9 +15,11 @@ pub fn law_payment_begins()
     ensures reversed { EachBegunIsReversed }
 {}
 
-/// A payment or a reversal ends only with its Outcome kept before its till gets the reply, also where a report resolves it. An approval keeps the
-/// figures that the terminal reported, where its trace number is above the one before; else nothing is kept, and the terminal is set
-/// aside. A decline keeps the condition of its code. An unclear end keeps nothing: the connection is cut, and the key stays open.
+/// A payment or a reversal ends only with its Outcome kept before its till gets the reply, also where a report resolves it: on its way
+/// its till gets device requests alone. An approval keeps the figures that the terminal reported, where its trace number is above the
+/// one before; else nothing is kept, and the terminal is set aside. A decline keeps the condition of its code. An unclear end keeps
+/// nothing: the connection is cut, and the key stays open. Else a message of a terminal keeps only the Settled of an end of day, before
+/// its till gets the reply.
 pub fn law_payment_ends()
     ensures reply { EachTillHasItsOutcomeKept }
     ensures kept { EachRecordIsOfAnEnd }
@@ -39,19 +41,22 @@ pub fn law_open_reports()
     ensures examples { ExampleReportsOfOpen }
 {}
 
-/// A request on a key that is on record asks no terminal: what a till asks sends none anything, and begins a payment or a reversal, at
-/// the terminal that its POIID names, only where its key is unknown. An Abort begins nothing, but may stop what is served under the
-/// key that it names. No item but what a till asks brings another.
+/// A request on a key that is on record asks no terminal: what a till asks sends none anything, and begins a payment, a reversal or a
+/// reconciliation, at the terminal that its POIID names, only where its key is unknown, and isn't that of the end of day that is served
+/// there. An Abort begins nothing, but may stop what is served under the key that it names; a Display, which asks for no key, may begin;
+/// a Login and a Logout have an item of their own (`law_sessions`). No item but what a till asks brings another. A payment or a
+/// reversal under the key of the end of day that is served isn't allowed.
 pub fn law_repeats()
     ensures repeat { RepeatBeginsNothing }
     ensures sends { EachAskedSendsNoTerminal }
     ensures begins { EachAskedBegins }
     ensures others { OnlyAskedBegins }
+    ensures of_day { KeyOfDayIsNotAllowed }
 {}
 
 /// Examples, which are computed: a payment of 10.99 that begins, and one whose command can't be sent; approvals, of all of it, of
 /// 9.00, with an unknown field, and for a till that is gone; one with a trace number that isn't above the one before; ends that are
-/// unclear; declines; repeats, a second payment, and one with too few slots.
+/// unclear; declines; repeats, a second payment, and one with too few slots; and payments while an end of day is served.
 pub fn law_payment_examples()
     ensures begins { ExamplePaymentBegins }
     ensures accepted { ExamplePaymentAccepted }
@@ -62,4 +67,5 @@ pub fn law_payment_examples()
     ensures declined { ExampleDeclined }
     ensures second { ExampleSecondRequest }
     ensures room { ExampleRoom }
+    ensures day { ExampleBesideDay }
 {}

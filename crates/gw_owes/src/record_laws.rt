@@ -1,19 +1,23 @@
 //! Laws of the records beside what is remembered. Each function does nothing: its contract is the law.
 ghost use Rattle.gw_owes.specs.HeardLaws.{EachMeaningFits};
-ghost use Rattle.gw_owes.specs.RecordExample.{ExampleIntentKept, ExampleKeyStaysOpen, ExampleOutcomeKept, ExampleRequestBegins, ExampleReversalKept, ExampleStopKeepsNothing};
-ghost use Rattle.gw_owes.specs.RecordLaws.{EachCutKeepsInOrder, EachLinkKeepsInOrder, EachRowBringsReadItems, EachRowKeepsInOrder, NewCoreIsInOrder};
+ghost use Rattle.gw_owes.specs.RecordExample.{ExampleIntentKept, ExampleKeyStaysOpen, ExampleOutcomeKept, ExampleRequestBegins, ExampleReversalKept, ExampleSettledKept, ExampleStopKeepsNothing};
+ghost use Rattle.gw_owes.specs.RecordLaws.{EachCutKeepsInOrder, EachLinkKeepsInOrder, EachMessageTakesItsMemory, EachRequestTakesOne, EachRowBringsReadItems, EachRowKeepsInOrder, EachTillGoneLeavesDays, NewCoreIsInOrder};
 
 /// While a terminal is ready none of its keys is open on record, and its last trace number is none below that of its records; while
-/// it serves a payment or a reversal, that is its one open key, and the number before is the one with which it was ready. It never
-/// awaits more Acks and Nacks than all the records allow. So it is as a run begins, whatever the records; each item leaves it so, and each
-/// event of a link. A row keeps one record at most; it may come after those before it, and a slot is left for the Outcome of each open
-/// key.
+/// it serves a payment or a reversal, that is its one open key, and the number before is the one with which it was ready; while it
+/// serves an end of day, the key of that is unknown, so that its Settled may come next. So it is as a run begins, whatever the records;
+/// each item leaves it so, and each event of a link. A row keeps one record at most; it may come after those before it, and a slot is
+/// left for the Outcome of each open key and the Settled of each end of day. Memory that is there for the latter and for one record more
+/// is enough for each request.
 pub fn law_records()
     ensures new { NewCoreIsInOrder }
     ensures rows { EachRowKeepsInOrder }
     ensures cuts { EachCutKeepsInOrder }
     ensures links { EachLinkKeepsInOrder }
     ensures items { EachRowBringsReadItems }
+    ensures messages { EachMessageTakesItsMemory }
+    ensures requests { EachRequestTakesOne }
+    ensures gone { EachTillGoneLeavesDays }
 {
     gw_ledger::law_next();
     gw_ledger::law_open();
@@ -29,7 +33,7 @@ pub fn law_meanings()
 {}
 
 /// Examples of these laws, which are computed: their premises hold of a terminal that is ready and begins a payment or a reversal, and
-/// of one that serves a payment and ends it, clearly or not, or is to stop it.
+/// of one that serves a payment and ends it, clearly or not, or is to stop it, and of one that ends an end of day.
 pub fn law_record_examples()
     ensures begins { ExampleRequestBegins }
     ensures intent { ExampleIntentKept }
@@ -37,6 +41,7 @@ pub fn law_record_examples()
     ensures open_key { ExampleKeyStaysOpen }
     ensures reversal { ExampleReversalKept }
     ensures stop { ExampleStopKeepsNothing }
+    ensures settled { ExampleSettledKept }
 {
     law_records();
     gw_ledger::law_examples();

@@ -1,6 +1,6 @@
 //! Laws of reversals and Aborts. Each function does nothing: its contract is the law.
-ghost use Rattle.gw_owes.specs.AbortExample.{ExampleAbortUnserved, ExampleEnquiredAfterStop, ExampleLateAcknowledgement, ExampleLateRefusal, ExampleStopSent, ExampleStoppedEnds};
-ghost use Rattle.gw_owes.specs.AbortLaws.{AbortCodeIsKept, AckOrNackEndsNothing, AskedIsWished, BegunIsStopped, EachAbortEndsNothing, EachAbortGetsRejectOrNothing, EachMalformedAbortGetsReject, EachStopIsTheFirst, LateRefusalDeclinesNothing, ServedIsToStop, StopEndsNothing, StoppedIsNotStoppedAgain, UnservedStopsNothing, WishedIsSent};
+ghost use Rattle.gw_owes.specs.AbortExample.{ExampleAbortUnserved, ExampleDayAborted, ExampleDisplayAborted, ExampleEnquiredAfterStop, ExampleLateAcknowledgement, ExampleLateRefusal, ExampleStopSent, ExampleStoppedEnds};
+ghost use Rattle.gw_owes.specs.AbortLaws.{AbortCodeIsKept, AbortCodeOfDayIsReplied, AckOrNackEndsNothing, AskedIsWished, BegunIsStopped, DisplayServesNoKey, EachAbortEndsNothing, EachAbortGetsRejectOrNothing, EachMalformedAbortGetsReject, EachStopIsTheFirst, LateRefusalDeclinesNothing, ServedIsToStop, StopEndsNothing, StoppedIsNotStoppedAgain, UnservedStopsNothing, WishedIsSent};
 ghost use Rattle.gw_owes.specs.ReversalExample.{ExampleReversalBegins, ExampleReversalEnds, ExampleReversalRefused, ExampleReversalRepeated, ExampleReversalReported, ExampleReversalUnserved};
 ghost use Rattle.gw_owes.specs.ReversalLaws.{EachCauseIsReplied, EachFailureHasItsCause, EachReversalBeginsOrIsReplied, IrreversibleIsNotAllowed, ReportedDeclineIsReplied, ReportedReversalIsReplied, ReversalApprovalIsReplied, ReversalDeclineIsReplied, ReversibleBegins, UnnamedIsNotFound, UnperformedReversalIsReplied};
 ghost use Rattle.gw_owes.specs.ReversalPremises.{ExampleIrreversible, ExampleMayStop, ExampleReversalAccepted, ExampleReversalCauses, ExampleReversalMeans};
@@ -18,10 +18,11 @@ pub fn law_reversals()
 {}
 
 /// A reversal begins, or gets its reply again, or is refused, and it fails with a condition exactly where the condition's cause holds.
-/// The causes have this order, and each says that none before it holds: its key is on record, and open, or with other content; its POIID
-/// names no terminal; its text names no entry of that terminal; the entry isn't a payment, approved with an amount that is the whole of
-/// what is asked, neither reversed nor settled; no trace number is left, or no room; the terminal takes no request; it serves another.
-/// It begins exactly where none of them holds and the terminal is ready.
+/// The causes have this order, and each says that none before it holds: its key is on record, and open, or with other content; it is
+/// that of the end of day that is served; its POIID names no terminal; its till is logged out there; its text names no entry of that
+/// terminal; the entry isn't a payment, approved with an amount that is the whole of what is asked, neither reversed nor settled; no
+/// trace number is left, or no room; the terminal takes no request; it serves another. It begins exactly where none of them holds and
+/// the terminal is ready.
 pub fn law_refusals()
     ensures cause { EachReversalBeginsOrIsReplied }
     ensures refused { EachCauseIsReplied }
@@ -31,17 +32,19 @@ pub fn law_refusals()
     ensures begins { ReversibleBegins }
 {}
 
-/// An Abort gets the event `Reject` where its body is malformed, or the key that it names isn't open; else it gets no reply of its
-/// own. Where a terminal serves the key, `06 B0` is sent to it: at once where the command is acknowledged, and else as soon as it is;
-/// once a dialogue, however often the key is aborted. A stop ends no key, keeps no record and sends no till anything, and nor does the
-/// terminal's Ack or Nack of it in its own dialogue: the key ends as the terminal says, and an abort with the code 6C is `Aborted` after
-/// the stop, and else `Cancel`. The terminal may acknowledge or refuse the stop late: a refusal that may be of an earlier command of its
-/// link declines nothing.
+/// An Abort gets the event `Reject` where its body is malformed, or the key that it names is neither open nor that of an end of day
+/// that is served; else it gets no reply of its own. Where a terminal serves the key, `06 B0` is sent to it: at once where the command
+/// is acknowledged, and else as soon as it is; once a dialogue, however often the key is aborted. So a payment, a reversal and an end of
+/// day are stopped, and never a display. A stop ends no key, keeps no record and sends no till anything, and nor does the terminal's Ack
+/// or Nack of it in its own dialogue: the key ends as the terminal says, and an abort with the code 6C is `Aborted` after the stop, and
+/// else `Cancel`. The terminal may acknowledge or refuse the stop late: a refusal that may be of an earlier command of its link declines
+/// nothing.
 pub fn law_aborts()
     ensures reject { EachAbortGetsRejectOrNothing }
     ensures malformed { EachMalformedAbortGetsReject }
     ensures served { ServedIsToStop }
     ensures unserved { UnservedStopsNothing }
+    ensures display { DisplayServesNoKey }
     ensures stops { BegunIsStopped }
     ensures wished { AskedIsWished }
     ensures then_sent { WishedIsSent }
@@ -51,6 +54,7 @@ pub fn law_aborts()
     ensures asked_ends_nothing { EachAbortEndsNothing }
     ensures refused { AckOrNackEndsNothing }
     ensures aborted { AbortCodeIsKept }
+    ensures aborted_day { AbortCodeOfDayIsReplied }
     ensures late { LateRefusalDeclinesNothing }
 {}
 
@@ -76,12 +80,14 @@ pub fn law_reversal_premises()
 {}
 
 /// Examples, which are computed: Aborts of keys that aren't served; the stop, before and after the command is acknowledged, and
-/// once only; ends after it and before it; and its late Ack or Nack in a second payment: a refusal, after which the enquiry finds the
-/// truth, and an acknowledgement.
+/// once only; ends after it and before it; the same of an end of day, and an Abort of a display; and its late Ack or Nack in a second
+/// payment: a refusal, after which the enquiry finds the truth, and an acknowledgement.
 pub fn law_abort_examples()
     ensures unserved { ExampleAbortUnserved }
     ensures sent { ExampleStopSent }
     ensures ends { ExampleStoppedEnds }
+    ensures of_day { ExampleDayAborted }
+    ensures display { ExampleDisplayAborted }
     ensures late_refusal { ExampleLateRefusal }
     ensures enquired { ExampleEnquiredAfterStop }
     ensures late_acknowledgement { ExampleLateAcknowledgement }

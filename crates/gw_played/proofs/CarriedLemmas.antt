@@ -12,6 +12,8 @@ use Rattle.zvt_apdu.specs.Grammar.{ApduValue}
 use Rattle.zvt_msg.specs.declared.command.Command.{Command}
 use Rattle.zvt_msg.specs.declared.command.Command.TheVariants as commands
 use Rattle.zvt_msg.specs.Message.{MessageValue}
+use Rattle.zvt_talk.specs.declared.dialogue_kind.DialogueKind.{DialogueKind}
+use Rattle.zvt_talk.specs.declared.dialogue_kind.DialogueKind.TheVariants.{EndOfDay as EndOfDayDialogue, Display as DisplayDialogue}
 use Rattle.zvt_talk.specs.Talk.{TalkFacts}
 use Rattle.pt_core.specs.declared.book.BookEntry.{BookEntry}
 use Rattle.pt_core.specs.Exchange.{heard_on_link}
@@ -30,7 +32,7 @@ use Rattle.gw_books.specs.Past.{SentCommand}
 use Rattle.gw_books.proofs.Holding.{is_handle}
 use Rattle.gw_books.proofs.ListLemmas.{In}
 use Rattle.gw_played.specs.Played.{PlacedExchange, exchanges_in, placed_entry, book_along}
-use Rattle.gw_played.proofs.Playing.{met_in, pending, AreMessages, IsLeft, IsQuiet, IsTalking, IsLastServed, IsTransacting, IsPeerIn, begins_dialogue, IsPeer, brings_charge}
+use Rattle.gw_played.proofs.Playing.{met_in, pending, AreMessages, IsLeft, IsQuiet, IsTalking, IsLastServed, IsTransacting, IsServing, IsPeerIn, begins_dialogue, IsPeer, brings_charge}
 
 -- ---- items of which none handles what a terminal has said
 
@@ -268,14 +270,18 @@ module _ (setting : Setting) (poi : List ℕ) (before now : List PlacedExchange)
     last = last-carried sent (entries_of (reaction_after setting p.talking.before p.talking.apdu)) p.last;
   }
 
+  pub serving-carried : (talk : Option TalkFacts) (dialogue_kind : DialogueKind) → IsServing setting before number items talk dialogue_kind → IsServing setting now number more talk dialogue_kind
+  unfolding talking-carried
+  serving-carried talk dialogue_kind p = record { command = p.command; kind_is = p.kind_is; talking = talking-carried talk p.command p.talking }
+
   pub peer-in-carried : (sent : List SentCommand) (talk : Option TalkFacts) (standing : Standing) → IsPeerIn setting poi before number items sent talk standing → IsPeerIn setting poi now number more sent talk standing
   peer-in-carried sent talk (Unlinked due) p = tt
   peer-in-carried sent talk Registering p = (p.0, p.1, p.2, talking-carried talk (commands.Register p.0 p.1 p.2) p.3)
   peer-in-carried sent talk Enquiring p = (p.0, talking-carried talk (commands.Enquire p.0) p.1)
   peer-in-carried sent talk (Ready last) p = quiet-carried p
   peer-in-carried sent talk (Serving (Transaction slot) last) p = transacting-carried sent talk p
-  peer-in-carried sent talk (Serving (EndOfDay header period) last) p = tt
-  peer-in-carried sent talk (Serving (Display header outputs) last) p = tt
+  peer-in-carried sent talk (Serving (EndOfDay header period) last) p = serving-carried talk EndOfDayDialogue p
+  peer-in-carried sent talk (Serving (Display header results) last) p = serving-carried talk DisplayDialogue p
   peer-in-carried sent talk (Aside before_it reported) p = quiet-carried p
 
 -- the terminal, with another till that asked

@@ -1,5 +1,5 @@
 -- What a played terminal says: its book stays honest with the end that it brings, and its dialogue goes on, or all that it has sent was handled.
-use Rattle.std.proofs.Common.{◌≡◌, ◌≢◌, ◌≤◌, ◌<◌, ◌∙◌, ℕ, zero, suc, ◌+◌, Bool, true, false, ◌&&◌, ◌||◌, eqb, leb, ltb, List, [], ◌∷◌, ◌++◌, length, inl, inr, refl, sym, ap, subst, arith, append-nil}
+use Rattle.std.proofs.Common.{◌≡◌, ◌≢◌, ◌≤◌, ◌<◌, ◌∙◌, ℕ, zero, suc, Bool, true, false, eqb, leb, ltb, List, [], ◌∷◌, ◌++◌, length, inl, inr, refl, sym, ap, subst, arith, append-nil}
 use Rattle.std.specs.Prelude.{◌⊎◌, pos, bytes_eq, if◌then◌else◌, map, slice_get, All, Option, Some, None, option_and_then, option_map, Result, Ok, Err}
 use Rattle.std.specs.List.{flat_map, list_any}
 use Rattle.std.specs.Option.{option_to_list}
@@ -9,6 +9,9 @@ use Rattle.gw_base.specs.Setup.{IsPt}
 use Rattle.gw_base.specs.declared.figures.Figures.{Figures}
 use Rattle.gw_base.specs.declared.setup.Pt.{Pt}
 use Rattle.gw_site.specs.Outside.{heard_on, is_connected}
+use Rattle.sale_values.specs.declared.header.Header.{Header}
+use Rattle.sale_values.specs.declared.names.Period.{Period}
+use Rattle.sale_reply.specs.declared.reply.Shown.{Shown}
 use Rattle.zvt_apdu.specs.Grammar.{ApduValue}
 use Rattle.zvt_msg.specs.declared.command.Command.{Command}
 use Rattle.zvt_msg.specs.declared.command.Command.TheVariants as commands
@@ -16,7 +19,7 @@ use Rattle.zvt_msg.specs.declared.fault.PtFault.{PtFault}
 use Rattle.zvt_msg.specs.Message.{MessageValue}
 use Rattle.zvt_msg.specs.MessageDecode.{decode_pt_message}
 use Rattle.zvt_talk.specs.declared.dialogue_kind.DialogueKind.{DialogueKind}
-use Rattle.zvt_talk.specs.declared.dialogue_kind.DialogueKind.TheVariants.{Registration, Enquiry, Payment, Reversal}
+use Rattle.zvt_talk.specs.declared.dialogue_kind.DialogueKind.TheVariants.{Registration, Enquiry, Payment, EndOfDay as EndOfDayDialogue, Display as DisplayDialogue}
 use Rattle.zvt_talk.specs.declared.meaning.Heard.{Heard}
 use Rattle.zvt_talk.specs.declared.meaning.Heard.TheVariants as heard
 use Rattle.zvt_talk.specs.Came.{is_taken}
@@ -28,27 +31,33 @@ use Rattle.pt_core.specs.Exchange.{heard_on_link}
 use Rattle.pt_core.specs.History.{Setting, book_after, book_of, play_left, reaction_after}
 use Rattle.pt_core.specs.Book.{last_book_entry}
 use Rattle.pt_core.specs.Table.{by_command, enquiry, entries_of}
-use Rattle.jrn_record.specs.declared.records.Outcome.{Outcome as TheOutcome}
-use Rattle.jrn_record.specs.declared.records.Record.TheVariants.{Outcome}
+use Rattle.jrn_record.specs.declared.records.Record.TheVariants.{Outcome, Settled}
+use Rattle.jrn_record.specs.declared.records.How.TheVariants as hows
 use Rattle.gw_ledger.specs.Accounts.{last_number_of}
 use Rattle.gw_ledger.specs.Fold.{open_entry}
+use Rattle.jrn_record.specs.declared.records.Outcome.{Outcome as TheOutcome}
+use Rattle.jrn_record.specs.declared.records.Settled.{Settled as TheSettled}
 use Rattle.gw_ledger.specs.declared.entry.Entry.{Entry as TheEntry}
 use Rattle.gw_owes.specs.declared.terminal.Service.TheVariants.{Transaction, EndOfDay, Display}
 use Rattle.gw_owes.specs.declared.terminal.Standing.{Standing}
 use Rattle.gw_owes.specs.declared.terminal.Standing.TheVariants.{Unlinked, Registering, Enquiring, Ready, Serving, Aside}
 use Rattle.gw_owes.specs.declared.terminal.Terminal.{Terminal}
+use Rattle.gw_owes.specs.Awaited.{one_more_awaited}
 use Rattle.gw_owes.specs.Calls.{Ask, OwedCall, SendPt, CutPt, keep_calls}
 use Rattle.gw_owes.specs.Core.{Core}
 use Rattle.gw_owes.specs.Deadlines.{is_due_by}
+use Rattle.gw_owes.specs.Displays.{serving_display}
 use Rattle.gw_owes.specs.Handling.{consequence, enquires, enquiring, enquiry_command, handle_decoded, handle_message, meaning_at, meaning_for, registering, taken_as, taking}
 use Rattle.gw_owes.specs.Items.{RoundItem, Handle}
 use Rattle.gw_owes.specs.Links.{is_linked}
-use Rattle.gw_owes.specs.RecordLaws.{AreRecordsOf, IsInOrder}
+use Rattle.gw_owes.specs.Reconciliations.{reply_to_settled, serving_day, settle_calls, settled_of}
+use Rattle.gw_owes.specs.RecordLaws.{IsInOrder}
 use Rattle.gw_owes.specs.Reply.{ReplyValue}
 use Rattle.gw_owes.specs.Reports.{Report, on_record, outcome_reported, report_against, report_row}
 use Rattle.gw_owes.specs.Row.{Known, Row, becoming, owing_where}
 use Rattle.gw_owes.specs.Serving.{at_rest, approved_outcome, approved_row, breaking, declined_outcome, declined_row, done_with, last_after_decline, reply_to_outcome, resolves, serving_transaction, staying, stops, was_stopped}
 use Rattle.gw_owes.specs.Terminals.{after_command, of_terminal, reply_calls_to, terminal_at, terminal_becomes, with_terminal}
+use Rattle.gw_owes.proofs.HandlingLemmas.{IsShown, taken-plain}
 use Rattle.gw_owes.proofs.KeepingLemmas.{setting-there}
 use Rattle.gw_owes.proofs.SetLemmas.{same-some}
 use Rattle.gw_rules.specs.Scene.{known_in, row_at}
@@ -63,142 +72,15 @@ use Rattle.gw_rules.proofs.SetupLemmas.{HasSetup}
 use Rattle.gw_books.specs.Books.{is_true}
 use Rattle.gw_books.specs.Past.{Occasion, OfMessage, OfNothing, SentCommand, Ending, Approved, Declined, Reported, HeardEnd, Past, command_served, ending_with, ends_by, ends_of, first_occasion, occasion_decoded, served_in}
 use Rattle.gw_books.proofs.FrameRowLemmas.{each-in-place}
-use Rattle.gw_books.proofs.Holding.{charges, charge_owed, is_handle}
+use Rattle.gw_books.proofs.Holding.{is_handle}
 use Rattle.gw_books.proofs.ListLemmas.{In, bytes-are, found-in, in-either}
 use Rattle.gw_played.specs.Played.{PlacedExchange, book_along, exchanges_in}
-use Rattle.gw_played.proofs.Playing.{IsLastServed, IsLeft, IsOfCommand, IsTransacting, IsPeer, IsPeerIn, IsQuiet, IsTalking, PeerLaws, Plays, PlaysItem, WasLinked, ask_owed, brings_charge, link_owed, met_in, pending}
+use Rattle.gw_played.proofs.Playing.{IsLastServed, IsLeft, IsOfCommand, IsServing, IsTransacting, IsPeer, IsPeerIn, IsQuiet, IsTalking, PeerLaws, Plays, PlaysItem, WasLinked, ask_owed, brings_charge, met_in, pending}
 use Rattle.gw_played.proofs.HonestGrowLemmas.{honest-ends}
 use Rattle.gw_played.proofs.PeerEndLemmas.{approved-true, declined-true, heard_now, reported-true}
-use Rattle.gw_played.proofs.PeerTalkLemmas.{GoesOn, IsAsked, MayEnd, same-kind}
-use Rattle.gw_played.proofs.TakenMessageLemmas.{own-number, other-number, no-true, own-pending, other-pending, peer-stays, first-left, Goes, Stops, Talks, talks}
-
--- ---- calls
-
--- the calls ask no other terminal for anything, link none, and charge none
-record AreMild (number : ℕ) (calls : List OwedCall) : Type 0 where
-  asks_others : (other : ℕ) → other ≢ number → ask_owed other calls ≡ false
-  links_none : (other : ℕ) → link_owed other calls ≡ false
-  charges_none : (other : ℕ) → charge_owed other calls ≡ false
-
-neither : (b : Bool) → ((b && false) || false) ≡ false
-neither true = refl
-neither false = refl
-
-mild-none : (number : ℕ) → AreMild number []
-mild-none number = record { asks_others = λ other apart. refl; links_none = λ other. refl; charges_none = λ other. refl }
-
-mild-cut : (number : ℕ) → AreMild number (CutPt number ∷ [])
-mild-cut number = record { asks_others = λ other apart. refl; links_none = λ other. refl; charges_none = λ other. refl }
-
-mild-enquiry : (number : ℕ) (pt : Pt) → AreMild number (SendPt number (Ask (enquiry_command pt)) ∷ [])
-mild-enquiry number pt = record {
-  asks_others = λ other apart. ap (λ (b : Bool). (b && true) || false) (other-number number other apart);
-  links_none = λ other. refl;
-  charges_none = λ other. neither (eqb number other);
-}
-
--- a stop asks nothing
-mild-stop : (number : ℕ) → AreMild number (SendPt number (Ask commands.Stop) ∷ [])
-mild-stop number = record { asks_others = λ other apart. neither (eqb number other); links_none = λ other. refl; charges_none = λ other. neither (eqb number other) }
-
-mild-replies : (number : ℕ) (asker : Option ℕ) (reply : Option ReplyValue) → AreMild number (reply_calls_to asker reply)
-mild-replies number None reply = mild-none number
-mild-replies number (Some till) None = mild-none number
-mild-replies number (Some till) (Some reply) = record { asks_others = λ other apart. refl; links_none = λ other. refl; charges_none = λ other. refl }
-
-mild-kept : (number slot : ℕ) (outcome : TheOutcome) (calls : List OwedCall) → AreMild number calls → AreMild number (keep_calls slot (Outcome outcome) ++ calls)
-mild-kept number slot outcome calls mild = record { asks_others = mild.asks_others; links_none = mild.links_none; charges_none = mild.charges_none }
-
-asks-no-more : (number : ℕ) (asker : Option ℕ) (reply : Option ReplyValue) → ask_owed number (reply_calls_to asker reply) ≡ false
-asks-no-more number None reply = refl
-asks-no-more number (Some till) None = refl
-asks-no-more number (Some till) (Some reply) = refl
-
-own-cut : (number : ℕ) → cut_owed number (CutPt number ∷ []) ≡ true
-own-cut number = ap (λ (b : Bool). b || false) (own-number number)
-
-own-enquiry : (number : ℕ) (pt : Pt) → ask_owed number (SendPt number (Ask (enquiry_command pt)) ∷ []) ≡ true
-own-enquiry number pt = ap (λ (b : Bool). (b && true) || false) (own-number number)
-
--- ---- rows that go on
-
-registering-on : (known : Known) (number : ℕ) (terminal : Terminal) (meant : Heard) → GoesOn meant → registering known number terminal meant ≡ staying known number terminal
-registering-on known number terminal (heard.Begun stop) on = refl
-registering-on known number terminal (heard.Note intermediate_status) on = absurd on
-registering-on known number terminal heard.Line on = absurd on
-registering-on known number terminal heard.Block on = absurd on
-registering-on known number terminal heard.Seen on = refl
-registering-on known number terminal (heard.Approved figures) on = absurd on
-registering-on known number terminal heard.Done on = absurd on
-registering-on known number terminal (heard.Told reported approved result_code) on = absurd on
-registering-on known number terminal (heard.Declined result_code reported) on = absurd on
-registering-on known number terminal heard.Unclear on = absurd on
-registering-on known number terminal heard.Stray on = absurd on
-
-enquiring-on : (known : Known) (number : ℕ) (terminal : Terminal) (meant : Heard) → GoesOn meant → enquiring known number terminal meant ≡ staying known number terminal
-enquiring-on known number terminal (heard.Begun stop) on = refl
-enquiring-on known number terminal (heard.Note intermediate_status) on = absurd on
-enquiring-on known number terminal heard.Line on = absurd on
-enquiring-on known number terminal heard.Block on = absurd on
-enquiring-on known number terminal heard.Seen on = refl
-enquiring-on known number terminal (heard.Approved figures) on = absurd on
-enquiring-on known number terminal heard.Done on = absurd on
-enquiring-on known number terminal (heard.Told reported approved result_code) on = absurd on
-enquiring-on known number terminal (heard.Declined result_code reported) on = absurd on
-enquiring-on known number terminal heard.Unclear on = absurd on
-enquiring-on known number terminal heard.Stray on = absurd on
-
--- a payment or a reversal goes on, and a stop is sent or not
-serving-on : (known : Known) (number : ℕ) (terminal : Terminal) (slot last : ℕ) (meant : Heard) → GoesOn meant
-    → (serving_transaction known number terminal slot last meant ≡ staying known number terminal) ⊎ (serving_transaction known number terminal slot last meant ≡ stops known number terminal)
-serving-on known number terminal slot last (heard.Begun true) on = inr refl
-serving-on known number terminal slot last (heard.Begun false) on = inl refl
-serving-on known number terminal slot last (heard.Note intermediate_status) on = absurd on
-serving-on known number terminal slot last heard.Line on = absurd on
-serving-on known number terminal slot last heard.Block on = absurd on
-serving-on known number terminal slot last heard.Seen on = inl refl
-serving-on known number terminal slot last (heard.Approved figures) on = absurd on
-serving-on known number terminal slot last heard.Done on = absurd on
-serving-on known number terminal slot last (heard.Told reported approved result_code) on = absurd on
-serving-on known number terminal slot last (heard.Declined result_code reported) on = absurd on
-serving-on known number terminal slot last heard.Unclear on = absurd on
-serving-on known number terminal slot last heard.Stray on = absurd on
-
--- what goes on brings no end
-none-ends : (command : Option ℕ) (meant : Heard) → GoesOn meant → ending_with command meant ≡ None
-none-ends command (heard.Begun stop) on = refl
-none-ends command (heard.Note intermediate_status) on = absurd on
-none-ends command heard.Line on = absurd on
-none-ends command heard.Block on = absurd on
-none-ends command heard.Seen on = refl
-none-ends command (heard.Approved figures) on = absurd on
-none-ends command heard.Done on = absurd on
-none-ends command (heard.Told reported approved result_code) on = absurd on
-none-ends command (heard.Declined result_code reported) on = absurd on
-none-ends command heard.Unclear on = absurd on
-none-ends command heard.Stray on = absurd on
-
--- ---- commands that may charge a card
-
--- such a command begins a dialogue
-charge-asked : (asked : Command) → charges asked ≡ true → IsAsked asked
-charge-asked (commands.Register password config currency) charge = no-true (sym charge)
-charge-asked (commands.Authorise amount currency) charge = tt
-charge-asked (commands.Enquire password) charge = no-true (sym charge)
-charge-asked (commands.Reverse password receipt) charge = tt
-charge-asked (commands.EndOfDay password) charge = no-true (sym charge)
-charge-asked commands.Stop charge = no-true (sym charge)
-charge-asked (commands.Show display_lines) charge = no-true (sym charge)
-
--- which ends as a payment may
-charge-ends : (asked : Command) (kind : DialogueKind) (meant : Heard) → charges asked ≡ true → dialogue_kind_of asked ≡ Some kind → MayEnd kind meant → MayEnd Payment meant
-charge-ends (commands.Register password config currency) kind meant charge begins may = no-true (sym charge)
-charge-ends (commands.Authorise amount currency) kind meant charge begins may = subst (λ (one : DialogueKind). MayEnd one meant) (sym (same-kind Payment kind begins)) may
-charge-ends (commands.Enquire password) kind meant charge begins may = no-true (sym charge)
-charge-ends (commands.Reverse password receipt) kind meant charge begins may = subst (λ (one : DialogueKind). MayEnd one meant) (sym (same-kind Reversal kind begins)) may
-charge-ends (commands.EndOfDay password) kind meant charge begins may = no-true (sym charge)
-charge-ends commands.Stop kind meant charge begins may = no-true (sym charge)
-charge-ends (commands.Show display_lines) kind meant charge begins may = no-true (sym charge)
+use Rattle.gw_played.proofs.PeerTalkLemmas.{GoesOn, IsAsked, MayEnd, kind-asked, same-kind}
+use Rattle.gw_played.proofs.TakenMessageLemmas.{no-true, own-pending, other-pending, peer-stays, first-left, Goes, Stops, Talks, talks}
+use Rattle.gw_played.proofs.HandleRowLemmas.{AreMild, neither, mild-none, mild-cut, mild-enquiry, mild-stop, mild-replies, mild-kept, asks-no-more, own-cut, own-enquiry, registering-on, enquiring-on, serving-on, day-on, display-on, on-unshown, end-unshown, none-ends, charge-asked, charge-ends}
 
 -- ---- settings
 
@@ -400,7 +282,7 @@ module _ (laws : PeerLaws) (settings : List ℕ → Setting) (v : View) (past : 
     stopped : (standing : Standing) → old.standing ≡ standing → IsPeerIn setting old.pt.poi placed number rest past.commands now.talk standing → Leaving (stops known number now) []
     stopped standing is peer =
         let calls : List OwedCall = SendPt number (Ask commands.Stop) ∷ [] in
-        let new : Terminal = record now { awaited = now.awaited + 1 } in
+        let new : Terminal = record now { awaited = one_more_awaited now.awaited } in
         becomes-leaves old new calls (OfMessage number message) [] here linked refl (mild-stop number) linked
         (λ uncut. subst (λ (b : Bool). IsPeer b setting placed number rest past.commands calls new) (sym (neither (eqb number number)))
         (subst (λ (s : Standing). IsPeerIn setting old.pt.poi placed number rest past.commands now.talk s) (sym is) peer)) none-sound
@@ -433,7 +315,7 @@ module _ (laws : PeerLaws) (settings : List ℕ → Setting) (v : View) (past : 
     resolved : (ready : ℕ) (outcome : TheOutcome) (ends : List HeardEnd) → AreSound ends → IsQuiet setting placed number rest → Leaving (resolves known number now (Ready ready) outcome) ends
     resolved ready outcome ends sound quiet =
         rests (done_with now (Ready ready)) (keep_calls (length known.kept) (Outcome outcome) ++ reply_calls_to now.asker (reply_to_outcome known.kept outcome.slot outcome)) ends refl
-        (mild-kept number (length known.kept) outcome (reply_calls_to now.asker (reply_to_outcome known.kept outcome.slot outcome)) (mild-replies number now.asker (reply_to_outcome known.kept outcome.slot outcome)))
+        (mild-kept number (length known.kept) (Outcome outcome) (reply_calls_to now.asker (reply_to_outcome known.kept outcome.slot outcome)) (mild-replies number now.asker (reply_to_outcome known.kept outcome.slot outcome)))
         refl (asks-no-more number now.asker (reply_to_outcome known.kept outcome.slot outcome)) quiet sound
 
     -- ---- a registration
@@ -576,6 +458,47 @@ module _ (laws : PeerLaws) (settings : List ℕ → Setting) (v : View) (past : 
       transacting-ends heard.Unclear may quiet true_of = breaks [] none-sound
       transacting-ends heard.Stray may quiet true_of = absurd may.0
 
+    -- ---- an end of day or a display
+
+    -- it is over: its till gets the reply, and no command that may charge a card has ended
+    replied : (last : ℕ) (reply : Option ReplyValue) → IsQuiet setting placed number rest → Leaving (terminal_becomes known number (done_with now (Ready last)) (reply_calls_to now.asker reply)) []
+    replied last reply quiet = rests (done_with now (Ready last)) (reply_calls_to now.asker reply) [] refl (mild-replies number now.asker reply) refl (asks-no-more number now.asker reply) quiet none-sound
+
+    -- so it is where its Settled is kept before
+    settled : (last : ℕ) (the_settled : TheSettled) → IsQuiet setting placed number rest → Leaving (terminal_becomes known number (done_with now (Ready last)) (settle_calls known.kept now.asker the_settled)) []
+    settled last the_settled quiet =
+        rests (done_with now (Ready last)) (settle_calls known.kept now.asker the_settled) [] refl
+        (mild-kept number (length known.kept) (Settled the_settled) (reply_calls_to now.asker (reply_to_settled known.kept the_settled)) (mild-replies number now.asker (reply_to_settled known.kept the_settled)))
+        refl (asks-no-more number now.asker (reply_to_settled known.kept the_settled)) quiet none-sound
+
+    day-ends : (last : ℕ) (header : Header) (period : Period) (meant : Heard) → MayEnd EndOfDayDialogue meant → IsQuiet setting placed number rest
+        → Leaving (serving_day known number now last header meant) (EndsIn (Serving (EndOfDay header period) last) meant)
+    day-ends last header period (heard.Begun stop) may quiet = absurd may.0
+    day-ends last header period (heard.Note intermediate_status) may quiet = absurd may.0
+    day-ends last header period heard.Line may quiet = absurd may.0
+    day-ends last header period heard.Block may quiet = absurd may.0
+    day-ends last header period heard.Seen may quiet = absurd may.0
+    day-ends last header period (heard.Approved figures) may quiet = absurd may.0
+    day-ends last header period heard.Done may quiet = settled last (settled_of hows.Acquirer header old.pt.currency known.moment) quiet
+    day-ends last header period (heard.Told reported approved result_code) may quiet = absurd may.0
+    day-ends last header period (heard.Declined result_code reported) may quiet = replied last _ quiet
+    day-ends last header period heard.Unclear may quiet = breaks [] none-sound
+    day-ends last header period heard.Stray may quiet = absurd may.0
+
+    display-ends : (last : ℕ) (header : Header) (results : Option (List Shown)) (meant : Heard) → MayEnd DisplayDialogue meant → IsQuiet setting placed number rest
+        → Leaving (serving_display known number now last header results meant) (EndsIn (Serving (Display header results) last) meant)
+    display-ends last header results (heard.Begun stop) may quiet = absurd may.0
+    display-ends last header results (heard.Note intermediate_status) may quiet = absurd may.0
+    display-ends last header results heard.Line may quiet = absurd may.0
+    display-ends last header results heard.Block may quiet = absurd may.0
+    display-ends last header results heard.Seen may quiet = absurd may.0
+    display-ends last header results (heard.Approved figures) may quiet = absurd may.0
+    display-ends last header results heard.Done may quiet = replied last _ quiet
+    display-ends last header results (heard.Told reported approved result_code) may quiet = absurd may.0
+    display-ends last header results (heard.Declined result_code reported) may quiet = replied last _ quiet
+    display-ends last header results heard.Unclear may quiet = breaks [] none-sound
+    display-ends last header results heard.Stray may quiet = absurd may.0
+
     -- ---- in each standing
 
     -- the kind of a command's dialogue
@@ -628,25 +551,63 @@ module _ (laws : PeerLaws) (settings : List ℕ → Setting) (v : View) (past : 
         by-follows (inr stops) =
             transacting-ends slot last p (meaning_at old message) (charge-ends p.command p.talking.dialogue.dialogue_kind (meaning_at old message) p.charging p.talking.begins stops.ends) stops.quiet stops.true_of
 
+    -- where an end of day or a display is served, by what follows while it goes on and as it ends
+    serving-leaves : (standing : Standing) (kind : DialogueKind) (follows : Heard → Row) → old.standing ≡ standing
+        → (IsServing setting placed number rest now.talk kind → IsPeerIn setting old.pt.poi placed number rest past.commands now.talk standing)
+        → ((meant : Heard) → GoesOn meant → (follows meant ≡ staying known number now) ⊎ (follows meant ≡ stops known number now))
+        → ((meant : Heard) → MayEnd kind meant → IsQuiet setting placed number rest → Leaving (follows meant) (EndsIn standing meant)) → IsServing setting placed number (Handle number apdu ∷ rest) old.talk kind
+        → Leaving (owing_where (is_taken message) known (follows (meaning_at old message))) (EndsIn standing (meaning_at old message))
+    serving-leaves standing kind follows is peer on ends it =
+        let said = says it.command it.talking (kind-asked it.command kind it.kind_is) in
+        taken-leaves (follows (meaning_at old message)) (EndsIn standing (meaning_at old message)) said.taken
+        (elim said.follows [
+          | inl goes ↦ goes-on standing (meaning_at old message) (follows (meaning_at old message)) is goes.on (on (meaning_at old message) goes.on) (peer (record { command = it.command; kind_is = it.kind_is; talking = goes.talking }))
+          | inr stops ↦ ends (meaning_at old message) (kind-of kind it.command it.talking it.kind_is (meaning_at old message) stops.ends) stops.quiet
+        ])
+
     -- nothing is left to be handled where the terminal is quiet
     never-quiet : {A : Type 0} → IsQuiet setting placed number (Handle number apdu ∷ rest) → A
     never-quiet quiet = let first = first-left setting placed number apdu rest [] quiet.none_left in let e = first.left_is in absurd cc
 
-    standing-leaves : (standing : Standing) → old.standing ≡ standing → is_linked standing ≡ true → AreRecordsOf known.kept old.pt.poi standing
+    standing-leaves : (standing : Standing) → old.standing ≡ standing → is_linked standing ≡ true
         → IsPeerIn setting old.pt.poi placed number (Handle number apdu ∷ rest) past.commands old.talk standing
         → Leaving (owing_where (is_taken message) known (consequence known number now (meaning_at old message) standing)) (EndsIn standing (meaning_at old message))
-    standing-leaves (Unlinked due) is links has peer = no-true (sym links)
-    standing-leaves Registering is links has peer = registering-leaves is peer
-    standing-leaves Enquiring is links has peer = enquiring-leaves is peer
-    standing-leaves (Ready last) is links has peer = never-quiet peer
-    standing-leaves (Serving (Transaction slot) last) is links has peer = transacting-leaves slot last is peer
-    standing-leaves (Serving (EndOfDay header period) last) is links has peer = absurd has
-    standing-leaves (Serving (Display header outputs) last) is links has peer = absurd has
-    standing-leaves (Aside before reported) is links has peer = never-quiet peer
+    standing-leaves (Unlinked due) is links peer = no-true (sym links)
+    standing-leaves Registering is links peer = registering-leaves is peer
+    standing-leaves Enquiring is links peer = enquiring-leaves is peer
+    standing-leaves (Ready last) is links peer = never-quiet peer
+    standing-leaves (Serving (Transaction slot) last) is links peer = transacting-leaves slot last is peer
+    standing-leaves (Serving (EndOfDay header period) last) is links peer =
+        serving-leaves (Serving (EndOfDay header period) last) EndOfDayDialogue (λ meant. serving_day known number now last header meant) is (λ serves. serves) (day-on known number now last header) (day-ends last header period) peer
+    standing-leaves (Serving (Display header results) last) is links peer =
+        serving-leaves (Serving (Display header results) last) DisplayDialogue (λ meant. serving_display known number now last header results meant) is (λ serves. serves) (display-on known number now last header results) (display-ends last header results) peer
+    standing-leaves (Aside before reported) is links peer = never-quiet peer
+
+    -- what a played terminal says isn't shown or printed
+    spoken-unshown : (asked : Command) (t : IsTalking setting placed number (Handle number apdu ∷ rest) old.talk asked) → IsAsked asked → IsShown (meaning_at old message) → ⊥
+    spoken-unshown asked t is is_shown =
+        let said = says asked t is in
+        elim said.follows [
+          | inl goes ↦ on-unshown (meaning_at old message) goes.on is_shown
+          | inr stops ↦ end-unshown (meaning_at old message) stops.ends.1 is_shown
+        ]
+
+    never-shown : (standing : Standing) → is_linked standing ≡ true → IsPeerIn setting old.pt.poi placed number (Handle number apdu ∷ rest) past.commands old.talk standing → IsShown (meaning_at old message) → ⊥
+    never-shown (Unlinked due) links peer = no-true (sym links)
+    never-shown Registering links (password, config, currency, t) = spoken-unshown (commands.Register password config currency) t tt
+    never-shown Enquiring links (password, t) = spoken-unshown (commands.Enquire password) t tt
+    never-shown (Ready last) links peer = never-quiet peer
+    never-shown (Serving (Transaction slot) last) links peer = spoken-unshown peer.command peer.talking (charge-asked peer.command peer.charging)
+    never-shown (Serving (EndOfDay header period) last) links peer = spoken-unshown peer.command peer.talking (kind-asked peer.command EndOfDayDialogue peer.kind_is)
+    never-shown (Serving (Display header results) last) links peer = spoken-unshown peer.command peer.talking (kind-asked peer.command DisplayDialogue peer.kind_is)
+    never-shown (Aside before reported) links peer = never-quiet peer
 
     -- what a message leaves
     message-leaves : Leaving (handle_message known number old message) (ends_by past message old)
-    message-leaves = standing-leaves old.standing refl linked (order.terminals number old here).records (peer-was number old here linked)
+    message-leaves =
+        subst (λ (row : Row). Leaving (owing_where (is_taken message) known row) (ends_by past message old))
+        (sym (taken-plain known number now (meaning_at old message) message (never-shown old.standing linked (peer-was number old here linked))))
+        (standing-leaves old.standing refl linked (peer-was number old here linked))
 
   -- ---- an APDU
 
@@ -667,8 +628,8 @@ module _ (laws : PeerLaws) (settings : List ℕ → Setting) (v : View) (past : 
       by-standing Enquiring (password, t) = never t.left t.is_left
       by-standing (Ready last) it = never [] it.none_left
       by-standing (Serving (Transaction slot) last) it = never it.talking.left it.talking.is_left
-      by-standing (Serving (EndOfDay header period) last) it = tt
-      by-standing (Serving (Display header outputs) last) it = tt
+      by-standing (Serving (EndOfDay header period) last) it = never it.talking.left it.talking.is_left
+      by-standing (Serving (Display header results) last) it = never it.talking.left it.talking.is_left
       by-standing (Aside before reported) it = never [] it.none_left
 
   -- what the item leaves

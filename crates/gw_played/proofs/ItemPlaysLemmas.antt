@@ -1,57 +1,36 @@
--- What an item leaves that handles nothing which a terminal has said, each but Handle: every terminal is as far as it was, or isn't linked any more, or is about to be asked.
-use Rattle.std.proofs.Common.{◌≡◌, ◌≢◌, ℕ, ◌+◌, Bool, true, false, List, [], ◌∷◌, ◌++◌, refl, sym, ◌∙◌, ap, subst, arith, inl, inr, eqb-true}
+-- What an item leaves that handles nothing which a terminal has said, each but Handle and Serve: every terminal is as far as it was, or isn't linked any more.
+use Rattle.std.proofs.Common.{◌≡◌, ℕ, ◌+◌, Bool, true, false, List, [], ◌∷◌, ◌++◌, refl, sym, ◌∙◌, ap, subst, arith, inl, inr, eqb-true}
 use Rattle.std.proofs.lemmas.Bool.{leb-true, or_parts}
-use Rattle.std.specs.Prelude.{◌⊎◌, ◌==◌, ◌&&◌, ◌||◌, pos, nat_le, is_some, slice_get, Option, Some, None, Result, Ok, Err}
+use Rattle.std.specs.Prelude.{◌⊎◌, ◌==◌, ◌&&◌, ◌||◌, nat_le, slice_get, Option, Some, None, Result, Ok, Err}
 use Rattle.std.specs.List.{list_any}
-use Rattle.gw_base.specs.Setup.{IsPt}
 use Rattle.gw_base.specs.declared.key.Key.{Key}
-use Rattle.gw_base.specs.declared.setup.Pt.{Pt}
 use Rattle.gw_base.specs.declared.setup.Setup.{Setup}
-use Rattle.gw_site.specs.Outside.{heard_on, is_connected}
+use Rattle.gw_site.specs.Outside.{is_connected}
 use Rattle.gw_site.specs.declared.turn.Turn.{Turn}
 use Rattle.sale_values.specs.declared.header.Header.{Header}
 use Rattle.sale_values.specs.declared.request.SaleRequest.{SaleRequest}
 use Rattle.zvt_apdu.specs.Grammar.{ApduValue}
-use Rattle.zvt_msg.specs.declared.command.Command.{Command}
-use Rattle.zvt_msg.specs.declared.command.Command.TheVariants as commands
 use Rattle.zvt_msg.specs.declared.fault.PtFault.{PtFault}
-use Rattle.zvt_msg.specs.CommandGrammar.{HasCommandSizes}
-use Rattle.zvt_talk.specs.declared.dialogue_kind.DialogueKind.TheVariants.{Payment, Reversal}
-use Rattle.zvt_talk.specs.Dialogue.{Dialogue, dialogue_kind_of}
-use Rattle.zvt_talk.specs.Talk.{TalkFacts, talk_after}
-use Rattle.zvt_talk.specs.TalkSteps.{talk_after_stop_wished}
 use Rattle.zvt_msg.specs.Message.{MessageValue, Ack, Nack, Intermediate, Line, Block, Status, Completion, Abort, Other}
 use Rattle.zvt_msg.specs.MessageDecode.{decode_pt_message}
-use Rattle.jrn_record.specs.declared.records.Deal.{Deal}
-use Rattle.jrn_record.specs.declared.records.Deal.TheVariants as deals
-use Rattle.jrn_record.specs.declared.records.Intent.{Intent as TheIntent}
-use Rattle.xlate.specs.Ask.{ask, ask_for}
-use Rattle.pt_core.specs.Exchange.{heard_on_link}
 use Rattle.pt_core.specs.History.{Setting}
-use Rattle.gw_ledger.specs.declared.entry.Entry.{Entry as TheEntry}
-use Rattle.gw_ledger.proofs.TieLemmas.{eqb_same}
-use Rattle.gw_owes.specs.declared.terminal.Service.TheVariants.{Transaction}
 use Rattle.gw_owes.specs.declared.terminal.Standing.{Standing}
 use Rattle.gw_owes.specs.declared.terminal.Standing.TheVariants.{Unlinked, Registering, Enquiring, Ready, Serving, Aside}
 use Rattle.gw_owes.specs.declared.terminal.Terminal.{Terminal}
-use Rattle.gw_owes.specs.Calls.{Sending, Ask, Acknowledge, Refuse, OwedCall, SendPt, LinkPt, CutTill, CutPt}
+use Rattle.gw_owes.specs.Calls.{Sending, Acknowledge, Refuse, OwedCall, SendPt, LinkPt, CutTill, CutPt}
 use Rattle.gw_owes.specs.Core.{Core}
 use Rattle.gw_owes.specs.Deadlines.{is_late, is_due, is_due_by}
 use Rattle.gw_owes.specs.Greeting.{greeting, sending_calls, greet_decoded}
 use Rattle.gw_owes.specs.Items.{RoundItem, Crowded, Message as MessageItem, Asked, Unframed, Gone, Greet, Handle, Serve, NextWaiting, Oversized, LinkLost, Late, Overdue, Due}
-use Rattle.gw_owes.specs.Links.{cutting, is_linked}
-use Rattle.gw_owes.specs.Payments.{Asking, asked_for, beginning_row}
+use Rattle.gw_owes.specs.Links.{cutting}
 use Rattle.gw_owes.specs.ReadAs.{ReadAs}
 use Rattle.gw_owes.specs.RecordLaws.{IsInOrder, IsReadItem}
 use Rattle.gw_owes.specs.Reply.{ReplyValue}
 use Rattle.gw_owes.specs.Requests.{reply_to, begun_by}
 use Rattle.gw_owes.specs.Row.{Known, Row, owing, owing_where, becoming}
 use Rattle.gw_owes.specs.Rows.{asked_row, row_of}
-use Rattle.gw_owes.specs.Stops.{wishing}
-use Rattle.gw_owes.specs.Terminals.{talk_of_command, terminal_at, terminal_becomes, with_terminal, reply_calls_to, reply_to_lost, unlinked_terminal, unlinks, forgets_till, core_without}
-use Rattle.gw_owes.proofs.BeginLemmas.{IsAskedAnew, begins-anew}
+use Rattle.gw_owes.specs.Terminals.{with_terminal, reply_calls_to, reply_to_lost, unlinked_terminal, unlinks, forgets_till, core_without}
 use Rattle.gw_owes.proofs.HandlingLemmas.{by-where, each-terminal, each-linked}
-use Rattle.gw_owes.proofs.PaymentLemmas.{StopsAt, each-served}
 use Rattle.gw_owes.proofs.SetLemmas.{same-some}
 use Rattle.gw_rules.specs.Lawful.{may_begin, Begins, IsRead}
 use Rattle.gw_rules.specs.Scene.{Scene, known_in, row_at}
@@ -67,13 +46,11 @@ use Rattle.gw_rules.proofs.StageLemmas.{no-true}
 use Rattle.gw_rules.proofs.TranscriptLogLemmas.{image-there, there-image}
 use Rattle.gw_books.specs.Past.{HeardEnd, Past, occasion_of, ends_of, past_after}
 use Rattle.gw_books.proofs.FrameRowLemmas.{each-in-place}
-use Rattle.gw_books.proofs.Holding.{charges, charge_owed, is_handle}
+use Rattle.gw_books.proofs.Holding.{charge_owed, is_handle}
 use Rattle.gw_books.proofs.QuietRowLemmas.{asked-ends-none}
-use Rattle.gw_played.specs.Played.{PlacedExchange, book_along, exchanges_in}
-use Rattle.gw_played.proofs.HandlePlaysLemmas.{pt-within}
+use Rattle.gw_played.specs.Played.{PlacedExchange, book_along}
 use Rattle.gw_played.proofs.PeerFrameLemmas.{TerminalPlays, RowPlays, PlaysBetween, WasSo, terminal-stays}
-use Rattle.gw_played.proofs.Playing.{pending, IsQuiet, IsPeerIn, IsToBeAsked, IsPeer, IsHonestFor, WasLinked, begins_dialogue, ask_owed, link_owed, brings_charge, Plays, PeerLaws, PlaysItem}
-use Rattle.gw_played.proofs.TakenMessageLemmas.{wished-transacting}
+use Rattle.gw_played.proofs.Playing.{pending, IsPeer, IsHonestFor, ask_owed, link_owed, brings_charge, Plays, PlaysItem}
 
 -- ---- an item that handles nothing said
 
@@ -154,7 +131,7 @@ LeavesPlaying item =
     (settings : List ℕ → Setting) (exchanges : List ℕ → List PlacedExchange) (scene : Scene) (setup : Setup) (past : Past) (rest : List RoundItem)
     → PlaysBetween settings exchanges scene past item rest → IsInOrder (known_in scene setup) → IsReadItem setup item → RowPlays settings exchanges scene.outside past rest (row_of scene.outside.tills (known_in scene setup) item)
 
-item-plays : (item : RoundItem) → is_handle item ≡ false → ((scene : Scene) (past : Past) → ends_of scene past (occasion_of item) ≡ []) → LeavesPlaying item → PlaysItem item
+pub item-plays : (item : RoundItem) → is_handle item ≡ false → ((scene : Scene) (past : Past) → ends_of scene past (occasion_of item) ≡ []) → LeavesPlaying item → PlaysItem item
 item-plays item none ends leaves settings log v past exchanges rest o next b e p =
     let k = round-setup v o.agrees.run b.idle.round in
     let between = plays-between settings v past exchanges item rest none b e p in
@@ -165,25 +142,25 @@ item-plays item none ends leaves settings log v past exchanges rest o next b e p
 -- ---- rows that leave each terminal as it was
 
 -- no such call asks a terminal for anything, or charges a card
-record IsPlain (calls : List OwedCall) : Type 0 where
-  asks_none : (number : ℕ) → ask_owed number calls ≡ false
-  charges_none : (number : ℕ) → charge_owed number calls ≡ false
+pub record IsPlain (calls : List OwedCall) : Type 0 where
+  pub asks_none : (number : ℕ) → ask_owed number calls ≡ false
+  pub charges_none : (number : ℕ) → charge_owed number calls ≡ false
 
-none-plain : IsPlain []
+pub none-plain : IsPlain []
 none-plain = record { asks_none = λ number. refl; charges_none = λ number. refl }
 
-replies-plain : (asker : Option ℕ) (reply : Option ReplyValue) → IsPlain (reply_calls_to asker reply)
+pub replies-plain : (asker : Option ℕ) (reply : Option ReplyValue) → IsPlain (reply_calls_to asker reply)
 replies-plain None reply = none-plain
 replies-plain (Some till) None = none-plain
 replies-plain (Some till) (Some reply) = record { asks_none = λ number. refl; charges_none = λ number. refl }
 
-replies-link-none : (asker : Option ℕ) (reply : Option ReplyValue) (number : ℕ) → link_owed number (reply_calls_to asker reply) ≡ false
+pub replies-link-none : (asker : Option ℕ) (reply : Option ReplyValue) (number : ℕ) → link_owed number (reply_calls_to asker reply) ≡ false
 replies-link-none None reply number = refl
 replies-link-none (Some till) None number = refl
 replies-link-none (Some till) (Some reply) number = refl
 
 -- each terminal is there as it was
-same-so : (core : Core) (number : ℕ) (terminal : Terminal) → slice_get core.terminals number ≡ Some terminal → WasSo core number terminal
+pub same-so : (core : Core) (number : ℕ) (terminal : Terminal) → slice_get core.terminals number ≡ Some terminal → WasSo core number terminal
 same-so core number terminal found = record { old = terminal; found = found; pt_is = refl; standing_is = refl; talk_is = refl }
 
 -- so is it where a till is forgotten
@@ -203,13 +180,13 @@ module _ (settings : List ℕ → Setting) (exchanges : List ℕ → List Placed
   later-served handles = (or_parts (brings_charge item) (list_any brings_charge rest) (between.served handles)).1
 
   -- a terminal that was there so
-  so-plays : (items : List RoundItem) (calls : List OwedCall) (number : ℕ) (terminal : Terminal) → WasSo scene.core number terminal → pending number rest ≡ pending number items → ask_owed number calls ≡ false
+  pub so-plays : (items : List RoundItem) (calls : List OwedCall) (number : ℕ) (terminal : Terminal) → WasSo scene.core number terminal → pending number rest ≡ pending number items → ask_owed number calls ≡ false
       → TerminalPlays settings exchanges scene.outside past items calls number terminal
   so-plays items calls number terminal was same none =
       terminal-stays settings exchanges scene.outside past rest items calls number was.old terminal was.pt_is was.standing_is was.talk_is same none (between.each number was.old was.found)
 
   -- a row that leaves each so, and brings no item
-  still-plays : (core : Core) (calls : List OwedCall) → ((number : ℕ) (terminal : Terminal) → slice_get core.terminals number ≡ Some terminal → WasSo scene.core number terminal) → IsPlain calls
+  pub still-plays : (core : Core) (calls : List OwedCall) → ((number : ℕ) (terminal : Terminal) → slice_get core.terminals number ≡ Some terminal → WasSo scene.core number terminal) → IsPlain calls
       → ((number : ℕ) → link_owed number calls ≡ true → pending number rest ≡ []) → Leaves (becoming core calls)
   still-plays core calls so plain linking = record {
     each = λ number terminal found. so-plays rest calls number terminal (so number terminal found) refl (plain.asks_none number);
@@ -220,10 +197,10 @@ module _ (settings : List ℕ → Setting) (exchanges : List ℕ → List Placed
   }
 
   -- one that changes nothing and links none
-  quiet-plays : (calls : List OwedCall) → IsPlain calls → ((number : ℕ) → link_owed number calls ≡ false) → Leaves (becoming scene.core calls)
+  pub quiet-plays : (calls : List OwedCall) → IsPlain calls → ((number : ℕ) → link_owed number calls ≡ false) → Leaves (becoming scene.core calls)
   quiet-plays calls plain none = still-plays scene.core calls (same-so scene.core) plain (λ number links. no-true (sym (none number) ∙ links))
 
-  nothing-plays : Leaves (becoming scene.core [])
+  pub nothing-plays : Leaves (becoming scene.core [])
   nothing-plays = quiet-plays [] none-plain (λ number. refl)
 
   cut-till-plays : (till : ℕ) → Leaves (becoming scene.core (CutTill till ∷ []))
@@ -406,174 +383,6 @@ due-plays pt = item-plays (Due pt) refl (λ scene past. refl) (λ settings excha
     by-where (λ (row : Row). RowPlays settings exchanges scene.outside past rest row) (known_in scene setup) (owing (known_in scene setup) (LinkPt pt ∷ [])) (is_due scene.outside.moment terminal.standing)
     (nothing-plays settings exchanges scene past (Due pt) rest between) (λ due. link-pt-plays settings exchanges scene past (Due pt) rest between pt terminal found due)))
 
--- ---- a payment or a reversal that begins
-
--- a command that may charge a card begins a dialogue, and can be written
-record CanBeAsked (pt : Pt) (asked : Command) (moment : ℕ) : Type 0 where
-  charging : charges asked ≡ true
-  sizes : HasCommandSizes asked
-  dialogue : Dialogue
-  begins : dialogue_kind_of asked ≡ Some dialogue.dialogue_kind
-  talk_is : talk_of_command pt asked moment ≡ Some (talk_after dialogue [])
-
--- so is what asks for an Intent
-can-be-asked : (what : Deal) (intent : TheIntent) (original : Option TheEntry) (pt : Pt) (moment : ℕ) → IsPt pt → CanBeAsked pt (ask_for what intent original pt.password) moment
-can-be-asked deals.Payment intent original pt moment within = record {
-  charging = refl;
-  sizes = tt;
-  dialogue = record { dialogue_kind = Payment; none = pt.none; acknowledge_time = pt.answer; command_time = pt.command; sent = pos moment };
-  begins = refl;
-  talk_is = refl;
-}
-can-be-asked deals.Reversal intent original pt moment within = record {
-  charging = refl;
-  sizes = within.password.0;
-  dialogue = record { dialogue_kind = Reversal; none = pt.none; acknowledge_time = pt.answer; command_time = pt.command; sent = pos moment };
-  begins = refl;
-  talk_is = refl;
-}
-
--- such a command alone asks the terminal of this number
-ask-alone : (begins test : Bool) → begins ≡ true → ((test && begins) || false) ≡ test
-ask-alone true true is = refl
-ask-alone true false is = refl
-ask-alone false test is = no-true is
-
-module _ (laws : PeerLaws) (settings : List ℕ → Setting) (exchanges : List ℕ → List PlacedExchange) (scene : Scene) (setup : Setup) (past : Past) (rest : List RoundItem) (pt till : ℕ) (header : Header) (request : SaleRequest)
-    (between : PlaysBetween settings exchanges scene past (Serve pt till header request) rest) (order : IsInOrder (known_in scene setup)) where
-  -- a command is about to be asked, so that no later item handles what a terminal has said
-  handles-none : {A : Type 0} → list_any is_handle rest ≡ true → A
-  handles-none handles = no-true (sym (between.served handles))
-
-  module _ (terminal : Terminal) (last : ℕ) (asking : Asking) (found : terminal_at (known_in scene setup) pt ≡ Some terminal) (standing_is : terminal.standing ≡ Ready last) (anew : IsAskedAnew (known_in scene setup) header terminal last asking) where
-    abbrev command : Command
-    command = ask asking.intent asking.original terminal.pt
-
-    abbrev new : Terminal
-    new = asked_for (known_in scene setup) till terminal last asking.intent asking.original
-
-    abbrev row : Row
-    row = beginning_row (known_in scene setup) pt till terminal last asking.intent asking.original
-
-    within : IsPt terminal.pt
-    within = pt-within (known_in scene setup) pt terminal order found
-
-    can : CanBeAsked terminal.pt command scene.outside.moment
-    can = can-be-asked asking.intent.what asking.intent asking.original terminal.pt scene.outside.moment within
-
-    -- its terminal was ready, and quiet
-    was-quiet : IsQuiet (settings terminal.pt.poi) (exchanges terminal.pt.poi) pt rest
-    was-quiet =
-        subst (IsPeerIn (settings terminal.pt.poi) terminal.pt.poi (exchanges terminal.pt.poi) pt rest past.commands terminal.talk) standing_is
-        ((between.each pt terminal found).peer (ap is_linked standing_is) refl)
-
-    to-be-asked : IsToBeAsked (settings terminal.pt.poi) (exchanges terminal.pt.poi) pt rest row.calls new
-    to-be-asked = record {
-      quiet = was-quiet;
-      command = command;
-      owed = inr (inr (inr (inr (inl refl))));
-      digits = laws.asked asking.intent asking.original terminal.pt anew.within anew.original_within within.password.1;
-      sizes = can.sizes;
-      of_standing = can.charging;
-      dialogue = can.dialogue;
-      begins = can.begins;
-      talk_is = can.talk_is;
-    }
-
-    -- its command is owed, and no other terminal's
-    asked-here : ask_owed pt row.calls ≡ true
-    asked-here = ask-alone (begins_dialogue command) (pt == pt) (ap is_some can.begins) ∙ eqb_same pt
-
-    asked-elsewhere : (number : ℕ) → number ≢ pt → ask_owed number row.calls ≡ false
-    asked-elsewhere number apart = ask-alone (begins_dialogue command) (pt == number) (ap is_some can.begins) ∙ by (pt == number) refl
-      where
-        by : (test : Bool) → (pt == number) ≡ test → test ≡ false
-        by true e = absurd (apart (sym (eqb-true pt number e)))
-        by false e = refl
-
-    links-none : (number : ℕ) → link_owed number row.calls ≡ false
-    links-none number = refl
-
-    begins-plays : RowPlays settings exchanges scene.outside past rest row
-    begins-plays = record {
-      each = each-in-place (λ number one. TerminalPlays settings exchanges scene.outside past rest row.calls number one) scene.core pt new
-          (λ number one apart there. so-plays settings exchanges scene past (Serve pt till header request) rest between rest row.calls number one (same-so scene.core number one there) refl (asked-elsewhere number apart))
-          (record {
-            peer = λ linked uncut. subst (λ (asked : Bool). IsPeer asked (settings terminal.pt.poi) (exchanges terminal.pt.poi) pt rest past.commands row.calls new) (sym asked-here) to-be-asked;
-            unlinked = λ due is. served due is;
-            heard = (between.each pt terminal found).heard;
-            made = λ linked. (between.each pt terminal found).made (ap is_linked standing_is);
-          });
-      linking = λ number links. no-true (sym (links-none number) ∙ links);
-      handles = λ handles. handles;
-      uncharged = λ handles. handles-none handles;
-      served = λ handles. handles-none handles;
-    }
-      where
-        served : (due : Option ℕ) → new.standing ≡ Unlinked due → (new.talk ≡ None) × ((pending pt rest ≡ []) ⊎ (is_due_by scene.outside.moment due ≡ false))
-        served due is = absurd cc
-
-  -- ---- a stop that is wished
-
-  -- the terminal that is to stop what it serves is as far as it was, once that is wished, whatever is awaited of it
-  module _ (terminal new : Terminal) (talk : TalkFacts) (at : StopsAt (known_in scene setup) pt header request terminal talk) (pt_is : terminal.pt ≡ new.pt) (standing_is : terminal.standing ≡ new.standing) (talk_is : Some (talk_after_stop_wished talk) ≡ new.talk)
-      (calls : List OwedCall) (plain : IsPlain calls) (none : (number : ℕ) → link_owed number calls ≡ false) where
-    abbrev Peer : Pt → Option TalkFacts → Standing → Type 0
-    Peer of runs standing = IsPeerIn (settings of.poi) of.poi (exchanges of.poi) pt rest past.commands runs standing
-
-    linked-is : is_linked terminal.standing ≡ true
-    linked-is = ap is_linked at.standing_is
-
-    wished : Peer terminal.pt (Some (talk_after_stop_wished talk)) terminal.standing
-    wished =
-        subst (Peer terminal.pt (Some (talk_after_stop_wished talk))) (sym at.standing_is)
-        (wished-transacting laws (settings terminal.pt.poi) (exchanges terminal.pt.poi) pt rest talk terminal.pt.poi past.commands
-        (subst (λ (runs : Option TalkFacts). Peer terminal.pt runs (Serving (Transaction at.slot) at.last)) at.talk_is
-        (subst (Peer terminal.pt terminal.talk) at.standing_is ((between.each pt terminal at.found).peer linked-is refl))))
-
-    peer-now : Peer new.pt new.talk new.standing
-    peer-now =
-        subst (λ (of : Pt). Peer of new.talk new.standing) pt_is
-        (subst (λ (runs : Option TalkFacts). Peer terminal.pt runs new.standing) talk_is (subst (Peer terminal.pt (Some (talk_after_stop_wished talk))) standing_is wished))
-
-    linked-now : is_linked new.standing ≡ true
-    linked-now = ap is_linked (sym standing_is) ∙ linked-is
-
-    wished-plays : RowPlays settings exchanges scene.outside past rest (terminal_becomes (known_in scene setup) pt new calls)
-    wished-plays = record {
-      each = each-in-place (λ number one. TerminalPlays settings exchanges scene.outside past rest calls number one) scene.core pt new
-          (λ number one apart there. so-plays settings exchanges scene past (Serve pt till header request) rest between rest calls number one (same-so scene.core number one there) refl (plain.asks_none number))
-          (record {
-            peer = λ linked uncut. subst (λ (asked : Bool). IsPeer asked (settings new.pt.poi) (exchanges new.pt.poi) pt rest past.commands calls new) (sym (plain.asks_none pt)) peer-now;
-            unlinked = λ due is. no-true (sym (ap is_linked is) ∙ linked-now);
-            heard = subst (λ (of : Pt). is_connected scene.outside.links pt ≡ true → heard_on_link (exchanges_in (exchanges of.poi)) ≡ heard_on scene.outside.links pt) pt_is (between.each pt terminal at.found).heard;
-            made = λ linked. subst (λ (of : Pt). WasLinked past.links of.poi) pt_is ((between.each pt terminal at.found).made linked-is);
-          });
-      linking = λ number links. no-true (sym (none number) ∙ links);
-      handles = λ handles. handles;
-      uncharged = λ handles number. plain.charges_none number;
-      served = λ handles. handles-none handles;
-    }
-
--- a stop asks nothing, and charges nothing
-stop-plain : (pt : ℕ) → IsPlain (SendPt pt (Ask commands.Stop) ∷ [])
-stop-plain pt = record { asks_none = λ number. neither (pt == number); charges_none = λ number. neither (pt == number) }
-  where
-    neither : (b : Bool) → ((b && false) || false) ≡ false
-    neither true = refl
-    neither false = refl
-
-pub serve-plays : (laws : PeerLaws) (pt till : ℕ) (header : Header) (request : SaleRequest) → PlaysItem (Serve pt till header request)
-serve-plays laws pt till header request = item-plays (Serve pt till header request) refl (λ scene past. refl) (λ settings exchanges scene setup past rest between order read.
-    each-served (λ (row : Row). RowPlays settings exchanges scene.outside past rest row) (known_in scene setup) pt till header request
-    (nothing-plays settings exchanges scene past (Serve pt till header request) rest between)
-    (λ terminal last asking at.
-    begins-plays laws settings exchanges scene setup past rest pt till header request between order terminal last asking at.found at.standing_is
-    (begins-anew laws.ledger (known_in scene setup) order pt till header request terminal last asking read at))
-    (λ terminal talk at may.
-    wished-plays laws settings exchanges scene setup past rest pt till header request between order terminal (record (wishing terminal talk) { awaited = terminal.awaited + 1 }) talk at refl refl refl (SendPt pt (Ask commands.Stop) ∷ []) (stop-plain pt) (λ number. refl))
-    (λ terminal talk at may. wished-plays laws settings exchanges scene setup past rest pt till header request between order terminal (wishing terminal talk) talk at refl refl refl [] none-plain (λ number. refl)))
-
 -- ---- the first item begins
 
 -- as the first item begins
@@ -590,22 +399,22 @@ begin-plays each settings log v past exchanges o next b p = by_items v.items ref
     by_items [] e = no-true (sym (ap (may_begin v.scene) e) ∙ b.first)
     by_items (item ∷ rest) e = each item settings log v past exchanges rest o next b e p
 
--- each item does, where Handle does
-pub each-item-plays : (laws : PeerLaws) → ((pt : ℕ) (apdu : ApduValue) → PlaysItem (Handle pt apdu)) → (item : RoundItem) → PlaysItem item
-each-item-plays laws handled (Crowded till) = crowded-plays till
-each-item-plays laws handled (MessageItem till bytes) = message-plays till bytes
-each-item-plays laws handled (Asked till as_read) = asked-plays till as_read
-each-item-plays laws handled (Unframed till) = unframed-plays till
-each-item-plays laws handled (Gone till) = gone-plays till
-each-item-plays laws handled (Greet pt apdu) = greet-plays pt apdu
-each-item-plays laws handled (Handle pt apdu) = handled pt apdu
-each-item-plays laws handled (Serve pt till header request) = serve-plays laws pt till header request
-each-item-plays laws handled (NextWaiting pt) = next-waiting-plays pt
-each-item-plays laws handled (Oversized pt) = oversized-plays pt
-each-item-plays laws handled (LinkLost pt) = link-lost-plays pt
-each-item-plays laws handled (Late pt) = late-plays pt
-each-item-plays laws handled (Overdue key) = overdue-plays key
-each-item-plays laws handled (Due pt) = due-plays pt
+-- each item does, where Handle and Serve do
+pub each-item-plays : ((pt : ℕ) (apdu : ApduValue) → PlaysItem (Handle pt apdu)) → ((pt till : ℕ) (header : Header) (request : SaleRequest) → PlaysItem (Serve pt till header request)) → (item : RoundItem) → PlaysItem item
+each-item-plays handled served (Crowded till) = crowded-plays till
+each-item-plays handled served (MessageItem till bytes) = message-plays till bytes
+each-item-plays handled served (Asked till as_read) = asked-plays till as_read
+each-item-plays handled served (Unframed till) = unframed-plays till
+each-item-plays handled served (Gone till) = gone-plays till
+each-item-plays handled served (Greet pt apdu) = greet-plays pt apdu
+each-item-plays handled served (Handle pt apdu) = handled pt apdu
+each-item-plays handled served (Serve pt till header request) = served pt till header request
+each-item-plays handled served (NextWaiting pt) = next-waiting-plays pt
+each-item-plays handled served (Oversized pt) = oversized-plays pt
+each-item-plays handled served (LinkLost pt) = link-lost-plays pt
+each-item-plays handled served (Late pt) = late-plays pt
+each-item-plays handled served (Overdue key) = overdue-plays key
+each-item-plays handled served (Due pt) = due-plays pt
 
 -- ---- a message is read
 

@@ -1,6 +1,9 @@
 -- The proof that the books of played terminals are honest.
 pub mod CarriedLemmas
+pub mod DayExampleLemmas
+pub mod DayExampleTextLemmas
 pub mod HandlePlaysLemmas
+pub mod HandleRowLemmas
 pub mod HonestGrowLemmas
 pub mod ItemPlaysLemmas
 pub mod LinkPlaysLemmas
@@ -13,6 +16,7 @@ pub mod PlayedLemmas
 pub mod Playing
 pub mod ReversalExampleLemmas
 pub mod SentPtPlaysLemmas
+pub mod ServePlaysLemmas
 pub mod TakenMessageLemmas
 pub mod TurnPlaysLemmas
 pub mod WholeBookLemmas

@@ -8,6 +8,8 @@ use Rattle.zvt_apdu.specs.DecodeStream.{decode_apdus}
 use Rattle.zvt_apdu.specs.Grammar.{ApduValue}
 use Rattle.zvt_msg.specs.declared.command.Command.{Command}
 use Rattle.zvt_msg.specs.Message.{MessageValue}
+use Rattle.zvt_talk.specs.declared.dialogue_kind.DialogueKind.{DialogueKind}
+use Rattle.zvt_talk.specs.declared.dialogue_kind.DialogueKind.TheVariants.{EndOfDay as EndOfDayDialogue, Display as DisplayDialogue}
 use Rattle.zvt_talk.specs.Talk.{TalkFacts}
 use Rattle.pt_core.specs.Exchange.{heard_on_link}
 use Rattle.pt_core.specs.History.{Setting}
@@ -26,7 +28,7 @@ use Rattle.gw_rules.specs.TranscriptLaws.{cut_owed}
 use Rattle.gw_books.specs.Past.{SentCommand, Past}
 use Rattle.gw_books.proofs.Holding.{charge_owed, is_handle}
 use Rattle.gw_played.specs.Played.{PlacedExchange, exchanges_in}
-use Rattle.gw_played.proofs.Playing.{pending, AreMessages, IsLeft, IsQuiet, IsTalking, IsTransacting, IsPeerIn, IsPeer, WasLinked, ask_owed, link_owed, brings_charge}
+use Rattle.gw_played.proofs.Playing.{pending, AreMessages, IsLeft, IsQuiet, IsTalking, IsTransacting, IsServing, IsPeerIn, IsPeer, WasLinked, ask_owed, link_owed, brings_charge}
 
 -- ---- items that handle the same of a terminal
 
@@ -63,6 +65,10 @@ module _ (setting : Setting) (exchanges : List PlacedExchange) (number : ℕ) (i
   unfolding talking-same
   transacting-same poi sent talk p = record { command = p.command; charging = p.charging; talking = talking-same talk p.command p.talking; last = p.last }
 
+  pub serving-same : (talk : Option TalkFacts) (dialogue_kind : DialogueKind) → IsServing setting exchanges number items talk dialogue_kind → IsServing setting exchanges number others talk dialogue_kind
+  unfolding talking-same
+  serving-same talk dialogue_kind s = record { command = s.command; kind_is = s.kind_is; talking = talking-same talk s.command s.talking }
+
   -- so a terminal's dialogue is as far
   pub peer-in-same : (poi : List ℕ) (sent : List SentCommand) (talk : Option TalkFacts) (standing : Standing) → IsPeerIn setting poi exchanges number items sent talk standing → IsPeerIn setting poi exchanges number others sent talk standing
   peer-in-same poi sent talk (Unlinked due) is = tt
@@ -70,8 +76,8 @@ module _ (setting : Setting) (exchanges : List PlacedExchange) (number : ℕ) (i
   peer-in-same poi sent talk Enquiring is = (is.0, talking-same talk _ is.1)
   peer-in-same poi sent talk (Ready last) is = quiet-same is
   peer-in-same poi sent talk (Serving (Transaction slot) last) is = transacting-same poi sent talk is
-  peer-in-same poi sent talk (Serving (EndOfDay header period) last) is = tt
-  peer-in-same poi sent talk (Serving (Display header outputs) last) is = tt
+  peer-in-same poi sent talk (Serving (EndOfDay header period) last) is = serving-same talk EndOfDayDialogue is
+  peer-in-same poi sent talk (Serving (Display header results) last) is = serving-same talk DisplayDialogue is
   peer-in-same poi sent talk (Aside before reported) is = quiet-same is
 
 -- ---- what a row leaves

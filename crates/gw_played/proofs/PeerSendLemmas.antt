@@ -31,6 +31,8 @@ use Rattle.pt_core.proofs.PrefixLemmas.{begins_at_prefix, prefix_bad, prefix_sta
 use Rattle.pt_core.proofs.ReactionLemmas.{ReadLaws, reaction_fits}
 use Rattle.pt_core.proofs.SplitLemmas.{Laws}
 use Rattle.pt_core.specs.Exchange.{Exchange, Links, Sends, heard_on_link, met_of}
+use Rattle.zvt_talk.specs.declared.dialogue_kind.DialogueKind.{DialogueKind}
+use Rattle.zvt_talk.specs.declared.dialogue_kind.DialogueKind.TheVariants.{EndOfDay as EndOfDayDialogue, Display as DisplayDialogue}
 use Rattle.zvt_talk.specs.Dialogue.{Dialogue, dialogue_kind_of}
 use Rattle.zvt_talk.specs.Talk.{TalkFacts, talk_after}
 use Rattle.gw_owes.specs.Items.{RoundItem}
@@ -41,10 +43,10 @@ use Rattle.gw_owes.specs.Links.{is_linked}
 use Rattle.gw_rules.proofs.StageLemmas.{no-true}
 use Rattle.gw_books.specs.Books.{BookedEntry}
 use Rattle.gw_books.specs.Past.{SentCommand}
-use Rattle.gw_books.proofs.Holding.{ServesTransaction, charges}
+use Rattle.gw_books.proofs.Holding.{charges}
 use Rattle.gw_books.proofs.ListLemmas.{In}
 use Rattle.gw_played.specs.Played.{PlacedExchange, exchanges_in, booked_by, placed_entry, book_along}
-use Rattle.gw_played.proofs.Playing.{met_in, pending, AreMessages, IsLeft, WaitsForNone, IsQuiet, IsTalking, IsLastServed, IsTransacting, IsPeerIn, PeerLaws}
+use Rattle.gw_played.proofs.Playing.{met_in, pending, AreMessages, IsLeft, WaitsForNone, IsQuiet, IsTalking, IsLastServed, IsTransacting, IsServing, IsPeerIn, PeerLaws}
 
 -- ---- bytes that come in two parts
 
@@ -574,6 +576,10 @@ module _ (setting : Setting) (poi : List ℕ) (exchanges : List PlacedExchange) 
     only = λ entry within cause. l.only entry (subst (λ (book : List BookedEntry). In entry book) book-still-along within) cause;
   }
 
+  serving-still : (talk : Option TalkFacts) (dialogue_kind : DialogueKind) → IsServing setting exchanges number items talk dialogue_kind → IsServing setting (sends place bytes exchanges) number items talk dialogue_kind
+  unfolding talking-still
+  serving-still talk dialogue_kind s = record { command = s.command; kind_is = s.kind_is; talking = talking-still talk s.command s.talking }
+
   -- so the terminal's dialogue is as far as it was
   pub peer-still : (sent : List SentCommand) (talk : Option TalkFacts) (standing : Standing) → IsPeerIn setting poi exchanges number items sent talk standing → IsPeerIn setting poi (sends place bytes exchanges) number items sent talk standing
   unfolding talking-still
@@ -587,21 +593,21 @@ module _ (setting : Setting) (poi : List ℕ) (exchanges : List PlacedExchange) 
     talking = talking-still talk peer.command peer.talking;
     last = last-still sent (entries_of (reaction_after setting peer.talking.before peer.talking.apdu)) peer.last;
   }
-  peer-still sent talk (Serving (EndOfDay header period) last) peer = tt
-  peer-still sent talk (Serving (Display header outputs) last) peer = tt
+  peer-still sent talk (Serving (EndOfDay header period) last) peer = serving-still talk EndOfDayDialogue peer
+  peer-still sent talk (Serving (Display header results) last) peer = serving-still talk DisplayDialogue peer
   peer-still sent talk (Aside before reported) peer = quiet-still peer
 
 -- a terminal that is linked, and not about to be asked, waits for no further bytes
 pub peer-waits : (setting : Setting) (poi : List ℕ) (exchanges : List PlacedExchange) (number : ℕ) (items : List RoundItem) (sent : List SentCommand) (talk : Option TalkFacts) (standing : Standing)
-    → is_linked standing ≡ true → ServesTransaction standing → IsPeerIn setting poi exchanges number items sent talk standing → WaitsForNone exchanges
-peer-waits setting poi exchanges number items sent talk (Unlinked due) linked serves peer = no-true linked
-peer-waits setting poi exchanges number items sent talk Registering linked serves peer = (peer.3).waits
-peer-waits setting poi exchanges number items sent talk Enquiring linked serves peer = (peer.1).waits
-peer-waits setting poi exchanges number items sent talk (Ready last) linked serves peer = peer.waits
-peer-waits setting poi exchanges number items sent talk (Serving (Transaction slot) last) linked serves peer = peer.talking.waits
-peer-waits setting poi exchanges number items sent talk (Serving (EndOfDay header period) last) linked serves peer = absurd serves
-peer-waits setting poi exchanges number items sent talk (Serving (Display header outputs) last) linked serves peer = absurd serves
-peer-waits setting poi exchanges number items sent talk (Aside before reported) linked serves peer = peer.waits
+    → is_linked standing ≡ true → IsPeerIn setting poi exchanges number items sent talk standing → WaitsForNone exchanges
+peer-waits setting poi exchanges number items sent talk (Unlinked due) linked peer = no-true linked
+peer-waits setting poi exchanges number items sent talk Registering linked peer = (peer.3).waits
+peer-waits setting poi exchanges number items sent talk Enquiring linked peer = (peer.1).waits
+peer-waits setting poi exchanges number items sent talk (Ready last) linked peer = peer.waits
+peer-waits setting poi exchanges number items sent talk (Serving (Transaction slot) last) linked peer = peer.talking.waits
+peer-waits setting poi exchanges number items sent talk (Serving (EndOfDay header period) last) linked peer = peer.talking.waits
+peer-waits setting poi exchanges number items sent talk (Serving (Display header results) last) linked peer = peer.talking.waits
+peer-waits setting poi exchanges number items sent talk (Aside before reported) linked peer = peer.waits
 
 -- ---- a new link
 

@@ -10,7 +10,7 @@ use Rattle.zvt_msg.specs.declared.command.Command.TheVariants as command
 use Rattle.zvt_msg.specs.CommandDecode.{decode_command}
 use Rattle.zvt_msg.specs.Message.{MessageValue, Ack, Status, Completion, Abort}
 use Rattle.zvt_talk.specs.declared.dialogue_kind.DialogueKind.{DialogueKind}
-use Rattle.zvt_talk.specs.declared.dialogue_kind.DialogueKind.TheVariants.{Registration, Enquiry, Payment, Reversal}
+use Rattle.zvt_talk.specs.declared.dialogue_kind.DialogueKind.TheVariants.{Registration, Enquiry, Payment, Reversal, EndOfDay, Display}
 use Rattle.zvt_talk.specs.declared.meaning.Heard.{Heard}
 use Rattle.zvt_talk.specs.declared.meaning.Heard.TheVariants as heard
 use Rattle.zvt_talk.specs.Dialogue.{Dialogue, dialogue_kind_of}
@@ -136,6 +136,16 @@ enquiry-figures : (full : Bool) (trace : ℕ) (figures : Figures) → MayEnd Enq
 enquiry-figures true trace figures = (tt, refl)
 enquiry-figures false trace figures = (tt, refl)
 
+-- an end of day
+day-says : (none : ℕ) → EachSays EndOfDay none false (Ack ∷ Completion ∷ [])
+day-says none = each-two EndOfDay none false Ack Completion
+    (record { taken_is = refl; same = λ awaited. refl; then = λ wished. inl tt })
+    (record { taken_is = refl; same = λ awaited. refl; then = λ wished. inr ((tt, refl), refl, refl) })
+
+-- a display, which is done with its acknowledgement
+display-says : (none : ℕ) → EachSays Display none false (Ack ∷ [])
+display-says none = each-one Display none false Ack (record { taken_is = refl; same = λ awaited. refl; then = λ wished. inr ((tt, refl), refl, refl) })
+
 -- a registration
 registers-says : (none : ℕ) → EachSays Registration none false (Ack ∷ Completion ∷ [])
 registers-says none = each-two Registration none false Ack Completion
@@ -187,15 +197,25 @@ enquiry-says (Some entry) none own = each-three Enquiry none false Ack (Status (
     (record { taken_is = refl; same = λ awaited. refl; then = λ wished. inl tt })
     (record { taken_is = refl; same = λ awaited. refl; then = λ wished. inr (enquiry-figures (leb 1 entry.number && leb 1 entry.amount) entry.number (entry_figures entry), refl, refl) })
 
--- the command is one with which a gateway begins a dialogue now: a registration, an authorisation, a reversal or an enquiry
+-- the command is one with which a dialogue begins: each but a stop
 abbrev pub IsAsked : Command → Type 0
 IsAsked (command.Register password config currency) = Unit {0}
 IsAsked (command.Authorise amount currency) = Unit {0}
 IsAsked (command.Enquire password) = Unit {0}
 IsAsked (command.Reverse password receipt) = Unit {0}
-IsAsked (command.EndOfDay password) = ⊥
+IsAsked (command.EndOfDay password) = Unit {0}
 IsAsked command.Stop = ⊥
-IsAsked (command.Show display_lines) = ⊥
+IsAsked (command.Show display_lines) = Unit {0}
+
+-- what begins a dialogue is such a command
+pub kind-asked : (asked : Command) (dialogue_kind : DialogueKind) → dialogue_kind_of asked ≡ Some dialogue_kind → IsAsked asked
+kind-asked (command.Register password config currency) dialogue_kind is = tt
+kind-asked (command.Authorise amount currency) dialogue_kind is = tt
+kind-asked (command.Enquire password) dialogue_kind is = tt
+kind-asked (command.Reverse password receipt) dialogue_kind is = tt
+kind-asked (command.EndOfDay password) dialogue_kind is = tt
+kind-asked command.Stop dialogue_kind is = absurd cc
+kind-asked (command.Show display_lines) dialogue_kind is = tt
 
 pub same-kind : (a b : DialogueKind) → (let o : Option DialogueKind = Some a in o) ≡ Some b → a ≡ b
 same-kind a b e = cc
@@ -217,9 +237,13 @@ command-says none own chosen book (command.Reverse password receipt) which is e 
     let done = at_command own chosen book (command.Reverse password receipt) in
     let P : DialogueKind → Type 0 = λ k. EachSays k none (cuts done) (read_messages 16 done) in
     subst P (same-kind Reversal which e) (reversal-says (is_full book) (last_payment receipt book) none book)
-command-says none own chosen book (command.EndOfDay password) which is e = absurd is
+command-says none own chosen book (command.EndOfDay password) which is e =
+    let P : DialogueKind → Type 0 = λ k. EachSays k none false (Ack ∷ Completion ∷ []) in
+    subst P (same-kind EndOfDay which e) (day-says none)
 command-says none own chosen book command.Stop which is e = absurd is
-command-says none own chosen book (command.Show display_lines) which is e = absurd is
+command-says none own chosen book (command.Show display_lines) which is e =
+    let P : DialogueKind → Type 0 = λ k. EachSays k none false (Ack ∷ []) in
+    subst P (same-kind Display which e) (display-says none)
 
 -- ---- more that came
 

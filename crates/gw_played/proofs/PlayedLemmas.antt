@@ -23,6 +23,7 @@ use Rattle.gw_played.proofs.ItemPlaysLemmas.{each-item-plays, begin-plays, read-
 use Rattle.gw_played.proofs.LinkPlaysLemmas.{cut-pt-plays, link-failed-plays, linked-plays}
 use Rattle.gw_played.proofs.Playing.{Plays, PeerLaws, PlaysTurn}
 use Rattle.gw_played.proofs.SentPtPlaysLemmas.{sent-pt-plays}
+use Rattle.gw_played.proofs.ServePlaysLemmas.{serve-plays}
 use Rattle.gw_played.proofs.TurnPlaysLemmas.{PollsClean, PlaysEvent, closed-plays, crash-plays, cut-till-plays, disk-failed-plays, heard-pt-plays, heard-till-plays, lost-plays, open-failed-plays, opened-plays, polled-plays, sent-till-plays, start-plays, stopped-plays, synced-plays, wrote-plays}
 use Rattle.gw_played.proofs.WholeBookLemmas.{hears-back, honest-whole}
 
@@ -130,7 +131,7 @@ module _ (orders : OrderLaws) (laws : PeerLaws) (settings : List ℕ → Setting
   course-plays log v past exchanges [] o clean c hears h = h
   course-plays log v past exchanges (Begin ∷ moves) o clean c hears h =
       let next : Ordered log (after v Begin) = begin-ordered orders log v o c.0 in
-      course-plays log (after v Begin) (past_after v past Begin) exchanges moves next (move-clean v Begin) c.1 hears (begin-plays (each-item-plays laws (handle-plays laws)) settings log v past exchanges o next c.0 h)
+      course-plays log (after v Begin) (past_after v past Begin) exchanges moves next (move-clean v Begin) c.1 hears (begin-plays (each-item-plays (handle-plays laws) (serve-plays laws)) settings log v past exchanges o next c.0 h)
   course-plays log v past exchanges (Read as_read ∷ moves) o clean c hears h =
       course-plays log (after v (Read as_read)) (past_after v past (Read as_read)) exchanges moves (read-ordered log v as_read o c.0) (move-clean v (Read as_read)) c.1 hears (read-plays settings log v past exchanges as_read o c.0 h)
   course-plays log v past exchanges (Make turn ∷ moves) o clean c hears h =

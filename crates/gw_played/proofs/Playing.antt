@@ -12,6 +12,8 @@ use Rattle.zvt_msg.specs.CommandDecode.{decode_command}
 use Rattle.zvt_msg.specs.CommandGrammar.{HasCommandDigits, HasCommandSizes, SpellsCommand}
 use Rattle.zvt_msg.specs.Message.{MessageValue}
 use Rattle.zvt_msg.specs.MessageDecode.{decode_pt_message}
+use Rattle.zvt_talk.specs.declared.dialogue_kind.DialogueKind.{DialogueKind}
+use Rattle.zvt_talk.specs.declared.dialogue_kind.DialogueKind.TheVariants.{EndOfDay as EndOfDayDialogue, Display as DisplayDialogue}
 use Rattle.zvt_talk.specs.Came.{Came, messages}
 use Rattle.zvt_talk.specs.Dialogue.{Dialogue, dialogue_kind_of}
 use Rattle.zvt_talk.specs.Laws.{MeansForTalkAsAfterAll, NextTalkIsAfterAll, StopWishedEndsNothing, TalkAfterStopWishedIsAfterAll}
@@ -122,6 +124,12 @@ pub record IsTransacting (setting : Setting) (poi : List ℕ) (exchanges : List 
   pub talking : IsTalking setting exchanges number items talk command
   pub last : IsLastServed setting poi exchanges sent (entries_of (reaction_after setting talking.before talking.apdu))
 
+-- the terminal has handled the command of the end of day or the display that it serves
+pub record IsServing (setting : Setting) (exchanges : List PlacedExchange) (number : ℕ) (items : List RoundItem) (talk : Option TalkFacts) (dialogue_kind : DialogueKind) : Type 0 where
+  pub command : Command
+  pub kind_is : dialogue_kind_of command ≡ Some dialogue_kind
+  pub talking : IsTalking setting exchanges number items talk command
+
 -- how far the dialogue of a linked terminal is, by its standing
 abbrev pub IsPeerIn : Setting → List ℕ → List PlacedExchange → ℕ → List RoundItem → List SentCommand → Option TalkFacts → Standing → Type 0
 IsPeerIn setting poi exchanges number items sent talk (Unlinked due) = Unit {0}
@@ -129,8 +137,8 @@ IsPeerIn setting poi exchanges number items sent talk Registering = (password : 
 IsPeerIn setting poi exchanges number items sent talk Enquiring = (password : List ℕ) × IsTalking setting exchanges number items talk (commands.Enquire password)
 IsPeerIn setting poi exchanges number items sent talk (Ready last) = IsQuiet setting exchanges number items
 IsPeerIn setting poi exchanges number items sent talk (Serving (Transaction slot) last) = IsTransacting setting poi exchanges number items sent talk
-IsPeerIn setting poi exchanges number items sent talk (Serving (EndOfDay header period) last) = Unit {0}
-IsPeerIn setting poi exchanges number items sent talk (Serving (Display header outputs) last) = Unit {0}
+IsPeerIn setting poi exchanges number items sent talk (Serving (EndOfDay header period) last) = IsServing setting exchanges number items talk EndOfDayDialogue
+IsPeerIn setting poi exchanges number items sent talk (Serving (Display header results) last) = IsServing setting exchanges number items talk DisplayDialogue
 IsPeerIn setting poi exchanges number items sent talk (Aside before reported) = IsQuiet setting exchanges number items
 
 -- ---- commands that are owed
@@ -142,8 +150,8 @@ BeginsStanding Registering command = (password : List ℕ) × (config : ℕ) × 
 BeginsStanding Enquiring command = (password : List ℕ) × (command ≡ commands.Enquire password)
 BeginsStanding (Ready last) command = ⊥
 BeginsStanding (Serving (Transaction slot) last) command = charges command ≡ true
-BeginsStanding (Serving (EndOfDay header period) last) command = ⊥
-BeginsStanding (Serving (Display header outputs) last) command = ⊥
+BeginsStanding (Serving (EndOfDay header period) last) command = dialogue_kind_of command ≡ Some EndOfDayDialogue
+BeginsStanding (Serving (Display header results) last) command = dialogue_kind_of command ≡ Some DisplayDialogue
 BeginsStanding (Aside before reported) command = ⊥
 
 -- the command begins a dialogue: each does but a stop

@@ -18,9 +18,9 @@ use Rattle.zvt_msg.specs.CommandDecode.{decode_command}
 use Rattle.zvt_msg.specs.CommandGrammar.{HasCommandDigits, HasCommandSizes}
 use Rattle.zvt_msg.specs.declared.command.Command.{Command}
 use Rattle.zvt_msg.specs.declared.command.Command.TheVariants as command
+use Rattle.zvt_talk.specs.declared.dialogue_kind.DialogueKind.TheVariants.{EndOfDay as EndOfDayDialogue, Display as DisplayDialogue}
 use Rattle.zvt_talk.specs.Dialogue.{Dialogue, dialogue_kind_of}
 use Rattle.zvt_talk.specs.Talk.{TalkFacts, talk_after}
-use Rattle.jrn_record.specs.declared.records.Record.{Record}
 use Rattle.pt_core.specs.declared.book.BookEntry.{BookEntry}
 use Rattle.pt_core.specs.Exchange.{Exchange, Sends, heard_on_link}
 use Rattle.pt_core.specs.History.{Setting, all_handled, book_of, play_left, reaction_after}
@@ -31,7 +31,6 @@ use Rattle.gw_owes.specs.Calls.{Sending, Ask, Acknowledge, Refuse, sending_bytes
 use Rattle.gw_owes.specs.Core.{Core}
 use Rattle.gw_owes.specs.Items.{RoundItem}
 use Rattle.gw_owes.specs.Links.{is_linked}
-use Rattle.gw_owes.specs.RecordLaws.{AreRecordsOf}
 use Rattle.gw_owes.specs.Reply.{ReplyValue}
 use Rattle.gw_owes.specs.TerminalLaws.{settings_of}
 use Rattle.gw_owes.specs.Terminals.{reply_calls_to}
@@ -41,7 +40,6 @@ use Rattle.gw_owes.specs.declared.terminal.Standing.TheVariants.{Unlinked, Regis
 use Rattle.gw_owes.specs.declared.terminal.Terminal.{Terminal}
 use Rattle.gw_owes.proofs.SetLemmas.{same-some}
 use Rattle.gw_rules.specs.Lawful.{first_call}
-use Rattle.gw_rules.specs.RecordOrder.{records_coming}
 use Rattle.gw_rules.specs.Scene.{Scene}
 use Rattle.gw_rules.specs.TranscriptLaws.{cut_owed}
 use Rattle.gw_rules.specs.View.{View, called, later}
@@ -53,7 +51,7 @@ use Rattle.gw_rules.proofs.StageLemmas.{no-true}
 use Rattle.gw_rules.proofs.TranscriptLogLemmas.{there-image, not-number}
 use Rattle.gw_books.specs.Books.{BookedEntry}
 use Rattle.gw_books.specs.Past.{Occasion, SentCommand, Ending, Approved, Declined, Reported, Past, poi_of_number, open_key, is_of_instruction, may_charge, with_sent_command}
-use Rattle.gw_books.proofs.Holding.{AreFalling, charges, sending_charges, charge_owed, ServesTransaction, is_handle}
+use Rattle.gw_books.proofs.Holding.{AreFalling, charges, sending_charges, charge_owed, is_handle}
 use Rattle.gw_books.proofs.KeyedLemmas.{sent-below}
 use Rattle.gw_books.proofs.LastCallLemmas.{IsLast, is-last, last-cuts, past_then}
 use Rattle.gw_books.proofs.ListLemmas.{In, bytes-are, bytes-itself, in-either, in-second}
@@ -164,8 +162,8 @@ peer-other setting poi exchanges number items new sent talk (Serving (Transactio
     only = peer.last.only;
   };
 }
-peer-other setting poi exchanges number items new sent talk (Serving (EndOfDay header period) last) apart peer = tt
-peer-other setting poi exchanges number items new sent talk (Serving (Display header outputs) last) apart peer = tt
+peer-other setting poi exchanges number items new sent talk (Serving (EndOfDay header period) last) apart peer = peer
+peer-other setting poi exchanges number items new sent talk (Serving (Display header results) last) apart peer = peer
 peer-other setting poi exchanges number items new sent talk (Aside before reported) apart peer = peer
 
 -- ---- what a command books
@@ -244,17 +242,6 @@ sent-there log v pt sending o calls = by_found (slice_get v.scene.core.terminals
     by_found None is = absurd (let n : Absent ≡ On = sym (ap state_of is) ∙ on in cc)
     by_found (Some terminal) is = record { terminal = terminal; found = is; linked = on-linked terminal.standing terminal.talk (sym (ap state_of is) ∙ on) }
 
--- what it serves is a transaction
-serves-transaction : (records : List Record) (poi : List ℕ) (standing : Standing) → AreRecordsOf records poi standing → ServesTransaction standing
-serves-transaction records poi (Unlinked due) are = tt
-serves-transaction records poi Registering are = tt
-serves-transaction records poi Enquiring are = tt
-serves-transaction records poi (Ready last) are = tt
-serves-transaction records poi (Serving (Transaction slot) last) are = tt
-serves-transaction records poi (Serving (EndOfDay header period) last) are = absurd are
-serves-transaction records poi (Serving (Display header outputs) last) are = absurd are
-serves-transaction records poi (Aside before reported) are = tt
-
 -- the terminal is about to be asked for this
 record IsAsk (setting : Setting) (exchanges : List PlacedExchange) (number : ℕ) (items : List RoundItem) (terminal : Terminal) (sending : Sending) (asked : Command) : Type 0 where
   quiet : IsQuiet setting exchanges number items
@@ -316,9 +303,29 @@ begun-plain setting poi exchanges number items sent talk asked Registering plain
 begun-plain setting poi exchanges number items sent talk asked Enquiring plain begins talking = (begins.0, subst (IsTalking setting exchanges number items talk) begins.1 talking)
 begun-plain setting poi exchanges number items sent talk asked (Ready last) plain begins talking = absurd begins
 begun-plain setting poi exchanges number items sent talk asked (Serving (Transaction slot) last) plain begins talking = no-true (sym plain ∙ begins)
-begun-plain setting poi exchanges number items sent talk asked (Serving (EndOfDay header period) last) plain begins talking = absurd begins
-begun-plain setting poi exchanges number items sent talk asked (Serving (Display header outputs) last) plain begins talking = absurd begins
+begun-plain setting poi exchanges number items sent talk asked (Serving (EndOfDay header period) last) plain begins talking = record { command = asked; kind_is = begins; talking = talking }
+begun-plain setting poi exchanges number items sent talk asked (Serving (Display header results) last) plain begins talking = record { command = asked; kind_is = begins; talking = talking }
 begun-plain setting poi exchanges number items sent talk asked (Aside before reported) plain begins talking = absurd begins
+
+-- the command of an end of day charges nothing
+day-charges-none : (asked : Command) → dialogue_kind_of asked ≡ Some EndOfDayDialogue → charges asked ≡ false
+day-charges-none (command.Register password config_byte currency) begins = refl
+day-charges-none (command.Authorise amount currency) begins = absurd cc
+day-charges-none (command.Reverse password receipt) begins = absurd cc
+day-charges-none (command.EndOfDay password) begins = refl
+day-charges-none (command.Enquire password) begins = refl
+day-charges-none command.Stop begins = refl
+day-charges-none (command.Show lines) begins = refl
+
+-- nor does that of a display
+display-charges-none : (asked : Command) → dialogue_kind_of asked ≡ Some DisplayDialogue → charges asked ≡ false
+display-charges-none (command.Register password config_byte currency) begins = refl
+display-charges-none (command.Authorise amount currency) begins = absurd cc
+display-charges-none (command.Reverse password receipt) begins = absurd cc
+display-charges-none (command.EndOfDay password) begins = refl
+display-charges-none (command.Enquire password) begins = refl
+display-charges-none command.Stop begins = refl
+display-charges-none (command.Show lines) begins = refl
 
 -- a command that charges is that of the payment or the reversal that is served
 record IsCharge (asked : Command) (standing : Standing) : Type 0 where
@@ -331,8 +338,8 @@ begun-charge asked Registering charge begins = no-true (sym (ap charges begins.3
 begun-charge asked Enquiring charge begins = no-true (sym (ap charges begins.1) ∙ charge)
 begun-charge asked (Ready last) charge begins = absurd begins
 begun-charge asked (Serving (Transaction slot) last) charge begins = record { serves = λ setting poi exchanges number items sent talk transacting. transacting }
-begun-charge asked (Serving (EndOfDay header period) last) charge begins = absurd begins
-begun-charge asked (Serving (Display header outputs) last) charge begins = absurd begins
+begun-charge asked (Serving (EndOfDay header period) last) charge begins = no-true (sym (day-charges-none asked begins) ∙ charge)
+begun-charge asked (Serving (Display header results) last) charge begins = no-true (sym (display-charges-none asked begins) ∙ charge)
 begun-charge asked (Aside before reported) charge begins = absurd begins
 
 module _ (laws : PeerLaws) (settings : List ℕ → Setting) (log : List Turn) (v : View) (past : Past) (exchanges : List ℕ → List PlacedExchange) (pt : ℕ) (sending : Sending) (bytes : List ℕ) (o : Ordered log v) (p : Plays settings v past exchanges)
@@ -391,9 +398,7 @@ module _ (laws : PeerLaws) (settings : List ℕ → Setting) (log : List Turn) (
   waits-for-none : IsOfKind → WaitsForNone (exchanges t.terminal.pt.poi)
   waits-for-none (inl asks) = (asks.1).quiet.waits
   waits-for-none (inr own) =
-      let records = (o.terminals last.clear pt t.terminal t.found (last-cuts v (SendPt pt sending) pt last refl)).records in
-      peer-waits (settings t.terminal.pt.poi) t.terminal.pt.poi (exchanges t.terminal.pt.poi) pt v.items past.commands t.terminal.talk t.terminal.standing t.linked
-      (serves-transaction (records_coming v) t.terminal.pt.poi t.terminal.standing records) own.1
+      peer-waits (settings t.terminal.pt.poi) t.terminal.pt.poi (exchanges t.terminal.pt.poi) pt v.items past.commands t.terminal.talk t.terminal.standing t.linked own.1
 
   -- where a first part alone was sent, it books nothing
   part-none : decode_apdus bytes ≡ record { apdus = []; rest = bytes } → booked_by (settings t.terminal.pt.poi) (exchanges_in (exchanges t.terminal.pt.poi)) (Sends bytes) ≡ []

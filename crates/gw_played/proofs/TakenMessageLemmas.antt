@@ -11,6 +11,8 @@ use Rattle.zvt_msg.specs.declared.fault.PtFault.{PtFault}
 use Rattle.zvt_msg.specs.Message.{MessageValue}
 use Rattle.zvt_msg.specs.MessageDecode.{decode_pt_message}
 use Rattle.zvt_talk.specs.Came.{Message, StopWished, is_taken, messages}
+use Rattle.zvt_talk.specs.declared.dialogue_kind.DialogueKind.{DialogueKind}
+use Rattle.zvt_talk.specs.declared.dialogue_kind.DialogueKind.TheVariants.{EndOfDay as EndOfDayDialogue, Display as DisplayDialogue}
 use Rattle.zvt_talk.specs.Talk.{TalkFacts, meaning, talk_after}
 use Rattle.zvt_talk.specs.TalkSteps.{next_talk, talk_after_stop_wished}
 use Rattle.pt_core.specs.Ends.{IsTrueEnd}
@@ -25,7 +27,7 @@ use Rattle.gw_owes.specs.Handling.{meaning_at, meaning_for, taken_as, taking}
 use Rattle.gw_owes.specs.Items.{RoundItem, Handle}
 use Rattle.gw_books.specs.Past.{SentCommand}
 use Rattle.gw_played.specs.Played.{PlacedExchange, exchanges_in}
-use Rattle.gw_played.proofs.Playing.{AreMessages, IsLeft, IsPeerIn, IsQuiet, IsTalking, IsTransacting, PeerLaws, pending}
+use Rattle.gw_played.proofs.Playing.{AreMessages, IsLeft, IsPeerIn, IsQuiet, IsTalking, IsTransacting, IsServing, PeerLaws, pending}
 use Rattle.gw_played.proofs.PeerTalkLemmas.{GoesOn, IsAsked, MayEnd, Spoken, StaysOpen, EndsHere, messages-wished, spoken}
 
 -- ---- numbers
@@ -82,6 +84,9 @@ module _ (setting : Setting) (placed : List PlacedExchange) (number : ℕ) (item
     waits = it.waits;
   }
 
+  serving-stays : (talk : Option TalkFacts) (dialogue_kind : DialogueKind) → IsServing setting placed number items talk dialogue_kind → IsServing setting placed number others talk dialogue_kind
+  serving-stays talk dialogue_kind it = record { command = it.command; kind_is = it.kind_is; talking = talking-stays talk it.command it.talking }
+
   pub peer-stays : (poi : List ℕ) (sent : List SentCommand) (talk : Option TalkFacts) (standing : Standing) → IsPeerIn setting poi placed number items sent talk standing → IsPeerIn setting poi placed number others sent talk standing
   peer-stays poi sent talk (Unlinked due) it = tt
   peer-stays poi sent talk Registering (password, config, currency, it) = (password, config, currency, talking-stays talk (commands.Register password config currency) it)
@@ -89,8 +94,8 @@ module _ (setting : Setting) (placed : List PlacedExchange) (number : ℕ) (item
   peer-stays poi sent talk (Ready last) it = quiet-stays it
   peer-stays poi sent talk (Serving (Transaction slot) last) it =
       record { command = it.command; charging = it.charging; talking = talking-stays talk it.command it.talking; last = it.last }
-  peer-stays poi sent talk (Serving (EndOfDay header period) last) it = tt
-  peer-stays poi sent talk (Serving (Display header outputs) last) it = tt
+  peer-stays poi sent talk (Serving (EndOfDay header period) last) it = serving-stays talk EndOfDayDialogue it
+  peer-stays poi sent talk (Serving (Display header results) last) it = serving-stays talk DisplayDialogue it
   peer-stays poi sent talk (Aside before reported) it = quiet-stays it
 
 -- ---- a stop that is wished
@@ -118,6 +123,10 @@ module _ (laws : PeerLaws) (setting : Setting) (placed : List PlacedExchange) (n
   -- so is that of the payment or the reversal that is served
   pub wished-transacting : (poi : List ℕ) (sent : List SentCommand) → IsTransacting setting poi placed number items sent (Some talk) → IsTransacting setting poi placed number items sent (Some (talk_after_stop_wished talk))
   wished-transacting poi sent it = record { command = it.command; charging = it.charging; talking = wished-talking it.command it.talking; last = it.last }
+
+  -- and that of the end of day
+  pub wished-serving : (dialogue_kind : DialogueKind) → IsServing setting placed number items (Some talk) dialogue_kind → IsServing setting placed number items (Some (talk_after_stop_wished talk)) dialogue_kind
+  wished-serving dialogue_kind it = record { command = it.command; kind_is = it.kind_is; talking = wished-talking it.command it.talking }
 
 -- ---- the first message that is left
 

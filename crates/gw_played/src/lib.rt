@@ -1,6 +1,7 @@
 //! Honest books there are: along each lawful log whose terminals are played ones, their book is honest.
 #![tactic(auto)]
 
+ghost use Rattle.gw_played.specs.DayExample.{PlayedDays};
 ghost use Rattle.gw_played.specs.Example.{PlayedExamples};
 ghost use Rattle.gw_played.specs.Played.{PlayedAgrees, PlayedIsHonest};
 ghost use Rattle.gw_played.specs.ReversalExample.{PlayedReversals};
@@ -13,11 +14,13 @@ ghost use Rattle.gw_played.specs.ReversalExample.{PlayedReversals};
 /// reports the entry, or that there is none, which ends the payment that is open; so it does where the power has failed before. It
 /// reverses a payment that it has booked, and books the reversal beside it; and of a payment whose stop it is sent it books what it
 /// approves all the same, and nothing where it aborts: a stop that was wished before the command was acknowledged is sent as it is.
+/// For an end of day it books nothing, also where it is sent a stop, nor for a display.
 pub fn law_played()
     ensures honest { PlayedIsHonest }
     ensures agrees { PlayedAgrees }
     ensures examples { PlayedExamples }
     ensures reversals { PlayedReversals }
+    ensures days { PlayedDays }
 {
     gw_books::law_headline();
     gw_owes::law_records();

@@ -1,8 +1,7 @@
--- An APDU outside the grammar, and bytes that begin one above the limit, change nothing but the link of their terminal.
-use Rattle.std.proofs.Common.{◌≡◌, ◌≢◌, ℕ, List, [], ◌∷◌, ◌++◌, refl, sym, ◌∙◌, ap, subst, true, false, inl, inr, append_assoc}
-use Rattle.std.specs.Prelude.{Bool, ℤ, ◌+◌, ◌⊎◌, nat_le, nat_lt, if◌then◌else◌, option_and_then, slice_get, Option, Some, None, Err}
+-- An APDU outside the grammar, and bytes that begin one above the limit, change nothing but the link of their terminal, and owe the till of what it has served its reply.
+use Rattle.std.proofs.Common.{◌≡◌, ◌≢◌, ℕ, List, [], ◌∷◌, ◌++◌, refl, sym, ◌∙◌, ap, subst, true, false, inl, inr, append_assoc, append-nil}
+use Rattle.std.specs.Prelude.{Bool, ℤ, ◌+◌, ◌⊎◌, if◌then◌else◌, slice_get, Option, Some, None, Err}
 use Rattle.std.specs.List.{flat_map}
-use Rattle.gw_base.specs.declared.setup.Pt.{Pt}
 use Rattle.gw_base.specs.declared.setup.Setup.{Setup}
 use Rattle.gw_bytes.specs.Bytes.{AreBytes}
 use Rattle.gw_site.specs.Outside.{Connection, is_connected, heard_on}
@@ -14,10 +13,6 @@ use Rattle.zvt_apdu.specs.Decode.{decode_apdu}
 use Rattle.zvt_apdu.specs.DecodeStream.{DecodedApdus, decode_apdus}
 use Rattle.zvt_msg.specs.MessageDecode.{decode_pt_message}
 use Rattle.zvt_msg.specs.declared.fault.PtFault.{PtFault}
-use Rattle.zvt_msg.specs.declared.command.Command.{Command}
-use Rattle.zvt_msg.specs.declared.command.Command.TheVariants as commands
-use Rattle.zvt_talk.specs.declared.meaning.Heard.{Heard}
-use Rattle.zvt_talk.specs.declared.meaning.Heard.TheVariants as heard
 use Rattle.zvt_talk.specs.Talk.{TalkFacts}
 use Rattle.gw_owes.specs.Calls.{OwedCall, CutPt as OwedCutPt}
 use Rattle.gw_owes.specs.Events.{is_oversized, apdu_items, decoded_apdu_items, pt_bytes_items, items_due}
@@ -25,29 +20,24 @@ use Rattle.gw_owes.specs.Greeting.{greet_decoded, outside_row}
 use Rattle.gw_owes.specs.Items.{RoundItem, Crowded, Message, Asked, Unframed, Gone, Greet, Handle, Serve, NextWaiting, Oversized, LinkLost, Late, Overdue, Due}
 use Rattle.gw_owes.specs.Links.{is_linked, cutting}
 use Rattle.gw_owes.specs.ReadAs.{ReadAs}
-use Rattle.gw_owes.specs.Reports.{standing_reported}
 use Rattle.gw_owes.specs.Row.{Known, owing_nothing, becoming}
 use Rattle.gw_owes.specs.Rows.{row_of}
 use Rattle.gw_owes.specs.TerminalLaws.{IsOwedNothing}
-use Rattle.gw_owes.specs.Terminals.{of_terminal, with_terminal, terminal_becomes, reply_calls_to, reply_to_unfinished, reply_to_lost, unlinked_terminal, unlinks, link_lost}
-use Rattle.gw_owes.specs.Transcript.{Carried, Commanded, Took, Wished, standing_enquired, standing_served, standing_of_service, standing_ended, standing_taken, ended_with, standing_asked, standing_commanded, standing_by, without_slot, as_carried, EachRowFollowsTranscript}
-use Rattle.gw_owes.specs.declared.terminal.Service.{Service}
-use Rattle.gw_owes.specs.declared.terminal.Service.TheVariants.{Transaction, EndOfDay, Display}
+use Rattle.gw_owes.specs.Terminals.{of_terminal, reply_to_lost, unlinked_terminal, unlinks, link_lost}
 use Rattle.gw_owes.specs.declared.terminal.Standing.{Standing}
 use Rattle.gw_owes.specs.declared.terminal.Standing.TheVariants.{Unlinked, Registering, Enquiring, Ready, Serving, Aside}
 use Rattle.gw_owes.specs.declared.terminal.Terminal.{Terminal}
 use Rattle.gw_owes.proofs.ApduLemmas.{pt-bytes-give}
 use Rattle.gw_owes.proofs.HandlingLemmas.{linked-row}
-use Rattle.gw_owes.proofs.SetLemmas.{new-is-there, same-some, alone-set}
+use Rattle.gw_owes.proofs.SetLemmas.{new-is-there, alone-set}
 use Rattle.gw_owes.proofs.TerminalLemmas.{unlinked-owes-nothing, absent-owes-nothing}
 use Rattle.gw_rules.specs.Lawful.{first_message, may_begin, Begins, AllowedTurn, IsCourse, turns_of, Stands}
 use Rattle.gw_rules.specs.LinkLaws.{HasSaid}
-use Rattle.gw_rules.specs.OutsideLaws.{IsOfBytes, AreOfBytes, idle_with, HasCourseTo, HasCourse, link_cut, CutsLink, ChangesNothing, IsAlone, after_greeting, OutsideIsAlone, TooLongIsAlone}
+use Rattle.gw_rules.specs.OutsideLaws.{IsOfBytes, AreOfBytes, idle_with, HasCourseTo, HasCourse, link_cut, calls_of_loss, CutsLink, ChangesNothing, IsAlone, after_greeting, OutsideIsAlone, TooLongIsAlone}
 use Rattle.gw_rules.specs.Scene.{Scene, known_in, row_in, row_at, link_lost_at}
-use Rattle.gw_rules.specs.Stage.{Stage, Handling, busy, is_round, is_looking, is_broken}
-use Rattle.gw_rules.specs.TranscriptLaws.{transcript_of}
+use Rattle.gw_rules.specs.Stage.{Stage, Handling, busy, is_round, is_looking}
 use Rattle.gw_rules.specs.View.{View, Move, Begin, Read, Make, begun, begin, by_row, called, read_first, after, after_turn, view_from, at_first}
-use Rattle.gw_rules.proofs.CourseLemmas.{begin-stage, stands-more}
+use Rattle.gw_rules.proofs.CourseLemmas.{begin-stage, course-append, stands-more, turns_of-append, view_from-append}
 use Rattle.gw_rules.proofs.CutLemmas.{is_dead, dead-round, dead-running, dead-turn, none-among}
 use Rattle.gw_rules.proofs.HeardLemmas.{heard-bytes, bytes-append, stands-bytes}
 use Rattle.gw_rules.proofs.KeptLemmas.{begins-first}
@@ -59,7 +49,7 @@ use Rattle.gw_rules.proofs.PrefixLemmas.{Along}
 use Rattle.gw_rules.proofs.SetupLemmas.{HasSetup}
 use Rattle.gw_rules.proofs.SplitLemmas.{SplitAt, split-log, split-agrees, split-outside, split-stands}
 use Rattle.gw_rules.proofs.StageLemmas.{no-true, no-call, handling-not-polled}
-use Rattle.gw_rules.proofs.TranscriptLogLemmas.{idle-follows}
+use Rattle.gw_rules.proofs.LossLemmas.{IsUnlinkedIn, owing_then, pays}
 use Rattle.gw_rules.proofs.UnlawfulLemmas.{take-owed, begin-next}
 
 -- ---- items of a terminal's bytes
@@ -281,144 +271,6 @@ reaches item items now rest no_message v (Make turn ∷ moves) (other ∷ inside
           onward = m.onward;
         }
 
--- ---- no reply is owed
-
--- the loss of its link owes a reply: it serves an end of day or a display, of which none is begun yet
-abbrev service_replies : Service → Bool
-service_replies (Transaction slot) = false
-service_replies (EndOfDay header period) = true
-service_replies (Display header outputs) = true
-
-abbrev replies : Standing → Bool
-replies (Unlinked due) = false
-replies Registering = false
-replies Enquiring = false
-replies (Ready last) = false
-replies (Serving service last) = service_replies service
-replies (Aside before reported) = false
-
-abbrev replies_any : Option Standing → Bool
-replies_any None = false
-replies_any (Some standing) = replies standing
-
-service-carried : (service : Service) → service_replies (without_slot service) ≡ service_replies service
-service-carried (Transaction slot) = refl
-service-carried (EndOfDay header period) = refl
-service-carried (Display header outputs) = refl
-
-replies-carried : (standing : Standing) → replies (as_carried standing) ≡ replies standing
-replies-carried (Unlinked due) = refl
-replies-carried Registering = refl
-replies-carried Enquiring = refl
-replies-carried (Ready last) = refl
-replies-carried (Serving service last) = service-carried service
-replies-carried (Aside before reported) = refl
-
-reported-replies : (least reported : ℕ) → replies (standing_reported least reported) ≡ false
-reported-replies least reported = by_test (nat_le least reported)
-  where
-    by_test : (test : Bool) → replies (if test then Ready reported else Aside least reported) ≡ false
-    by_test true = refl
-    by_test false = refl
-
-enquired-replies : (least : ℕ) (end : Heard) → replies_any (standing_enquired least end) ≡ false
-enquired-replies least (heard.Begun stop) = refl
-enquired-replies least (heard.Note intermediate_status) = refl
-enquired-replies least heard.Line = refl
-enquired-replies least heard.Block = refl
-enquired-replies least heard.Seen = refl
-enquired-replies least (heard.Approved figures) = refl
-enquired-replies least heard.Done = refl
-enquired-replies least (heard.Told reported approved result_code) = reported-replies least reported
-enquired-replies least (heard.Declined result_code reported) = refl
-enquired-replies least heard.Unclear = refl
-enquired-replies least heard.Stray = refl
-
-approved-replies : (last number : ℕ) → replies (if nat_lt last number then Ready number else Aside last number) ≡ false
-approved-replies last number = by_test (nat_lt last number)
-  where
-    by_test : (test : Bool) → replies (if test then Ready number else Aside last number) ≡ false
-    by_test true = refl
-    by_test false = refl
-
-served-replies : (end : Heard) (last : ℕ) → replies_any (standing_served end last) ≡ false
-served-replies (heard.Begun stop) last = refl
-served-replies (heard.Note intermediate_status) last = refl
-served-replies heard.Line last = refl
-served-replies heard.Block last = refl
-served-replies heard.Seen last = refl
-served-replies (heard.Approved figures) last = approved-replies last figures.number
-served-replies heard.Done last = refl
-served-replies (heard.Told reported approved result_code) last = refl
-served-replies (heard.Declined result_code reported) last = refl
-served-replies heard.Unclear last = refl
-served-replies heard.Stray last = refl
-
-service-replies : (end : Heard) (service : Service) (last : ℕ) → replies_any (standing_of_service end service last) ≡ false
-service-replies end (Transaction slot) last = served-replies end last
-service-replies end (EndOfDay header period) last = refl
-service-replies end (Display header outputs) last = refl
-
-ended-replies : (least : ℕ) (end : Heard) (standing : Standing) → replies_any (standing_ended least end standing) ≡ false
-ended-replies least end (Unlinked due) = refl
-ended-replies least end Registering = refl
-ended-replies least end Enquiring = enquired-replies least end
-ended-replies least end (Ready last) = refl
-ended-replies least end (Serving service last) = service-replies end service last
-ended-replies least end (Aside before reported) = refl
-
-taken-replies : (least : ℕ) (end : Option Heard) (standing : Option Standing) → replies_any standing ≡ false → replies_any (option_and_then (standing_taken least end) standing) ≡ false
-taken-replies least end None none = refl
-taken-replies least None (Some standing) none = none
-taken-replies least (Some end) (Some standing) none = ended-replies least end standing
-
-asked-replies : (standing : Option Standing) → replies_any (option_and_then standing_asked standing) ≡ false
-asked-replies None = refl
-asked-replies (Some (Unlinked due)) = refl
-asked-replies (Some Registering) = refl
-asked-replies (Some Enquiring) = refl
-asked-replies (Some (Ready last)) = refl
-asked-replies (Some (Serving service last)) = refl
-asked-replies (Some (Aside before reported)) = refl
-
-commanded-replies : (command : Command) (standing : Option Standing) → replies_any standing ≡ false → replies_any (standing_commanded command standing) ≡ false
-commanded-replies (commands.Register password config currency) standing none = refl
-commanded-replies (commands.Authorise amount currency) standing none = asked-replies standing
-commanded-replies (commands.Enquire password) standing none = refl
-commanded-replies (commands.Reverse password receipt) standing none = asked-replies standing
-commanded-replies (commands.EndOfDay password) standing none = refl
-commanded-replies commands.Stop standing none = none
-commanded-replies (commands.Show texts) standing none = refl
-
-transcript-replies : (pt : Pt) (transcript : List Carried) → replies_any (standing_by pt transcript) ≡ false
-transcript-replies pt [] = refl
-transcript-replies pt (Commanded command moment ∷ earlier) = commanded-replies command (standing_by pt earlier) (transcript-replies pt earlier)
-transcript-replies pt (Took message moment last ∷ earlier) = taken-replies last (ended_with pt message moment earlier) (standing_by pt earlier) (transcript-replies pt earlier)
-transcript-replies pt (Wished ∷ earlier) = transcript-replies pt earlier
-
--- by the transcript no terminal serves what owes one
-none-replied : EachRowFollowsTranscript → (log : List Turn) (v : View) (s : Stands log v) (pt : ℕ) (terminal : Terminal) → slice_get v.scene.core.terminals pt ≡ Some terminal → v.scene.stage ≡ Handling → v.calls ≡ [] → replies terminal.standing ≡ false
-none-replied rows log v s pt terminal found at calls =
-    let follows = idle-follows rows log v s pt terminal found (ap is_broken at) calls in
-    let same : follows.terminal ≡ terminal = same-some follows.terminal terminal (sym follows.found ∙ found) in
-    let transcript : List Carried = transcript_of pt s.course in
-    let none : replies follows.terminal.standing ≡ false = sym (replies-carried follows.terminal.standing) ∙ ap replies_any follows.standing_is ∙ transcript-replies follows.terminal.pt transcript in
-    ap (λ (t : Terminal). replies t.standing) (sym same) ∙ none
-
-unfinished-none : (till : ℕ) (service : Service) → service_replies service ≡ false → reply_calls_to (Some till) (reply_to_unfinished service) ≡ []
-unfinished-none till (Transaction slot) none = refl
-unfinished-none till (EndOfDay header period) none = no-true (sym none)
-unfinished-none till (Display header outputs) none = no-true (sym none)
-
-no-reply : (asker : Option ℕ) (standing : Standing) → replies standing ≡ false → reply_calls_to asker (reply_to_lost standing) ≡ []
-no-reply None standing none = refl
-no-reply (Some till) (Unlinked due) none = refl
-no-reply (Some till) Registering none = refl
-no-reply (Some till) Enquiring none = refl
-no-reply (Some till) (Ready last) none = refl
-no-reply (Some till) (Serving service last) none = unfinished-none till service none
-no-reply (Some till) (Aside before reported) none = refl
-
 -- ---- the cut
 
 -- an item that cuts its terminal
@@ -439,15 +291,14 @@ greet-outside pt apdu fault is = record {
 oversized-outside : (pt : ℕ) → IsOutsideItem pt (Oversized pt)
 oversized-outside pt = record { rows = λ tills known. refl; of_bytes = refl; no_message = λ items. refl; keeps_link = λ number e. cc }
 
--- with the cut its terminal is unlinked, and nothing more is owed
-cut-is-made : (scene : Scene) (setup : Setup) (pt : ℕ) (terminal : Terminal) (items : List RoundItem) → scene.setup ≡ Some setup → scene.stage ≡ Handling → slice_get scene.core.terminals pt ≡ Some terminal → replies terminal.standing ≡ false
-    → after_turn (record { scene = scene; calls = OwedCutPt pt ∷ []; items = items }) (CutPt pt) ≡ idle_with (link_cut scene pt terminal) items
-cut-is-made scene setup pt terminal items is at found none =
+-- with the cut its terminal is unlinked, and what its loss owes is owed
+cut-is-made : (scene : Scene) (setup : Setup) (pt : ℕ) (terminal : Terminal) (items : List RoundItem) → scene.setup ≡ Some setup → scene.stage ≡ Handling → slice_get scene.core.terminals pt ≡ Some terminal
+    → after_turn (record { scene = scene; calls = OwedCutPt pt ∷ []; items = items }) (CutPt pt) ≡ owing_then (link_cut scene pt terminal) (calls_of_loss terminal) items
+cut-is-made scene setup pt terminal items is at found =
     let known : Known = known_in scene setup in
-    let unlinked : Terminal = unlinked_terminal terminal scene.outside.moment in
-    let row_is : link_lost_at scene pt ≡ becoming (with_terminal scene.core pt unlinked) [] =
-    ap (row_in scene (λ known. link_lost known pt)) is ∙ ap (of_terminal known (unlinks known pt)) found ∙ ap (terminal_becomes known pt unlinked) (no-reply terminal.asker terminal.standing none) in
-    ap (λ row. by_row (record { scene = scene; calls = OwedCutPt pt ∷ []; items = items }) (called scene (CutPt pt)) row []) row_is ∙ ap (with_stage (link_cut scene pt terminal) [] items) (ap busy at ∙ sym at)
+    let row_is : link_lost_at scene pt ≡ unlinks known pt terminal = ap (row_in scene (λ known. link_lost known pt)) is ∙ ap (of_terminal known (unlinks known pt)) found in
+    ap (λ row. by_row (record { scene = scene; calls = OwedCutPt pt ∷ []; items = items }) (called scene (CutPt pt)) row []) row_is
+    ∙ ap (λ l. with_stage (link_cut scene pt terminal) l items (busy scene.stage)) (append-nil (calls_of_loss terminal)) ∙ ap (with_stage (link_cut scene pt terminal) (calls_of_loss terminal) items) (ap busy at ∙ sym at)
 
 round-rest : (first second : List Turn) → AreOfRound (first ++ second) → AreOfRound second
 round-rest [] second h = h
@@ -476,9 +327,9 @@ unlinked-off (Aside before reported) talk e = no-true (sym e)
 rest-is : (v : View) (items : List RoundItem) → v.calls ≡ [] → v.items ≡ items → v ≡ idle_with v.scene items
 rest-is v items calls e = ap (λ (c : List OwedCall). record v { calls = c }) calls ∙ ap (idle_with v.scene) e
 
-changes-alone : EachRowFollowsTranscript → (log second rest : List Turn) (pt : ℕ) (now : ℤ) (v : View) (item : RoundItem) (own due : List RoundItem) → Stands log v → Agrees v → Settled v → IsOutsideItem pt item → AreOfBytes pt own → Begins v → v.scene.stage ≡ Handling
+changes-alone : (second rest : List Turn) (pt : ℕ) (now : ℤ) (v : View) (item : RoundItem) (own due : List RoundItem) → Agrees v → Settled v → IsOutsideItem pt item → AreOfBytes pt own → Begins v → v.scene.stage ≡ Handling
     → v.items ≡ item ∷ (own ++ due) → Along (after v Begin) (second ++ Polled now ∷ rest) → AreOfRound second → CutsLink second (Polled now ∷ rest) pt v due ⊎ ChangesNothing second (Polled now ∷ rest) pt v due
-changes-alone rows log second rest pt now v item own due s a settled is own_are begins at items_are onward round = by_found (slice_get v.scene.core.terminals pt) refl
+changes-alone second rest pt now v item own due a settled is own_are begins at items_are onward round = by_found (slice_get v.scene.core.terminals pt) refl
   where
     has : HasSetup v.scene
     has = round-setup v a.run begins.idle.round
@@ -521,20 +372,43 @@ changes-alone rows log second rest pt now v item own due s a settled is own_are 
         scene : Scene
         scene = link_cut v.scene pt terminal
 
-        made : after_turn owing (CutPt pt) ≡ idle_with scene (own ++ due)
-        made = cut-is-made v.scene has.setup pt terminal (own ++ due) has.setup_is at found (none-replied rows log v s pt terminal found at begins.idle.calls)
+        lost : View
+        lost = owing_then scene (calls_of_loss terminal) (own ++ due)
 
-        unlinked : (apdu : ApduValue) → IsOwedNothing (known_in scene has.setup) pt apdu
-        unlinked apdu = unlinked-owes-nothing (known_in scene has.setup) pt (unlinked_terminal terminal v.scene.outside.moment) (Some (v.scene.outside.moment + 5)) apdu (new-is-there v.scene.core.terminals pt terminal (unlinked_terminal terminal v.scene.outside.moment) found) refl
+        made : after_turn owing (CutPt pt) ≡ lost
+        made = cut-is-made v.scene has.setup pt terminal (own ++ due) has.setup_is at found
 
-        leads : AllowedTurn owing (CutPt pt) → HasCourseTo v (CutPt pt ∷ []) (idle_with scene due)
-        leads ok =
-            let more = passes pt scene has.setup own due has.setup_is at unlinked own_are in
+        unlinked : IsUnlinkedIn scene pt
+        unlinked = (unlinked_terminal terminal v.scene.outside.moment, Some (v.scene.outside.moment + 5), new-is-there v.scene.core.terminals pt terminal (unlinked_terminal terminal v.scene.outside.moment) found, refl)
+
+        -- the cut is the next turn, and then its till gets the reply
+        replied : (later : List Turn) → AllowedTurn owing (CutPt pt) → AreOfRound later → Along lost (later ++ rest_turns) → CutsLink (CutPt pt ∷ later) rest_turns pt v due
+        replied later ok round onward =
+            let p = pays terminal.asker (reply_to_lost terminal.standing) scene (own ++ due) later now rest at round onward in
+            let there = p.stays pt unlinked in
+            let setup_is : p.last.setup ≡ Some has.setup = p.setup_is ∙ has.setup_is in
+            let none : (apdu : ApduValue) → IsOwedNothing (known_in p.last has.setup) pt apdu = λ apdu. unlinked-owes-nothing (known_in p.last has.setup) pt there.0 there.1 apdu there.2 there.3 in
+            let more = passes pt p.last has.setup own due setup_is p.stage_is none own_are in
+            let moves : List Move = p.moves ++ more.moves in
             record {
-              moves = Begin ∷ Make (CutPt pt) ∷ more.moves;
-              turns_are = ap (λ l. CutPt pt ∷ l) more.turns_are;
-              lawful = (begins, subst (λ w. IsCourse w (Make (CutPt pt) ∷ more.moves)) (sym owes) (ok, subst (λ w. IsCourse w more.moves) (sym made) more.lawful));
-              ends = ap (λ w. view_from w (Make (CutPt pt) ∷ more.moves)) owes ∙ ap (λ w. view_from w more.moves) made ∙ more.ends;
+              linked = on;
+              terminal = terminal;
+              found = found;
+              alone = alone-set pt v.scene.core terminal (unlinked_terminal terminal v.scene.outside.moment) found refl;
+              reply_turns = p.reply_turns;
+              later = p.later;
+              turns_are = ap (λ l. CutPt pt ∷ l) p.turns_are;
+              scene = p.last;
+              paid = p.paid;
+              leads = record {
+                moves = Begin ∷ Make (CutPt pt) ∷ moves;
+                turns_are = ap (λ l. CutPt pt ∷ l) (turns_of-append p.moves more.moves ∙ ap (λ l. l ++ turns_of more.moves) p.moves_are ∙ ap (λ l. p.reply_turns ++ l) more.turns_are ∙ append-nil p.reply_turns);
+                lawful =
+                    (begins, subst (λ w. IsCourse w (Make (CutPt pt) ∷ moves)) (sym owes) (ok, subst (λ w. IsCourse w moves) (sym made) (course-append lost p.moves more.moves p.lawful (subst (λ w. IsCourse w more.moves) (sym p.ends) more.lawful))));
+                ends =
+                    ap (λ w. view_from w (Make (CutPt pt) ∷ moves)) owes ∙ ap (λ w. view_from w moves) made ∙ view_from-append lost p.moves more.moves ∙ ap (λ w. view_from w more.moves) p.ends ∙ more.ends;
+              };
+              goes_on = passes-on pt p.last has.setup own due p.later now rest setup_is p.stage_is none own_are p.round p.onward;
             }
 
         by_second : (turns : List Turn) → Along (after v Begin) (turns ++ Polled now ∷ rest) → AreOfRound turns → CutsLink turns rest_turns pt v due
@@ -544,17 +418,8 @@ changes-alone rows log second rest pt now v item own due s a settled is own_are 
         by_second (turn ∷ later) along round =
             let next = take-owed owing (OwedCutPt pt) turn (later ++ Polled now ∷ rest) refl (subst (λ w. Along w (turn ∷ (later ++ Polled now ∷ rest))) owes along) in
             let same : turn ≡ CutPt pt = cut-is pt turn (cut-makes pt owing turn at refl next.0 round.0) in
-            let onward : Along (idle_with scene (own ++ due)) (later ++ rest_turns) = subst (λ w. Along w (later ++ rest_turns)) made (subst (λ t. Along (after_turn owing t) (later ++ rest_turns)) same next.1) in
-            record {
-              linked = on;
-              terminal = terminal;
-              found = found;
-              alone = alone-set pt v.scene.core terminal (unlinked_terminal terminal v.scene.outside.moment) found refl;
-              later = later;
-              turns_are = ap (λ t. t ∷ later) same;
-              leads = leads (subst (AllowedTurn owing) same next.0);
-              goes_on = passes-on pt scene has.setup own due later now rest has.setup_is at unlinked own_are round.1 onward;
-            }
+            let onward : Along lost (later ++ rest_turns) = subst (λ w. Along w (later ++ rest_turns)) made (subst (λ t. Along (after_turn owing t) (later ++ rest_turns)) same next.1) in
+            subst (λ t. CutsLink (t ∷ later) rest_turns pt v due) (sym same) (replied later (subst (AllowedTurn owing) same next.0) round.1 onward)
 
     by_standing : (terminal : Terminal) → slice_get v.scene.core.terminals pt ≡ Some terminal → (test : Bool) → is_linked terminal.standing ≡ test → CutsLink second rest_turns pt v due ⊎ ChangesNothing second rest_turns pt v due
     by_standing terminal found true linked = inl (cut terminal found linked)
@@ -569,9 +434,9 @@ changes-alone rows log second rest pt now v item own due s a settled is own_are 
 -- ---- the laws
 
 -- an item of the bytes that cuts its terminal
-item-is-alone : EachRowFollowsTranscript → (before inside rest : List Turn) (pt : ℕ) (chunk : List ℕ) (now : ℤ) (item : RoundItem) (earlier next last : List RoundItem) (x : SplitAt at_first before (HeardPt pt chunk) (inside ++ Polled now ∷ rest)) → IsOutsideItem pt item
+item-is-alone : (before inside rest : List Turn) (pt : ℕ) (chunk : List ℕ) (now : ℤ) (item : RoundItem) (earlier next last : List RoundItem) (x : SplitAt at_first before (HeardPt pt chunk) (inside ++ Polled now ∷ rest)) → IsOutsideItem pt item
     → pt_bytes_items pt (heard_on (view_from at_first x.first).scene.outside.links pt) chunk ≡ earlier ++ item ∷ (next ++ last) → AreOfRound inside → IsAlone (before ++ HeardPt pt chunk ∷ []) inside (Polled now ∷ rest) pt item next
-item-is-alone rows before inside rest pt chunk now item earlier next last x is e round = record {
+item-is-alone before inside rest pt chunk now item earlier next last x is e round = record {
   first = r.first;
   second = r.second;
   inside_is = r.inside_is;
@@ -582,7 +447,7 @@ item-is-alone rows before inside rest pt chunk now item earlier next last x is e
   last_are = of-rest pt next last own_are;
   core = v.scene.core;
   items_are = r.items_are;
-  changes = changes-alone rows (log ++ r.first) r.second rest pt now z item own due stands agrees (settled agrees.links) is own_are r.begins r.stage r.items_are r.onward (round-rest r.first r.second (subst AreOfRound r.inside_is round));
+  changes = changes-alone r.second rest pt now z item own due agrees (settled agrees.links) is own_are r.begins r.stage r.items_are r.onward (round-rest r.first r.second (subst AreOfRound r.inside_is round));
 }
   where
     v : View
@@ -640,8 +505,8 @@ bytes-split pt all new last earlier apdu later e same =
 rest-split : (pt : ℕ) (all : List RoundItem) (new : List ApduValue) (last : List RoundItem) → all ≡ flat_map (apdu_items pt) new ++ last → last ≡ Oversized pt ∷ [] → all ≡ flat_map (apdu_items pt) new ++ Oversized pt ∷ []
 rest-split pt all new last e is = e ∙ ap (λ l. flat_map (apdu_items pt) new ++ l) is
 
-pub outside-is-alone : EachRowFollowsTranscript → OutsideIsAlone
-outside-is-alone rows before inside rest pt chunk now earlier later apdu left fault lawful round said is =
+pub outside-is-alone : OutsideIsAlone
+outside-is-alone before inside rest pt chunk now earlier later apdu left fault lawful round said is =
     let x = split-log before (HeardPt pt chunk) (inside ++ Polled now ∷ rest) lawful in
     let v = view_from at_first x.first in
     let o = split-outside before (HeardPt pt chunk) (inside ++ Polled now ∷ rest) x in
@@ -652,10 +517,10 @@ outside-is-alone rows before inside rest pt chunk now earlier later apdu left fa
     let same : earlier ++ apdu ∷ later ≡ brings.new = same-rest here.before (earlier ++ apdu ∷ later) brings.new brings.completed in
     let next : List RoundItem = after_greeting pt apdu later in
     let items = bytes-split pt (pt_bytes_items pt heard chunk) brings.new brings.last earlier apdu later brings.items_are same in
-    item-is-alone rows before inside rest pt chunk now (Greet pt apdu) (flat_map (apdu_items pt) earlier) next brings.last x (greet-outside pt apdu fault is) items round
+    item-is-alone before inside rest pt chunk now (Greet pt apdu) (flat_map (apdu_items pt) earlier) next brings.last x (greet-outside pt apdu fault is) items round
 
-pub too-long-is-alone : EachRowFollowsTranscript → TooLongIsAlone
-too-long-is-alone rows before inside rest pt chunk now new left length lawful round said long =
+pub too-long-is-alone : TooLongIsAlone
+too-long-is-alone before inside rest pt chunk now new left length lawful round said long =
     let x = split-log before (HeardPt pt chunk) (inside ++ Polled now ∷ rest) lawful in
     let v = view_from at_first x.first in
     let o = split-outside before (HeardPt pt chunk) (inside ++ Polled now ∷ rest) x in
@@ -664,4 +529,4 @@ too-long-is-alone rows before inside rest pt chunk now new left length lawful ro
     let here = subst (λ o. HasSaid o pt chunk new left) (sym o) said in
     let brings = pt-bytes-give pt heard chunk here.before (here.before ++ new) here.rest left small here.spelled here.all in
     let items = rest-split pt (pt_bytes_items pt heard chunk) brings.new brings.last brings.items_are (brings.too_long length long) in
-    item-is-alone rows before inside rest pt chunk now (Oversized pt) (flat_map (apdu_items pt) brings.new) [] [] x (oversized-outside pt) items round
+    item-is-alone before inside rest pt chunk now (Oversized pt) (flat_map (apdu_items pt) brings.new) [] [] x (oversized-outside pt) items round

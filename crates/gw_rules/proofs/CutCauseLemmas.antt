@@ -1,18 +1,19 @@
 -- Why a terminal is cut in a lawful log.
 use Rattle.std.proofs.Common.{◌≡◌, ℕ, ◌+◌, List, [], ◌∷◌, ◌++◌, refl, sym, ◌∙◌, ap, subst, true, false, inl, inr, append_assoc, append-nil}
-use Rattle.std.proofs.lemmas.Bool.{and_parts}
 use Rattle.std.specs.Prelude.{Bool, ◌⊎◌, nat_lt, if◌then◌else◌, length, map, Option, Some, None, Result, Ok, Err}
 use Rattle.std.specs.List.{flat_map}
 use Rattle.gw_base.specs.declared.setup.Setup.{Setup}
 use Rattle.gw_bytes.specs.Bytes.{AreBytes}
 use Rattle.gw_bytes.proofs.ByteLemmas.{bytes_prefix}
-use Rattle.gw_site.specs.Outside.{Connection, Outside, is_connected, heard_on}
+use Rattle.gw_site.specs.Outside.{Connection, Outside, is_connected, heard_on, outside_of}
 use Rattle.gw_site.specs.Sorts.{AreOfRound, is_sort_of_round, sort_of, is_between}
 use Rattle.gw_site.specs.declared.turn.Turn.{Turn}
 use Rattle.gw_site.specs.declared.turn.Turn.TheVariants.{Start, OpenFailed, Polled, Opened, HeardTill, Closed, HeardPt, Lost, Stopped, Linked, LinkFailed, SentTill, SentPt, CutTill, CutPt, Wrote, Synced, DiskFailed, Crash}
 use Rattle.sale_values.specs.declared.header.Header.{Header}
 use Rattle.sale_values.specs.declared.request.SaleRequest.{SaleRequest}
 use Rattle.sale_frame.specs.Decode.{DecodedFrames, decode_after, decode_frames}
+use Rattle.sale_frame.specs.Grammar.{Frames}
+use Rattle.sale_frame.proofs.DecodeLemmas.{chunks_add, reads_all}
 use Rattle.zvt_apdu.specs.DecodeStream.{decode_apdus}
 use Rattle.zvt_apdu.specs.Grammar.{ApduValue}
 use Rattle.zvt_apdu.specs.Stream.{SpellsApdus, IsEndOfApdus}
@@ -20,6 +21,7 @@ use Rattle.zvt_apdu.proofs.DecodeStreamLemmas.{split_is}
 use Rattle.zvt_msg.specs.Message.{MessageValue}
 use Rattle.zvt_msg.specs.MessageDecode.{decode_pt_message}
 use Rattle.zvt_msg.specs.declared.fault.PtFault.{PtFault}
+use Rattle.jrn_record.specs.declared.records.How.TheVariants as hows
 use Rattle.gw_owes.specs.Calls.{Sending, OwedCall, SendTill, SendPt, LinkPt, WriteBody, WriteGate, WriteFirstGate, Sync, write_turn, CutTill as OwedCutTill, CutPt as OwedCutPt}
 use Rattle.gw_owes.specs.Core.{Core, Wait}
 use Rattle.gw_owes.specs.Deadlines.{is_late, is_due, late_row, due_row}
@@ -30,9 +32,10 @@ use Rattle.gw_owes.specs.Items.{RoundItem, Crowded, Message, Asked, Unframed, Go
 use Rattle.gw_owes.specs.Laws.{BringsApdus}
 use Rattle.gw_owes.specs.Links.{LinkIsMade, LinkIsLost, cutting}
 use Rattle.gw_owes.specs.Payments.{serve_row}
-use Rattle.gw_owes.specs.ReadAs.{ReadAs}
+use Rattle.gw_owes.specs.ReadAs.{ReadAs, Request, IsReadAs}
+use Rattle.gw_owes.specs.Reconciliations.{reply_to_settled, settled_of}
 use Rattle.gw_owes.specs.Reply.{ReplyValue}
-use Rattle.gw_owes.specs.Requests.{reply_to}
+use Rattle.gw_owes.specs.Requests.{begun_by, reply_to}
 use Rattle.gw_owes.specs.Row.{Known, Row, owing, owing_where}
 use Rattle.gw_owes.specs.Rows.{asked_row, row_of}
 use Rattle.gw_owes.specs.Serving.{reply_to_outcome}
@@ -45,21 +48,22 @@ use Rattle.gw_owes.proofs.HandlingLemmas.{by-where, each-terminal, each-linked}
 use Rattle.gw_owes.proofs.PaymentLemmas.{each-served}
 use Rattle.gw_owes.proofs.TerminalLemmas.{cuts-have-cause, no-link-event-cuts}
 use Rattle.gw_rules.specs.CutCauses.{HasSaidInRound, HasSaidApdu, HasBegunTooLong, BeginsCut, CutCause, SendFailed, SaidOutside, BegunTooLong, BrokeDialogue, DeadlineCame, EachPtCutHasCause, FailedSendCuts}
-use Rattle.gw_rules.specs.Lawful.{first_call, Begins, AllowedTurn, IsCourse, turns_of, Stands}
+use Rattle.gw_rules.specs.Lawful.{first_call, first_message, Begins, AllowedTurn, IsCourse, turns_of, Stands}
 use Rattle.gw_rules.specs.LinkLaws.{HasSaid}
 use Rattle.gw_rules.specs.Scene.{Scene, records_of, known_in, row_in, link_made_at, link_lost_at}
 use Rattle.gw_rules.specs.Stage.{AtPoll, is_looking}
+use Rattle.gw_rules.specs.TillRounds.{HasSaidMessage, HasAsked}
 use Rattle.gw_rules.specs.View.{View, Move, Begin, Read, Make, later, read_first, after, after_turn, view_from, at_first}
 use Rattle.gw_rules.proofs.CourseLemmas.{stands-more, stands-outside}
 use Rattle.gw_rules.proofs.HeardLemmas.{heard-bytes, bytes-append, stands-bytes}
-use Rattle.gw_rules.proofs.KeptLemmas.{BeginsFirst, begins-first}
+use Rattle.gw_rules.proofs.KeptLemmas.{BeginsFirst, begins-first, left-alone}
 use Rattle.gw_rules.proofs.LinkLawLemmas.{busy-not-poll, same-call}
-use Rattle.gw_rules.proofs.LinkStateLemmas.{is_serve, each-serve, all_serve}
+use Rattle.gw_rules.proofs.LinkStateLemmas.{is_asked}
 use Rattle.gw_rules.proofs.LinkedLemmas.{Agrees, call-setup, made-at-turns, lost-at-turns, first-agrees, course-agrees, round-setup}
 use Rattle.gw_rules.proofs.OpeningLemmas.{other-not-looking, course-disk, first-owes-disk}
 use Rattle.gw_rules.proofs.OpensLemmas.{opens-cut-none}
 use Rattle.gw_rules.proofs.OutsideCutLemmas.{in-owes}
-use Rattle.gw_rules.proofs.RowFormLemmas.{EachForm, form-handled}
+use Rattle.gw_rules.proofs.RowFormLemmas.{EachForm, form-handled, form-begun}
 use Rattle.gw_rules.proofs.SetupLemmas.{HasSetup}
 use Rattle.gw_rules.proofs.SplitLemmas.{SplitAt, split-log}
 use Rattle.gw_rules.proofs.StageLemmas.{no-true, no-call}
@@ -86,6 +90,9 @@ forms-alone known number terminal = record {
   enquires = λ cuts. no-true cuts;
   rests = λ standing linked cuts. no-true cuts;
   resolves = λ standing outcome linked cuts. no-true (sym (reply-cuts-none terminal.asker (reply_to_outcome known.kept outcome.slot outcome)) ∙ cuts);
+  settles = λ last settled cuts. no-true (sym (reply-cuts-none terminal.asker (reply_to_settled known.kept settled)) ∙ cuts);
+  replies = λ last reply cuts. no-true (sym (reply-cuts-none terminal.asker reply) ∙ cuts);
+  requests = λ till request asks cuts. no-true cuts;
 }
 
 handle-alone : (known : Known) (number : ℕ) (apdu : ApduValue) → CutsAlone number (handle_row known number apdu)
@@ -125,7 +132,16 @@ unframed-none : (tills : List Connection) (known : Known) (till : ℕ) → CutsN
 unframed-none tills known till = by-where CutsNone known (owing known (OwedCutTill till ∷ [])) (is_connected tills till) refl (λ there. refl)
 
 serve-none : (known : Known) (number till : ℕ) (header : Header) (request : SaleRequest) → CutsNone (serve_row known number till header request)
-serve-none known number till header request = each-served CutsNone known number till header request refl (λ terminal last asking at. refl) (λ terminal talk at now. refl) (λ terminal talk at later. refl)
+serve-none known number till header request = each-served CutsNone known number till header request (record {
+  none = refl;
+  begins = λ terminal last asking at. refl;
+  sent = λ terminal talk at now. refl;
+  wished = λ terminal talk at later. refl;
+  session = λ success. refl;
+  settles = λ terminal at. reply-cuts-none (Some till) (reply_to_settled known.kept (settled_of hows.Sale header terminal.pt.currency known.moment));
+  day = λ terminal last at. refl;
+  displays = λ terminal last outputs command at. refl;
+})
 
 -- an item that cuts is of the terminal that it cuts, owes nothing else, and has a cause
 record OwesCut (tills : List Connection) (known : Known) (item : RoundItem) : Type 0 where
@@ -152,16 +168,16 @@ row-cuts tills known (Due number) cuts = no-true (sym (due-none known number) �
 
 -- ---- items that the bytes of the round bring
 
--- what the terminal has said, where the item is of that
+-- what the terminal or the till has said, where the item is of that
 abbrev pub IsBrought : List Turn → RoundItem → Type 0
 IsBrought log (Crowded till) = Unit {0}
-IsBrought log (Message till bytes) = Unit {0}
-IsBrought log (Asked till as_read) = Unit {0}
+IsBrought log (Message till bytes) = HasSaidMessage log till bytes
+IsBrought log (Asked till as_read) = HasAsked log till as_read
 IsBrought log (Unframed till) = Unit {0}
 IsBrought log (Gone till) = Unit {0}
 IsBrought log (Greet pt apdu) = HasSaidApdu log pt apdu
 IsBrought log (Handle pt apdu) = HasSaidApdu log pt apdu
-IsBrought log (Serve pt till header request) = Unit {0}
+IsBrought log (Serve pt till header request) = HasAsked log till (Request header request)
 IsBrought log (NextWaiting pt) = Unit {0}
 IsBrought log (Oversized pt) = HasBegunTooLong log pt
 IsBrought log (LinkLost pt) = Unit {0}
@@ -173,13 +189,9 @@ abbrev pub AreBrought : List Turn → List RoundItem → Type 0
 AreBrought log [] = Unit {0}
 AreBrought log (item ∷ items) = IsBrought log item × AreBrought log items
 
--- an item that begins to serve is of no APDU
-serve-brought : (log : List Turn) (item : RoundItem) → is_serve item ≡ true → IsBrought log item
-serve-brought log item e = each-serve (IsBrought log) item e (λ pt till header request. tt)
-
-serves-brought : (log : List Turn) (items : List RoundItem) → all_serve items ≡ true → AreBrought log items
-serves-brought log [] e = tt
-serves-brought log (item ∷ items) e = let p = and_parts (is_serve item) (all_serve items) e in (serve-brought log item p.0, serves-brought log items p.1)
+-- what a message begins is of what was asked
+begun-brought : (log : List Turn) (known : Known) (till : ℕ) (as_read : ReadAs) → HasAsked log till as_read → AreBrought log (begun_by known till as_read)
+begun-brought log known till as_read asked = form-begun (AreBrought log) known till tt as_read (λ number header request is. (subst (HasAsked log till) is asked, tt))
 
 brought-append : (log : List Turn) (items more : List RoundItem) → AreBrought log items → AreBrought log more → AreBrought log (items ++ more)
 brought-append log [] more h k = k
@@ -202,15 +214,34 @@ said-later log pt new left turn e s = record {
 apdu-later : (log : List Turn) (pt : ℕ) (apdu : ApduValue) (turn : Turn) → is_sort_of_round (sort_of turn) ≡ true → HasSaidApdu log pt apdu → HasSaidApdu (log ++ turn ∷ []) pt apdu
 apdu-later log pt apdu turn e s = record { earlier = s.earlier; later = s.later; left = s.left; said = said-later log pt (s.earlier ++ apdu ∷ s.later) s.left turn e s.said }
 
+message-later : (log : List Turn) (till : ℕ) (payload : List ℕ) (turn : Turn) → is_sort_of_round (sort_of turn) ≡ true → HasSaidMessage log till payload → HasSaidMessage (log ++ turn ∷ []) till payload
+message-later log till payload turn e s = record {
+  before = s.before;
+  chunk = s.chunk;
+  inside = s.inside ++ turn ∷ [];
+  log_is = ap (λ l. l ++ turn ∷ []) s.log_is ∙ append_assoc s.before (HeardTill till s.chunk ∷ s.inside) (turn ∷ []);
+  round = round-append s.inside turn s.round e;
+  said = s.said;
+  rest = s.rest;
+  spelled = s.spelled;
+  earlier = s.earlier;
+  later = s.later;
+  left = s.left;
+  all = s.all;
+}
+
+asked-later : (log : List Turn) (till : ℕ) (as_read : ReadAs) (turn : Turn) → is_sort_of_round (sort_of turn) ≡ true → HasAsked log till as_read → HasAsked (log ++ turn ∷ []) till as_read
+asked-later log till as_read turn e a = record { payload = a.payload; said = message-later log till a.payload turn e a.said; reads = a.reads }
+
 item-later : (log : List Turn) (item : RoundItem) (turn : Turn) → is_sort_of_round (sort_of turn) ≡ true → IsBrought log item → IsBrought (log ++ turn ∷ []) item
 item-later log (Crowded till) turn e h = tt
-item-later log (Message till bytes) turn e h = tt
-item-later log (Asked till as_read) turn e h = tt
+item-later log (Message till bytes) turn e h = message-later log till bytes turn e h
+item-later log (Asked till as_read) turn e h = asked-later log till as_read turn e h
 item-later log (Unframed till) turn e h = tt
 item-later log (Gone till) turn e h = tt
 item-later log (Greet pt apdu) turn e h = apdu-later log pt apdu turn e h
 item-later log (Handle pt apdu) turn e h = apdu-later log pt apdu turn e h
-item-later log (Serve pt till header request) turn e h = tt
+item-later log (Serve pt till header request) turn e h = asked-later log till (Request header request) turn e h
 item-later log (NextWaiting pt) turn e h = tt
 item-later log (Oversized pt) turn e h = record { new = h.new; left = h.left; length = h.length; said = said-later log pt h.new h.left turn e h.said; too_long = h.too_long }
 item-later log (LinkLost pt) turn e h = tt
@@ -224,22 +255,24 @@ items-later log [] turn e h = tt
 items-later log (item ∷ items) turn e h = (item-later log item turn e h.0, items-later log items turn e h.1)
 
 -- the first was read
-read-brought : (log : List Turn) (as_read : ReadAs) (items : List RoundItem) → AreBrought log items → AreBrought log (read_first as_read items)
-read-brought log as_read [] h = tt
-read-brought log as_read (Crowded till ∷ items) h = h
-read-brought log as_read (Message till bytes ∷ items) h = h
-read-brought log as_read (Asked till other ∷ items) h = h
-read-brought log as_read (Unframed till ∷ items) h = h
-read-brought log as_read (Gone till ∷ items) h = h
-read-brought log as_read (Greet pt apdu ∷ items) h = h
-read-brought log as_read (Handle pt apdu ∷ items) h = h
-read-brought log as_read (Serve pt till header request ∷ items) h = h
-read-brought log as_read (NextWaiting pt ∷ items) h = h
-read-brought log as_read (Oversized pt ∷ items) h = h
-read-brought log as_read (LinkLost pt ∷ items) h = h
-read-brought log as_read (Late pt ∷ items) h = h
-read-brought log as_read (Overdue key ∷ items) h = h
-read-brought log as_read (Due pt ∷ items) h = h
+read-brought : (log : List Turn) (as_read : ReadAs) (items : List RoundItem) (bytes : List ℕ) → first_message items ≡ Some bytes → IsReadAs bytes as_read → AreBrought log items → AreBrought log (read_first as_read items)
+read-brought log as_read [] bytes message reads h = tt
+read-brought log as_read (Crowded till ∷ items) bytes message reads h = h
+read-brought log as_read (Message till payload ∷ items) bytes message reads h =
+    let same : bytes ≡ payload = (let n : Some payload ≡ Some bytes = message in cc) in
+    (record { payload = payload; said = h.0; reads = subst (λ b. IsReadAs b as_read) same reads }, h.1)
+read-brought log as_read (Asked till other ∷ items) bytes message reads h = h
+read-brought log as_read (Unframed till ∷ items) bytes message reads h = h
+read-brought log as_read (Gone till ∷ items) bytes message reads h = h
+read-brought log as_read (Greet pt apdu ∷ items) bytes message reads h = h
+read-brought log as_read (Handle pt apdu ∷ items) bytes message reads h = h
+read-brought log as_read (Serve pt till header request ∷ items) bytes message reads h = h
+read-brought log as_read (NextWaiting pt ∷ items) bytes message reads h = h
+read-brought log as_read (Oversized pt ∷ items) bytes message reads h = h
+read-brought log as_read (LinkLost pt ∷ items) bytes message reads h = h
+read-brought log as_read (Late pt ∷ items) bytes message reads h = h
+read-brought log as_read (Overdue key ∷ items) bytes message reads h = h
+read-brought log as_read (Due pt ∷ items) bytes message reads h = h
 
 each-brought : (log : List Turn) (number : ℕ) (item : ℕ → RoundItem) (terminals : List Terminal) → ((n : ℕ) → IsBrought log (item n)) → AreBrought log (for_each_terminal number item terminals)
 each-brought log number item [] each = tt
@@ -261,14 +294,59 @@ opened-brought log till tills = by_test (nat_lt (length tills) 64)
     by_test true = tt
     by_test false = (tt, tt)
 
-messages-brought : (log : List Turn) (till : ℕ) (payloads : List (List ℕ)) → AreBrought log (map (Message till) payloads)
-messages-brought log till [] = tt
-messages-brought log till (payload ∷ payloads) = (tt, messages-brought log till payloads)
+messages-brought : (log : List Turn) (till : ℕ) (new earlier payloads : List (List ℕ)) → ((before later : List (List ℕ)) (payload : List ℕ) → new ≡ before ++ payload ∷ later → HasSaidMessage log till payload) → new ≡ earlier ++ payloads
+    → AreBrought log (map (Message till) payloads)
+messages-brought log till new earlier [] said e = tt
+messages-brought log till new earlier (payload ∷ payloads) said e =
+    (said earlier payloads payload e, messages-brought log till new (earlier ++ payload ∷ []) payloads said (e ∙ sym (append_assoc earlier (payload ∷ []) payloads)))
 
-till-brought : (log : List Turn) (till : ℕ) (decoded : DecodedFrames) → AreBrought log (decoded_items till decoded)
-till-brought log till decoded = brought-append log (map (Message till) decoded.payloads) _ (messages-brought log till decoded.payloads) (by_test (has_bad_length decoded.rest))
+-- so are those of a till
+till-brought : (log : List Turn) (v : View) (till : ℕ) (chunk : List ℕ) → Stands log v → AllowedTurn v (HeardTill till chunk)
+    → AreBrought (log ++ HeardTill till chunk ∷ []) (decoded_items till (decode_after (decode_frames (heard_on v.scene.outside.tills till)).rest chunk))
+till-brought log v till chunk s ok = brought-append now (map (Message till) new) _ (messages-brought now till new [] new said refl) (by_test (has_bad_length decoded.rest))
   where
-    by_test : (test : Bool) → AreBrought log (if test then Unframed till ∷ [] else [])
+    now : List Turn
+    now = log ++ HeardTill till chunk ∷ []
+
+    heard : List ℕ
+    heard = heard_on v.scene.outside.tills till
+
+    decoded : DecodedFrames
+    decoded = decode_after (decode_frames heard).rest chunk
+
+    new : List (List ℕ)
+    new = decoded.payloads
+
+    small : AreBytes (heard ++ chunk)
+    small = bytes-append heard chunk (heard-bytes v.scene.outside.tills till (stands-bytes log v s).tills) ok.1.bytes
+
+    outside : v.scene.outside ≡ outside_of log
+    outside = stands-outside log v s
+
+    old : Frames heard (decode_frames heard).payloads (decode_frames heard).rest
+    old = reads_all heard (bytes_prefix heard chunk small)
+
+    both : Frames (heard ++ chunk) ((decode_frames heard).payloads ++ new) (decode_frames (heard ++ chunk)).rest
+    both = subst (λ payloads. Frames (heard ++ chunk) payloads (decode_frames (heard ++ chunk)).rest) (ap (λ (r : DecodedFrames). r.payloads) (chunks_add heard chunk)) (reads_all (heard ++ chunk) small)
+
+    said : (before later : List (List ℕ)) (payload : List ℕ) → new ≡ before ++ payload ∷ later → HasSaidMessage now till payload
+    said before later payload e = record {
+      before = log;
+      chunk = chunk;
+      inside = [];
+      log_is = refl;
+      round = tt;
+      said = (decode_frames heard).payloads;
+      rest = (decode_frames heard).rest;
+      spelled = subst (λ (o : Outside). Frames (heard_on o.tills till) (decode_frames heard).payloads (decode_frames heard).rest) outside old;
+      earlier = before;
+      later = later;
+      left = (decode_frames (heard ++ chunk)).rest;
+      all = subst (λ (o : Outside). Frames (heard_on o.tills till ++ chunk) ((decode_frames heard).payloads ++ (before ++ payload ∷ later)) (decode_frames (heard ++ chunk)).rest) outside
+          (subst (λ l. Frames (heard ++ chunk) ((decode_frames heard).payloads ++ l) (decode_frames (heard ++ chunk)).rest) e both);
+    }
+
+    by_test : (test : Bool) → AreBrought now (if test then Unframed till ∷ [] else [])
     by_test true = (tt, tt)
     by_test false = tt
 
@@ -439,7 +517,7 @@ turn-items log v turn s a h ok = by_turn turn ok
     by_turn (Opened till) ok = brought-append (now (Opened till)) (till_opened_items till v.scene.outside.tills) (items_due v.scene.core) (opened-brought (now (Opened till)) till v.scene.outside.tills) (due (Opened till))
     by_turn (HeardTill till bytes) ok =
         let decoded : DecodedFrames = decode_after (decode_frames (heard_on v.scene.outside.tills till)).rest bytes in
-        brought-append (now (HeardTill till bytes)) (decoded_items till decoded) (items_due v.scene.core) (till-brought (now (HeardTill till bytes)) till decoded) (due (HeardTill till bytes))
+        brought-append (now (HeardTill till bytes)) (decoded_items till decoded) (items_due v.scene.core) (till-brought log v till bytes s ok) (due (HeardTill till bytes))
     by_turn (Closed till) ok = (tt, due (Closed till))
     by_turn (HeardPt pt bytes) ok =
         brought-append (now (HeardPt pt bytes)) (pt_bytes_items pt (heard_on v.scene.outside.links pt) bytes) (items_due v.scene.core) (heard-brought log v pt bytes s ok) (due (HeardPt pt bytes))
@@ -461,7 +539,7 @@ turn-items log v turn s a h ok = by_turn turn ok
 -- ---- moves
 
 begin-causes : (log : List Turn) (v : View) → Stands log v → Agrees v → HasCauses log v → Begins v → HasCauses log (after v Begin)
-begin-causes log v s a h b = record { items = subst (AreBrought log) (sym first.left) (brought-append log first.new first.rest (serves-brought log first.new first.new_is) brought.1); calls = by_test (owes_cut row.calls) refl }
+begin-causes log v s a h b = record { items = items-brought first.item first.items_are brought.0 (λ alone. subst (AreBrought log) (sym (left-alone v first alone)) brought.1); calls = by_test (owes_cut row.calls) refl }
   where
     first : BeginsFirst v
     first = begins-first v a b
@@ -474,6 +552,30 @@ begin-causes log v s a h b = record { items = subst (AreBrought log) (sym first.
 
     known : Known
     known = known_in v.scene run.setup
+
+    -- a message that begins brings what it begins, and another item nothing
+    asked-brought : (till : ℕ) (as_read : ReadAs) → v.items ≡ Asked till as_read ∷ first.rest → HasAsked log till as_read → AreBrought log (after v Begin).items
+    asked-brought till as_read is asked =
+        let tills : List Connection = v.scene.outside.tills in
+        subst (AreBrought log) (sym (ap (λ l. (after (record v { items = l }) Begin).items) is ∙ ap (λ (setup : Option Setup). (row_in v.scene (λ known. row_of tills known (Asked till as_read)) setup).items ++ first.rest) run.setup_is))
+        (brought-append log (row_of tills known (Asked till as_read)).items first.rest
+        (by-where (λ (row : Row). AreBrought log row.items) known (asked_row known till as_read) (is_connected tills till) tt (λ there. begun-brought log known till as_read asked)) brought.1)
+
+    items-brought : (item : RoundItem) → v.items ≡ item ∷ first.rest → IsBrought log item → (is_asked item ≡ false → AreBrought log (after v Begin).items) → AreBrought log (after v Begin).items
+    items-brought (Crowded till) is own alone = alone refl
+    items-brought (Message till bytes) is own alone = alone refl
+    items-brought (Asked till as_read) is own alone = asked-brought till as_read is own
+    items-brought (Unframed till) is own alone = alone refl
+    items-brought (Gone till) is own alone = alone refl
+    items-brought (Greet number apdu) is own alone = alone refl
+    items-brought (Handle number apdu) is own alone = alone refl
+    items-brought (Serve number till header request) is own alone = alone refl
+    items-brought (NextWaiting number) is own alone = alone refl
+    items-brought (Oversized number) is own alone = alone refl
+    items-brought (LinkLost number) is own alone = alone refl
+    items-brought (Late number) is own alone = alone refl
+    items-brought (Overdue key) is own alone = alone refl
+    items-brought (Due number) is own alone = alone refl
 
     row : Row
     row = row_of v.scene.outside.tills known first.item
@@ -496,7 +598,7 @@ moves-causes log v (Begin ∷ moves) s a h c =
     moves-causes log (after v Begin) moves (subst (λ l. Stands l (after v Begin)) (append-nil log) (stands-more log v (Begin ∷ []) s (c.0, tt))) (course-agrees v (Begin ∷ []) a (c.0, tt)) (begin-causes log v s a h c.0) c.1
 moves-causes log v (Read as_read ∷ moves) s a h c =
     moves-causes log (after v (Read as_read)) moves (subst (λ l. Stands l (after v (Read as_read))) (append-nil log) (stands-more log v (Read as_read ∷ []) s (c.0, tt))) (course-agrees v (Read as_read ∷ []) a (c.0, tt))
-    (record { items = read-brought log as_read v.items h.items; calls = inl refl }) c.1
+    (record { items = read-brought log as_read v.items c.0.bytes c.0.message c.0.reads h.items; calls = inl refl }) c.1
 moves-causes log v (Make turn ∷ moves) s a h c =
     subst (λ l. HasCauses l (view_from (after_turn v turn) moves)) (append_assoc log (turn ∷ []) (turns_of moves))
     (moves-causes (log ++ turn ∷ []) (after_turn v turn) moves (stands-more log v (Make turn ∷ []) s (c.0, tt)) (course-agrees v (Make turn ∷ []) a (c.0, tt))

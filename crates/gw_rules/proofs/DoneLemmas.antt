@@ -51,6 +51,7 @@ registering-goes-on = record {
   linked = refl;
   on = λ terminal is. rw is refl;
   stays = λ known pt terminal meant goes. registering-stays known pt terminal meant goes;
+  keyless = λ kept. refl;
 }
 
 -- ---- in the round

@@ -20,7 +20,7 @@ use Rattle.zvt_talk.specs.Laws.{IsAckOrNack}
 use Rattle.gw_owes.specs.Calls.{Ask, Acknowledge, OwedCall, SendPt}
 use Rattle.gw_owes.specs.Events.{pt_bytes_items, items_due}
 use Rattle.gw_owes.specs.Greeting.{greet_row}
-use Rattle.gw_owes.specs.Handling.{enquiry_command, taking, handle_message, handle_row}
+use Rattle.gw_owes.specs.Handling.{enquiry_command, meaning_at, taking, handle_message, handle_row}
 use Rattle.gw_owes.specs.Items.{RoundItem, Greet, Handle, NextWaiting}
 use Rattle.gw_owes.specs.Links.{is_linked}
 use Rattle.gw_owes.specs.Row.{Known, Row}
@@ -28,7 +28,7 @@ use Rattle.gw_owes.specs.Rows.{row_of}
 use Rattle.gw_owes.specs.Terminals.{after_command}
 use Rattle.gw_owes.specs.declared.terminal.Standing.TheVariants.{Enquiring}
 use Rattle.gw_owes.specs.declared.terminal.Terminal.{Terminal}
-use Rattle.gw_owes.proofs.HandlingLemmas.{handled-is}
+use Rattle.gw_owes.proofs.HandlingLemmas.{handled-is, taken-keyless}
 use Rattle.gw_owes.proofs.SetLemmas.{new-is-there}
 use Rattle.gw_owes.proofs.TerminalLemmas.{greeting-changes-nothing, each-is-greeted}
 use Rattle.gw_rules.specs.LinkLaws.{ack_bytes, completion_bytes, acknowledged_turns, IsSilentIn, enquired_turns, EnquiryFollowsRegistration, UnfinishedRegistrationIsCut, SilentEnquiryIsCut}
@@ -178,7 +178,7 @@ handles-ack known pt settings sent kept =
     let own : Terminal = found.0 in
     let asked : Terminal = record (registered settings sent) { asker = own.asker } in
     let own_is : own ≡ asked = ap (λ (t : Terminal). record t { asker = own.asker }) found.2 in
-    let row = handled-is known pt ack_apdu own Ack found.1 (own-linked (registered settings sent) own found.2 refl) refl ∙ ap (λ t. handle_message known pt t Ack) own_is in
+    let row = handled-is known pt ack_apdu own Ack found.1 (own-linked (registered settings sent) own found.2 refl) refl ∙ ap (λ t. handle_message known pt t Ack) own_is ∙ taken-keyless known pt (taking asked Ack known.moment) (meaning_at asked Ack) Ack refl in
     record {
       kept = ap (λ (r : Row). kept_in r.core pt) row ∙ ap (option_map without_asker) (new-is-there known.core.terminals pt own (taking asked Ack known.moment) found.1);
       linked = refl;
@@ -192,7 +192,7 @@ handles-done known pt settings sent moment kept =
     let own : Terminal = found.0 in
     let asked : Terminal = record (acknowledged settings sent moment) { asker = own.asker } in
     let own_is : own ≡ asked = ap (λ (t : Terminal). record t { asker = own.asker }) found.2 in
-    let row = handled-is known pt done_apdu own Completion found.1 (own-linked (acknowledged settings sent moment) own found.2 refl) refl ∙ ap (λ t. handle_message known pt t Completion) own_is in
+    let row = handled-is known pt done_apdu own Completion found.1 (own-linked (acknowledged settings sent moment) own found.2 refl) refl ∙ ap (λ t. handle_message known pt t Completion) own_is ∙ taken-keyless known pt (taking asked Completion known.moment) (meaning_at asked Completion) Completion refl in
     record {
       kept = ap (λ (r : Row). kept_in r.core pt) row
           ∙ ap (option_map without_asker) (new-is-there known.core.terminals pt own (after_command (taking asked Completion known.moment) (enquiry_command settings) Enquiring known.moment) found.1);

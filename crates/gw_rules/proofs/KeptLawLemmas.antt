@@ -22,7 +22,7 @@ use Rattle.gw_owes.specs.Items.{RoundItem}
 use Rattle.gw_owes.specs.ReadAs.{ReadAs}
 use Rattle.gw_owes.specs.Row.{Row}
 use Rattle.gw_rules.specs.JournalFiles.{HasJournal, spare_disk, IsOpened}
-use Rattle.gw_rules.specs.KeptLaws.{RecordRules, HasRoom, KeepsRecord, KeepsAtMostOne, opens_journal, KeepsOn, KeepsJournal, HasKept, EachKeepsFile, EachImageHasKept, NoneKeptIsLost, NeverTruncated, NeverBad, LongOnlyWithFewerSlots, FullOnlyWithFewerSlots, EachRoundHasJournal, EachStartOpensJournal, EachKeepsJournalFiles, HasFiles, HandedInKeepsFiles, OpeningKeepsFiles, KeepingKeepsFiles}
+use Rattle.gw_rules.specs.KeptLaws.{RecordRules, HasSlotFor, KeepsRecord, KeepsAtMostOne, opens_journal, KeepsOn, KeepsJournal, HasKept, EachKeepsFile, EachImageHasKept, NoneKeptIsLost, NeverTruncated, NeverBad, LongOnlyWithFewerSlots, FullOnlyWithFewerSlots, EachRoundHasJournal, EachStartOpensJournal, EachKeepsJournalFiles, HasFiles, HandedInKeepsFiles, OpeningKeepsFiles, KeepingKeepsFiles}
 use Rattle.gw_rules.specs.Lawful.{AllowedTurn, Begins}
 use Rattle.gw_rules.specs.Opening.{opening, opening_calls}
 use Rattle.gw_rules.specs.Scene.{Scene, records_of}
@@ -82,7 +82,7 @@ item-spares basis log v row items h b spares =
     record { outside_is = h.outside_is; facts = h.facts; setup_is = h.setup_is; phase = inr (inl (record { is_open = r.is_open; spares = spares })) }
 
 -- the setup of the run has the slots that the records need with one more
-room-free : (basis : Basis) (log : List Turn) (scene : Scene) (the_record : Record) → IsOfLog basis log scene.setup → HasRoom basis.rules scene the_record → FreeSlots basis log (scene.kept ++ the_record ∷ [])
+room-free : (basis : Basis) (log : List Turn) (scene : Scene) (the_record : Record) → IsOfLog basis log scene.setup → HasSlotFor basis.rules scene the_record → FreeSlots basis log (scene.kept ++ the_record ∷ [])
 room-free basis log scene the_record of_log room slots needs = by_own basis.own (subst (IsOfLog basis log) room.setup_is of_log)
   where
     by_own : (own : Bool) → RanWhere own room.setup log → HadWhere own slots log
@@ -90,7 +90,7 @@ room-free basis log scene the_record of_log room slots needs = by_own basis.own 
     by_own false ran = tt
 
 -- so a run had a slot for it
-room-had : (basis : Basis) (log : List Turn) (scene : Scene) (the_record : Record) → IsOfLog basis log scene.setup → HasRoom basis.rules scene the_record → Had basis (length (map record_body scene.kept)) log
+room-had : (basis : Basis) (log : List Turn) (scene : Scene) (the_record : Record) → IsOfLog basis log scene.setup → HasSlotFor basis.rules scene the_record → Had basis (length (map record_body scene.kept)) log
 room-had basis log scene the_record of_log room = room-free basis log scene the_record of_log room (length (map record_body scene.kept))
     (let n : length (map record_body scene.kept) ≡ length scene.kept = length-map scene.kept record_body in let m : length (scene.kept ++ the_record ∷ []) ≡ length scene.kept + 1 = push_length scene.kept the_record in omega (arith, n, m))
 

@@ -18,6 +18,7 @@ use Rattle.zvt_apdu.specs.Grammar.{ApduValue}
 use Rattle.zvt_talk.specs.Talk.{TalkFacts}
 use Rattle.zvt_talk.specs.TalkSteps.{talk_after_stop_wished}
 use Rattle.zvt_talk.specs.declared.phase.Phase.TheVariants.{Asked as AskedPhase}
+use Rattle.gw_owes.specs.Awaited.{one_more_awaited}
 use Rattle.gw_owes.specs.Calls.{LinkPt, CutPt as OwedCutPt}
 use Rattle.gw_owes.specs.Core.{Core, Wait}
 use Rattle.gw_owes.specs.Events.{till_opened_items, has_bad_length, decoded_items, is_oversized, apdu_items, decoded_apdu_items, for_each_terminal, waits_by_deadline, items_due}
@@ -30,7 +31,6 @@ use Rattle.gw_owes.specs.Rows.{row_of, asked_row}
 use Rattle.gw_owes.specs.Steps.{is_ready_standing}
 use Rattle.gw_owes.specs.Terminals.{with_terminal, link_made, link_lost, forgets_till}
 use Rattle.gw_owes.specs.declared.terminal.Service.{Service}
-use Rattle.gw_owes.specs.declared.terminal.Service.TheVariants.{Transaction}
 use Rattle.gw_owes.specs.declared.terminal.Standing.{Standing}
 use Rattle.gw_owes.specs.declared.terminal.Standing.TheVariants.{Unlinked, Registering, Enquiring, Ready, Serving, Aside}
 use Rattle.gw_owes.specs.declared.terminal.Terminal.{Terminal}
@@ -190,15 +190,25 @@ by-equal {A} pt other same differs = by_test (other == pt) refl
 -- a terminal that isn't ready begins to serve nothing, and what it serves may be stopped
 serve-own : (known : Known) (number till : ℕ) (header : Header) (request : SaleRequest) → ready_in known.core number ≡ false → lasting_in (serve_row known number till header request).core number ≡ lasting_in known.core number
 serve-own known number till header request none =
-    each-served (λ (row : Row). lasting_in row.core number ≡ lasting_in known.core number) known number till header request refl
-    (λ terminal last asking at. no-true (sym none ∙ ap is_ready_found at.found ∙ ap is_ready_standing at.standing_is)) (λ terminal talk at now. stopped-lasts terminal talk at (terminal.awaited + 1))
-    (λ terminal talk at later. stopped-lasts terminal talk at terminal.awaited)
+    each-served (λ (row : Row). lasting_in row.core number ≡ lasting_in known.core number) known number till header request (record {
+      none = refl;
+      begins = λ terminal last asking at. never_ready terminal last at.found at.standing_is;
+      sent = λ terminal talk at now. stopped-lasts terminal talk at (one_more_awaited terminal.awaited);
+      wished = λ terminal talk at later. stopped-lasts terminal talk at terminal.awaited;
+      session = λ success. refl;
+      settles = λ terminal at. refl;
+      day = λ terminal last at. never_ready terminal last at.found at.standing_is;
+      displays = λ terminal last outputs command at. never_ready terminal last at.found at.standing_is;
+    })
   where
+    never_ready : {A : Type 0} (terminal : Terminal) (last : ℕ) → slice_get known.core.terminals number ≡ Some terminal → terminal.standing ≡ Ready last → A
+    never_ready terminal last found ready = no-true (sym none ∙ ap is_ready_found found ∙ ap is_ready_standing ready)
+
     stopped-lasts : (terminal : Terminal) (talk : TalkFacts) → StopsAt known number header request terminal talk → (awaited : ℕ)
         → lasting_in (with_terminal known.core number (record terminal { talk = Some (talk_after_stop_wished talk); awaited = awaited })) number ≡ lasting_in known.core number
     stopped-lasts terminal talk at awaited =
         let stopped : Terminal = record terminal { talk = Some (talk_after_stop_wished talk); awaited = awaited } in
-        ap (λ found. option_map lasting (option_map without_asker found)) (new-is-there known.core.terminals number terminal stopped at.found) ∙ ap Some (stop-lasts terminal talk (Transaction at.slot) at.last awaited at.standing_is at.talk_is)
+        ap (λ found. option_map lasting (option_map without_asker found)) (new-is-there known.core.terminals number terminal stopped at.found) ∙ ap Some (stop-lasts terminal talk at.service at.last awaited at.standing_is at.talk_is)
         ∙ sym (ap (λ found. option_map lasting (option_map without_asker found)) at.found)
 
 serve-lasts : (known : Known) (number till : ℕ) (header : Header) (request : SaleRequest) (pt : ℕ) → ready_in known.core pt ≡ false → lasting_in (serve_row known number till header request).core pt ≡ lasting_in known.core pt

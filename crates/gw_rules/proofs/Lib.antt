@@ -14,6 +14,10 @@ pub mod CutCauseExampleLemmas
 pub mod CutCauseLemmas
 pub mod CutExampleLemmas
 pub mod CutLemmas
+pub mod DayLogExampleLemmas
+pub mod DayLogLemmas
+pub mod DayTextLemmas
+pub mod DayTranscriptLemmas
 pub mod DoneExampleLemmas
 pub mod DoneLemmas
 pub mod DueLemmas
@@ -21,8 +25,8 @@ pub mod EnquiryLemmas
 pub mod ExampleLemmas
 pub mod HeardLemmas
 pub mod JournalLemmas
-pub mod KeptExampleLemmas
 pub mod JournalStateLemmas
+pub mod KeptExampleLemmas
 pub mod KeptFileLemmas
 pub mod KeptLawLemmas
 pub mod KeptLemmas
@@ -34,6 +38,7 @@ pub mod LinkLawLemmas
 pub mod LinkStateLemmas
 pub mod LinkedLemmas
 pub mod LinkedSilenceLemmas
+pub mod LossLemmas
 pub mod OpeningLemmas
 pub mod OpensLemmas
 pub mod OutsideCutLemmas
@@ -60,10 +65,13 @@ pub mod SilenceLemmas
 pub mod SpareLemmas
 pub mod SplitLemmas
 pub mod StageLemmas
+pub mod StopLogLemmas
 pub mod TerminalLogLemmas
 pub mod TestedLemmas
 pub mod TextLemmas
 pub mod TranscriptLogLemmas
+pub mod TillLawLemmas
+pub mod TillLogExampleLemmas
 pub mod TrickleExampleLemmas
 pub mod TripleLemmas
 pub mod UnlawfulLemmas

@@ -5,8 +5,9 @@ use Rattle.std.specs.Prelude.{Bool, ◌+◌, ◌==◌, ◌&&◌, ◌++◌, map, 
 use Rattle.sale_values.specs.declared.header.Header.{Header}
 use Rattle.sale_values.specs.declared.request.SaleRequest.{SaleRequest}
 use Rattle.jrn_record.specs.declared.records.Outcome.{Outcome}
+use Rattle.jrn_record.specs.declared.records.Settled.{Settled}
 use Rattle.jrn_record.specs.declared.records.Record.{Record}
-use Rattle.jrn_record.specs.declared.records.Record.TheVariants.{Intent as IntentRecord, Outcome as OutcomeRecord}
+use Rattle.jrn_record.specs.declared.records.Record.TheVariants.{Intent as IntentRecord, Outcome as OutcomeRecord, Settled as SettledRecord}
 use Rattle.gw_site.specs.Outside.{Connection, is_connected}
 use Rattle.zvt_apdu.specs.Grammar.{ApduValue}
 use Rattle.zvt_msg.specs.declared.fault.PtFault.{PtFault}
@@ -15,6 +16,8 @@ use Rattle.zvt_msg.specs.Message.{MessageValue, Ack, Nack, Intermediate, Line, B
 use Rattle.zvt_msg.specs.MessageDecode.{decode_pt_message}
 use Rattle.zvt_talk.specs.Talk.{TalkFacts}
 use Rattle.xlate.specs.Ask.{ask}
+use Rattle.jrn_record.specs.declared.records.How.TheVariants as hows
+use Rattle.gw_owes.specs.Awaited.{one_more_awaited}
 use Rattle.gw_owes.specs.Calls.{OwedCall, SendTill, SendPt, LinkPt, WriteBody, WriteGate, WriteFirstGate, Sync, CutTill, CutPt, Ask, keep_calls}
 use Rattle.gw_owes.specs.Core.{Core}
 use Rattle.gw_owes.specs.Deadlines.{is_late, is_due_by, is_due, late_row, due_row}
@@ -22,6 +25,7 @@ use Rattle.gw_owes.specs.Greeting.{greeting, sending_calls, greet_decoded, overs
 use Rattle.gw_owes.specs.Handling.{taking, handle_row}
 use Rattle.gw_owes.specs.Items.{RoundItem, Crowded, Message, Asked, Unframed, Gone, Greet, Handle, Serve, NextWaiting, Oversized, LinkLost, Late, Overdue, Due}
 use Rattle.gw_owes.specs.Links.{is_linked, cutting}
+use Rattle.gw_owes.specs.Reconciliations.{settle_calls, reply_to_settled, settled_of}
 use Rattle.gw_owes.specs.Reply.{ReplyValue}
 use Rattle.gw_owes.specs.Payments.{Asking, beginning_row, asked_for, serve_row}
 use Rattle.gw_owes.specs.ReadAs.{ReadAs}
@@ -274,6 +278,11 @@ resolved-keeps known number old terminal standing outcome found old_on linked sa
     let reply : Option ReplyValue = reply_to_outcome known.kept outcome.slot outcome in
     kept-fits known.moment core (length known.kept) (OutcomeRecord outcome) (reply_calls_to terminal.asker reply) (reply-fits known.moment core terminal.asker reply))
 
+-- so are the calls that settle
+settle-fits : (moment : ℕ) (core : Core) (kept : List Record) (asker : Option ℕ) (settled : Settled) → EachFits moment core (settle_calls kept asker settled)
+settle-fits moment core kept asker settled =
+    kept-fits moment core (length kept) (SettledRecord settled) (reply_calls_to asker (reply_to_settled kept settled)) (reply-fits moment core asker (reply_to_settled kept settled))
+
 -- so does each form that the consequence of a message may have
 forms-keep : (known : Known) (number : ℕ) (old terminal : Terminal) → terminal_at known number ≡ Some old → standing_state old.standing old.talk ≡ On → standing_state terminal.standing terminal.talk ≡ On → terminal.pt ≡ old.pt
     → EachForm (KeepsLinks known.moment known.core) known number terminal
@@ -285,6 +294,12 @@ forms-keep known number old terminal found old_on on same = record {
   enquires = becomes-keeps known number old _ _ found old_on refl same (λ there. (there, tt));
   rests = λ standing linked. becomes-keeps known number old (at_rest terminal standing) [] found old_on (linked-on standing None linked) same (λ there. tt);
   resolves = λ standing outcome linked. resolved-keeps known number old terminal standing outcome found old_on linked same;
+  settles = λ last settled.
+      becomes-keeps known number old (done_with terminal (Ready last)) _ found old_on refl same (λ there. settle-fits known.moment (with_terminal known.core number (done_with terminal (Ready last))) known.kept terminal.asker settled);
+  replies = λ last reply. becomes-keeps known number old (done_with terminal (Ready last)) _ found old_on refl same (λ there. reply-fits known.moment (with_terminal known.core number (done_with terminal (Ready last))) terminal.asker reply);
+  requests = λ till request asks.
+      let stays = becomes-keeps known number old terminal [] found old_on on same (λ there. tt) in
+      record { states = stays.states; items = refl; settings = stays.settings; fits = (tt, tt) };
 }
 
 handle-keeps : (known : Known) (number : ℕ) (apdu : ApduValue) → KeepsLinks known.moment known.core (handle_row known number apdu)
@@ -311,10 +326,16 @@ stopped-keeps known number header request terminal talk awaited calls at fits =
 
 serve-keeps : (known : Known) (number till : ℕ) (header : Header) (request : SaleRequest) → KeepsLinks known.moment known.core (serve_row known number till header request)
 serve-keeps known number till header request =
-    each-served (KeepsLinks known.moment known.core) known number till header request (owing-keeps known [] tt)
-    (λ terminal last asking at. begun-keeps known number till terminal last asking at.found (ap (λ s. standing_state s terminal.talk) at.standing_is))
-    (λ terminal talk at now. stopped-keeps known number header request terminal talk (terminal.awaited + 1) (SendPt number (Ask commands.Stop) ∷ []) at (λ core on. (on, tt)))
-    (λ terminal talk at later. stopped-keeps known number header request terminal talk terminal.awaited [] at (λ core on. tt))
+    each-served (KeepsLinks known.moment known.core) known number till header request (record {
+      none = owing-keeps known [] tt;
+      begins = λ terminal last asking at. begun-keeps known number till terminal last asking at.found (ap (λ s. standing_state s terminal.talk) at.standing_is);
+      sent = λ terminal talk at now. stopped-keeps known number header request terminal talk (one_more_awaited terminal.awaited) (SendPt number (Ask commands.Stop) ∷ []) at (λ core on. (on, tt));
+      wished = λ terminal talk at later. stopped-keeps known number header request terminal talk terminal.awaited [] at (λ core on. tt);
+      session = λ success. record { states = λ other. refl; items = refl; settings = refl; fits = (tt, tt) };
+      settles = λ terminal at. owing-keeps known _ (settle-fits known.moment known.core known.kept (Some till) (settled_of hows.Sale header terminal.pt.currency known.moment));
+      day = λ terminal last at. becomes-keeps known number terminal _ _ at.found (ap (λ s. standing_state s terminal.talk) at.standing_is) refl refl (λ there. (there, tt));
+      displays = λ terminal last outputs command at. becomes-keeps known number terminal _ _ at.found (ap (λ s. standing_state s terminal.talk) at.standing_is) refl refl (λ there. (there, tt));
+    })
 
 -- ---- what may be due
 

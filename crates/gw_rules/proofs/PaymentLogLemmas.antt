@@ -255,6 +255,9 @@ reply-lawful = (
   ((WriteBody 1 (Outcome (logged_outcome 4)), refl, refl), (refl, ((WriteGate 1 (Outcome (logged_outcome 4)), refl, refl), (refl, ((logged_reply 4, refl, refl), tt))))),
 )
 
+pub replied-lawful : IsCourse begun_view replied_course
+replied-lawful = course-append begun_view reported_moves reply_moves reported-lawful reply-lawful
+
 pub paid-none-open : PaidHasNoneOpen
 unfolding decode_apdus decode_apdus_within decode_pt_message decode_status decode_status_within decode_status_field decode_field_value history payment_request
 paid-none-open = record {
@@ -262,7 +265,7 @@ paid-none-open = record {
     course = ready_none_course ++ begun_course ++ replied_course;
     log_is = refl;
     lawful = course-append at_first ready_none_course (begun_course ++ replied_course) ready-none-lawful
-        (course-append ready_none_view begun_course replied_course begun-lawful (course-append begun_view reported_moves reply_moves reported-lawful reply-lawful));
+        (course-append ready_none_view begun_course replied_course begun-lawful replied-lawful);
     view_is = refl;
   };
   between = record { running = refl; calls = refl };

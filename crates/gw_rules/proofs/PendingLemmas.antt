@@ -23,6 +23,7 @@ use Rattle.jrn_record.specs.declared.records.Record.{Record}
 use Rattle.gw_owes.specs.Calls.{OwedCall, SendTill, SendPt, LinkPt, WriteBody, WriteGate, WriteFirstGate, Sync, write_turn, CutTill as OwedCutTill, CutPt as OwedCutPt}
 use Rattle.gw_owes.specs.Core.{Core, Wait}
 use Rattle.gw_owes.specs.Events.{is_oversized, apdu_items, decoded_apdu_items, for_each_terminal, waits_by_deadline, items_due}
+use Rattle.gw_owes.specs.DeviceRequests.{key_served}
 use Rattle.gw_owes.specs.Handling.{meaning_at, taking, consequence, handle_row}
 use Rattle.gw_owes.specs.Items.{RoundItem, Crowded, Message, Asked, Unframed, Gone, Greet, Handle, Serve, NextWaiting, Oversized, LinkLost, Late, Overdue, Due}
 use Rattle.gw_owes.specs.Links.{is_linked}
@@ -33,7 +34,7 @@ use Rattle.gw_owes.specs.Serving.{staying}
 use Rattle.gw_owes.specs.declared.terminal.Standing.{Standing}
 use Rattle.gw_owes.specs.declared.terminal.Terminal.{Terminal}
 use Rattle.gw_owes.proofs.ApduLemmas.{pt-bytes-give}
-use Rattle.gw_owes.proofs.HandlingLemmas.{handled-is}
+use Rattle.gw_owes.proofs.HandlingLemmas.{handled-is, taken-keyless}
 use Rattle.gw_owes.proofs.SetLemmas.{new-is-there}
 use Rattle.gw_rules.specs.Lawful.{Begins, IsRead, AllowedTurn, Stands}
 use Rattle.gw_rules.specs.DialogueLaws.{with_message, EndsWith, EndsAlong}
@@ -279,6 +280,7 @@ pub record GoesOnIn (standing : Standing) : Type 0 where
   pub linked : is_linked standing ≡ true
   pub on : (terminal : Terminal) → terminal.standing ≡ standing → state_of (Some terminal) ≡ On
   pub stays : (known : Known) (pt : ℕ) (terminal : Terminal) (meant : Heard) → is_end meant ≡ false → consequence known pt terminal meant standing ≡ staying known pt terminal
+  pub keyless : (kept : List Record) → key_served kept standing ≡ None
 
 -- in the round this is kept of the terminal, whose dialogue will be handed such an end; no call on the disk and no message of a till comes before it
 pub record Pending (IsSuch : Heard → Type 0) (standing : Standing) (settings : Pt) (records : List Record) (pt moment : ℕ) (v : View) : Type 0 where
@@ -318,7 +320,8 @@ pub record Ended (IsSuch : Heard → Type 0) (standing : Standing) (settings : P
 message-row : (standing : Standing) → GoesOnIn standing → (known : Known) (pt : ℕ) (apdu : ApduValue) (own : Terminal) (message : MessageValue) → slice_get known.core.terminals pt ≡ Some own → own.standing ≡ standing → decode_pt_message apdu ≡ Ok message
     → is_end (meaning_at own message) ≡ false → handle_row known pt apdu ≡ owing_where (is_taken message) known (staying known pt (taking own message known.moment))
 message-row standing goes_on known pt apdu own message found standing_is is goes =
-    handled-is known pt apdu own message found (ap is_linked standing_is ∙ goes_on.linked) is ∙ ap (owing_where (is_taken message) known) row_is
+    handled-is known pt apdu own message found (ap is_linked standing_is ∙ goes_on.linked) is
+    ∙ ap (owing_where (is_taken message) known) (taken-keyless known pt taken (meaning_at own message) message (ap (key_served known.kept) standing_is ∙ goes_on.keyless known.kept) ∙ row_is)
   where
     taken : Terminal
     taken = taking own message known.moment

@@ -18,16 +18,19 @@ use Rattle.jrn_log.proofs.SlotLemmas.{one_byte_slots, one_slots}
 use Rattle.gw_ledger.specs.Fold.{AreFolded}
 use Rattle.gw_ledger.specs.Sums.{open_count_of}
 use Rattle.gw_owes.specs.Calls.{OwedCall, SendTill, SendPt, LinkPt, WriteBody, WriteGate, WriteFirstGate, Sync, write_turn, records_kept, CutTill as OwedCutTill, CutPt as OwedCutPt}
-use Rattle.gw_owes.specs.Core.{Core}
+use Rattle.gw_owes.specs.Core.{Core, no_core, new_core}
+use Rattle.gw_owes.specs.Days.{days_served}
+use Rattle.gw_owes.specs.DeviceRequests.{greatest_device_number}
 use Rattle.gw_owes.specs.Events.{till_opened_items, decoded_items, decoded_apdu_items, items_due}
 use Rattle.gw_owes.specs.Items.{RoundItem, Gone, LinkLost}
 use Rattle.gw_owes.specs.Links.{LinkEvent, LinkIsMade, LinkIsLost, link_row}
 use Rattle.gw_owes.specs.ReadAs.{ReadAs}
-use Rattle.gw_owes.specs.RecordLaws.{AreRecordsOf, IsTerminalInOrder, IsReadItem, AreOthersInOrder, IsInOrder}
+use Rattle.gw_owes.specs.RecordLaws.{AreRecordsOf, IsTerminalInOrder, IsReadItem, AreOthersInOrder, HasRoom, IsNumbered, IsInOrder, LinkKeepsInOrder}
 use Rattle.gw_owes.specs.Row.{Known, Row}
 use Rattle.gw_owes.specs.Rows.{row_of}
 use Rattle.gw_owes.specs.TerminalLaws.{settings_of}
-use Rattle.gw_owes.specs.declared.terminal.Service.TheVariants.{Transaction}
+use Rattle.gw_owes.specs.Terminals.{core_without}
+use Rattle.gw_owes.specs.declared.terminal.Service.TheVariants.{Transaction, EndOfDay}
 use Rattle.gw_owes.specs.declared.terminal.Standing.{Standing}
 use Rattle.gw_owes.specs.declared.terminal.Standing.TheVariants.{Ready, Serving}
 use Rattle.gw_owes.specs.declared.terminal.Terminal.{Terminal}
@@ -37,7 +40,7 @@ use Rattle.gw_rules.specs.KeptLaws.{KeepsAtMostOne, KeepsOn, KeepsJournal}
 use Rattle.gw_rules.specs.Lawful.{first_call, AllowedTurn, may_begin, Begins, IsRead, IsCourse, turns_of, Stands}
 use Rattle.gw_rules.specs.LedgerRules.{ledger_rules, no_open_key, EachLawfulKeepsJournal, EachLawfulHasKept, LawfulRefusedOnlyWithFewerSlots}
 use Rattle.gw_rules.specs.Opening.{is_refused, opening}
-use Rattle.gw_rules.specs.RecordOrder.{records_coming, EachLogFolds, EachLogImageFolds, EachLogLeavesSlots, EachLogComesInOrder, EachItemWasRead, IsBetweenItems, EachLogIsInOrder, ReadyHasNoneOpen, ServedIsOpen}
+use Rattle.gw_rules.specs.RecordOrder.{records_coming, EachLogFolds, EachLogImageFolds, EachLogLeavesSlots, EachLogComesInOrder, EachItemWasRead, IsBetweenItems, EachLogIsInOrder, DayServedIsUnknown, ReadyHasNoneOpen, ServedIsOpen}
 use Rattle.gw_rules.specs.Scene.{Scene, records_of, known_in, row_in, row_at, link_made_at, link_lost_at}
 use Rattle.gw_rules.specs.Stage.{Stage, Resting, Opening, Looking, AtPoll, Handling, Over, Broken, busy, is_round, is_running, is_broken, stage_synced, stage_wrote}
 use Rattle.gw_rules.specs.TranscriptLaws.{cuts_terminal, cut_owed}
@@ -64,9 +67,9 @@ use Rattle.gw_rules.proofs.TranscriptLogLemmas.{lost-at, made-at, not-number}
 abbrev pub AreRead : View → Type 0
 AreRead v = (setup : Setup) → v.scene.setup ≡ Some setup → All (IsReadItem setup) v.items
 
--- while the run goes on a slot is left for the Outcome of each key that will be open
+-- while the run goes on a slot is left for the Outcome of each key that will be open, and the Settled of each end of day that is served
 abbrev pub LeavesSlots : View → Type 0
-LeavesSlots v = (setup : Setup) → v.scene.setup ≡ Some setup → is_running v.scene.stage ≡ true → length (records_coming v) + open_count_of (records_coming v) ≤ setup.slots
+LeavesSlots v = (setup : Setup) → v.scene.setup ≡ Some setup → is_running v.scene.stage ≡ true → HasRoom setup.slots (records_coming v) v.scene.core
 
 -- until a call on the disk fails the records that come have what each terminal's standing says, but of one whose cut is owed
 abbrev pub ComesInOrder : View → Type 0
@@ -81,7 +84,10 @@ pub record Ordered (log : List Turn) (v : View) : Type 0 where
   pub read : AreRead v
   -- while a run opens its journal no record is kept
   pub quiet : is_opening v.scene.stage ≡ true → records_kept v.calls ≡ []
+  -- and no end of day is served
+  pub no_days : is_opening v.scene.stage ≡ true → days_served v.scene.core.terminals ≡ 0
   pub room : LeavesSlots v
+  pub numbered : IsNumbered v.scene.core
   pub terminals : ComesInOrder v
 
 moment-after : (o : Outside) (turn : Turn) → o.moment ≤ last_moment → (outside_after o turn).moment ≤ last_moment
@@ -126,7 +132,8 @@ between-items log v o k running calls =
     let coming : records_coming v ≡ v.scene.kept = coming-kept v (ap spare_disk calls) (idle-rests (owned ledger_rules) log v h running calls).is_open.no_flight in
     record {
       folded = kept-folds log v h;
-      room = subst (λ l. length l + open_count_of l ≤ k.setup.slots) coming (o.room k.setup k.setup_is running);
+      room = subst (λ l. HasRoom k.setup.slots l v.scene.core) coming (o.room k.setup k.setup_is running);
+      numbered = o.numbered;
       of_setup = record { within = k.within; settings = configured v k.setup o.agrees k.setup_is };
       moment = moment-is v.scene.outside.moment (subst (λ (p : Outside). p.moment ≤ last_moment) (sym h.outside_is) (moment-from (outside_of []) log (omega arith)));
       terminals = λ pt terminal found. subst (λ l. IsTerminalInOrder l terminal) coming (o.terminals (clear-where v.scene.stage is_running refl running) pt terminal found (ap (cut_owed pt) calls));
@@ -154,6 +161,44 @@ item-in-order laws log v item rest o k b e =
     let i : IsInOrder known = between-items log v o k (round-runs v.scene.stage b.idle.round) b.idle.calls in
     subst (LeavesInOrder known) (sym (row-is v.scene k item)) (rows-in-order laws v.scene.outside.tills known item i (first-was-read log v item rest o k e))
 
+-- ---- slots
+
+no-fewer : (count : ℕ) → count ≤ count
+no-fewer count = omega arith
+
+sum-falls : (records keys days fewer slots : ℕ) → fewer ≤ days → records + (keys + days) ≤ slots → records + (keys + fewer) ≤ slots
+sum-falls records keys days fewer slots falls room = omega arith
+
+sum-without : (records keys days slots : ℕ) → records + (keys + days) ≤ slots → records + keys ≤ slots
+sum-without records keys days slots room = omega arith
+
+sum-with-none : (records keys days slots : ℕ) → days ≡ 0 → records + keys ≤ slots → records + (keys + days) ≤ slots
+sum-with-none records keys days slots none room = omega arith
+
+-- where fewer ends of day are served, as many slots are enough
+fewer-days : (slots : ℕ) (records : List Record) (core new : Core) → days_served new.terminals ≤ days_served core.terminals → HasRoom slots records core → HasRoom slots records new
+fewer-days slots records core new falls room = sum-falls (length records) (open_count_of records) (days_served core.terminals) (days_served new.terminals) slots falls room
+
+-- where none is served
+with-no-days : (slots : ℕ) (records : List Record) (core : Core) → days_served core.terminals ≡ 0 → length records + open_count_of records ≤ slots → HasRoom slots records core
+with-no-days slots records core none room = sum-with-none (length records) (open_count_of records) (days_served core.terminals) slots none room
+
+-- no more ends of day are served, and nothing is requested of a device
+abbrev CountsStay : Core → Core → Type 0
+CountsStay core new = (days_served new.terminals ≤ days_served core.terminals) × (new.device_requests ≡ core.device_requests)
+
+same-counts : (core : Core) → CountsStay core core
+same-counts core = (no-fewer (days_served core.terminals), refl)
+
+stays-numbered : (core new : Core) → CountsStay core new → IsNumbered core → IsNumbered new
+stays-numbered core new counts numbered = subst (λ number. number ≤ greatest_device_number) (sym counts.1) numbered
+
+none-stays : (core new : Core) → CountsStay core new → days_served core.terminals ≡ 0 → days_served new.terminals ≡ 0
+none-stays core new counts none = at-most-none (days_served new.terminals) (subst (λ days. days_served new.terminals ≤ days) none counts.0)
+  where
+    at-most-none : (days : ℕ) → days ≤ 0 → days ≡ 0
+    at-most-none days h = omega arith
+
 -- calls that keep a record in order are those of a gateway that keeps its journal
 keeps-at-most-one : (scene : Scene) (k : HasSetup scene) (row : Row) → LeavesInOrder (known_in scene k.setup) row → KeepsOne scene.kept row.calls → KeepsAtMostOne ledger_rules scene row.calls
 keeps-at-most-one scene k row l (inl spares) = inl spares
@@ -167,7 +212,7 @@ keeps-at-most-one scene k row l (inr n) =
       spares = n.spares;
       within = last-within scene.kept n.the_record folded.within;
       follows = last-fits [] scene.kept n.the_record folded.fit;
-      room = record { setup = k.setup; setup_is = k.setup_is; room = subst (λ r. length (scene.kept ++ r) + open_count_of (scene.kept ++ r) ≤ k.setup.slots) keeps l.room };
+      room = record { setup = k.setup; setup_is = k.setup_is; room = sum-without _ _ (days_served row.core.terminals) k.setup.slots (subst (λ r. HasRoom k.setup.slots (scene.kept ++ r) row.core) keeps l.room) };
     })
 
 pub begin-ordered : OrderLaws → (log : List Turn) (v : View) → Ordered log v → Begins v → Ordered log (after v Begin)
@@ -197,12 +242,23 @@ begin-ordered laws log v o b = by_items v.items refl
               subst (λ (s : Setup). All (IsReadItem s) (row.items ++ rest)) same
               (All-append (IsReadItem k.setup) row.items rest (item-brings laws log v item rest o k b e) (All-tail (IsReadItem k.setup) item rest (subst (λ i. All (IsReadItem k.setup) i) e (o.read k.setup k.setup_is)))));
           quiet = subst (λ (w : View). is_opening w.scene.stage ≡ true → records_kept w.calls ≡ []) is (λ opening. no-true (sym (ap is_opening at) ∙ opening));
+          no_days = subst (λ (w : View). is_opening w.scene.stage ≡ true → days_served w.scene.core.terminals ≡ 0) is (λ opening. no-true (sym (ap is_opening at) ∙ opening));
           room = subst LeavesSlots is (λ setup setup_is running.
               let same : k.setup ≡ setup = same-some k.setup setup (sym k.setup_is ∙ setup_is) in
-              subst (λ (s : Setup). length (records_coming next) + open_count_of (records_coming next) ≤ s.slots) same
-              (subst (λ r. length r + open_count_of r ≤ k.setup.slots) (sym coming) l.room));
+              subst (λ (s : Setup). HasRoom s.slots (records_coming next) row.core) same (subst (λ r. HasRoom k.setup.slots r row.core) (sym coming) l.room));
+          numbered = subst (λ (w : View). IsNumbered w.scene.core) is l.numbered;
           terminals = subst ComesInOrder is (λ clear pt terminal found no_cut. subst (λ r. IsTerminalInOrder r terminal) (sym coming) (l.terminals pt terminal found no_cut));
         }
+
+-- once anything follows, a run opens its journal as before
+busy-opening : (stage : Stage) → is_opening (busy stage) ≡ true → is_opening stage ≡ true
+busy-opening Resting e = e
+busy-opening (Opening refused) e = e
+busy-opening (Looking refused) e = e
+busy-opening AtPoll e = no-true e
+busy-opening Handling e = e
+busy-opening Over e = e
+busy-opening Broken e = e
 
 -- ---- messages that are read
 
@@ -216,7 +272,9 @@ read-ordered log v as_read o r =
       owing = move-owing o.owed v (Read as_read) o.owing r;
       read = λ setup is. first-read setup as_read v.items r.bytes r.message r.reads (o.read setup is);
       quiet = λ opening. refl;
-      room = λ setup setup_is running. subst (λ l. length l + open_count_of l ≤ setup.slots) (sym coming) (o.room setup setup_is (round-runs v.scene.stage r.idle.round));
+      no_days = λ opening. o.no_days (busy-opening v.scene.stage opening);
+      room = λ setup setup_is running. subst (λ l. HasRoom setup.slots l v.scene.core) (sym coming) (o.room setup setup_is (round-runs v.scene.stage r.idle.round));
+      numbered = o.numbered;
       terminals = λ clear pt terminal found no_cut.
           subst (λ l. IsTerminalInOrder l terminal) (sym coming) (o.terminals (clear-where v.scene.stage is_round refl r.idle.round) pt terminal found (ap (cut_owed pt) r.idle.calls));
     }
@@ -229,26 +287,31 @@ same-terminals : (v w : View) → ComesInOrder v → records_coming w ≡ record
 same-terminals v w t coming core clear cuts = λ w_clear pt terminal found no_cut.
     subst (λ l. IsTerminalInOrder l terminal) (sym coming) (t (clear w_clear) pt terminal (ap (λ (c : Core). slice_get c.terminals pt) (sym core) ∙ found) (cuts pt no_cut))
 
-same-slots : (v w : View) → LeavesSlots v → records_coming w ≡ records_coming v → w.scene.setup ≡ v.scene.setup → (is_running w.scene.stage ≡ true → is_running v.scene.stage ≡ true) → LeavesSlots w
-same-slots v w r coming setup_is running = λ setup is w_running. subst (λ l. length l + open_count_of l ≤ setup.slots) (sym coming) (r setup (sym setup_is ∙ is) (running w_running))
+same-slots : (v w : View) → LeavesSlots v → records_coming w ≡ records_coming v → CountsStay v.scene.core w.scene.core → w.scene.setup ≡ v.scene.setup → (is_running w.scene.stage ≡ true → is_running v.scene.stage ≡ true) → LeavesSlots w
+same-slots v w r coming counts setup_is running = λ setup is w_running.
+    fewer-days setup.slots (records_coming w) v.scene.core w.scene.core counts.0 (subst (λ l. HasRoom setup.slots l v.scene.core) (sym coming) (r setup (sym setup_is ∙ is) (running w_running)))
 
 -- what a turn leaves of the records, of what is remembered, and of the items
 record Leaves (w : View) : Type 0 where
   read : AreRead w
   quiet : is_opening w.scene.stage ≡ true → records_kept w.calls ≡ []
+  no_days : is_opening w.scene.stage ≡ true → days_served w.scene.core.terminals ≡ 0
   room : LeavesSlots w
+  numbered : IsNumbered w.scene.core
   terminals : ComesInOrder w
 
 -- no call was owed and none is, and the run went on
 event-leaves : (log : List Turn) (v w : View) → Ordered log v → is_running v.scene.stage ≡ true → v.calls ≡ [] → w.calls ≡ [] → w.scene.kept ≡ v.scene.kept → w.scene.flight ≡ v.scene.flight → w.scene.core ≡ v.scene.core → w.scene.setup ≡ v.scene.setup
-    → ((setup : Setup) → All (IsReadItem setup) w.items) → Leaves w
-event-leaves log v w o running before none kept flight core setup reads =
+    → is_opening w.scene.stage ≡ false → ((setup : Setup) → All (IsReadItem setup) w.items) → Leaves w
+event-leaves log v w o running before none kept flight core setup closed reads =
     let file : records_of w.scene ≡ records_of v.scene = ap (λ l. l ++ option_to_list w.scene.flight) kept ∙ ap (λ (f : Option Record). v.scene.kept ++ option_to_list f) flight in
     let coming : records_coming w ≡ records_coming v = ap (λ l. l ++ records_kept w.calls) file ∙ ap (λ calls. records_of v.scene ++ records_kept calls) (none ∙ sym before) in
     record {
       read = λ run is. reads run;
       quiet = λ opening. ap records_kept none;
-      room = same-slots v w o.room coming setup (λ w_running. running);
+      no_days = λ opening. no-true (sym closed ∙ opening);
+      room = same-slots v w o.room coming (subst (CountsStay v.scene.core) (sym core) (same-counts v.scene.core)) setup (λ w_running. running);
+      numbered = subst IsNumbered (sym core) o.numbered;
       terminals = same-terminals v w o.terminals coming core (λ w_clear. clear-where v.scene.stage is_running refl running) (λ pt no_cut. ap (cut_owed pt) before);
     }
 
@@ -263,15 +326,17 @@ busy-running Broken e = e
 
 -- a call was made that isn't on the disk, and none on the disk is owed then
 call-leaves : (log : List Turn) (v w : View) (call : OwedCall) → Ordered log v → first_call v.calls ≡ Some call → is_on_disk call ≡ false → spare_disk w.calls ≡ true → w.scene.stage ≡ busy v.scene.stage → w.scene.kept ≡ v.scene.kept → w.scene.flight ≡ v.scene.flight
-    → w.scene.setup ≡ v.scene.setup → w.items ≡ v.items → (records_coming w ≡ records_coming v → ComesInOrder w) → Leaves w
-call-leaves log v w call o next off spares stage kept flight setup items terminals =
+    → w.scene.setup ≡ v.scene.setup → w.items ≡ v.items → CountsStay v.scene.core w.scene.core → (records_coming w ≡ records_coming v → ComesInOrder w) → Leaves w
+call-leaves log v w call o next off spares stage kept flight setup items counts terminals =
     let h : Holds (owned ledger_rules) log v = holds ledger_rules log v o.keeps in
     let r = rests-owing (owned ledger_rules) log v.scene.kept v.scene.flight v.calls v.scene.stage call h.phase next off in
     let coming : records_coming w ≡ records_coming v = coming-kept w spares (flight ∙ r.is_open.no_flight) ∙ kept ∙ sym (coming-kept v r.spares r.is_open.no_flight) in
     record {
       read = λ run is. subst (λ l. All (IsReadItem run) l) (sym items) (o.read run (sym setup ∙ is));
       quiet = λ opening. spares-none w.calls spares;
-      room = same-slots v w o.room coming setup (λ w_running. busy-running v.scene.stage (sym (ap is_running stage) ∙ w_running));
+      no_days = λ opening. none-stays v.scene.core w.scene.core counts (o.no_days (busy-opening v.scene.stage (sym (ap is_opening stage) ∙ opening)));
+      numbered = stays-numbered v.scene.core w.scene.core counts o.numbered;
+      room = same-slots v w o.room coming counts setup (λ w_running. busy-running v.scene.stage (sym (ap is_running stage) ∙ w_running));
       terminals = terminals coming;
     }
 
@@ -296,7 +361,8 @@ stage-clear v w stage clear = sym (busy-broken v.scene.stage) ∙ sym (ap is_bro
 link-leaves : OrderLaws → (log : List Turn) (v w : View) (number : ℕ) (event : LinkEvent) (call : OwedCall) (k : HasSetup v.scene) → Ordered log v → first_call v.calls ≡ Some call → is_on_disk call ≡ false → later v.calls ≡ []
     → ((pt : ℕ) → pt ≢ number → cuts_terminal pt call ≡ false) → spare_disk w.calls ≡ true → w.scene.stage ≡ busy v.scene.stage → w.scene.kept ≡ v.scene.kept → w.scene.flight ≡ v.scene.flight
     → w.scene.setup ≡ v.scene.setup → w.items ≡ v.items → w.scene.core ≡ (link_row (known_in v.scene k.setup) number event).core → Leaves w
-link-leaves laws log v w number event call k o next off last other spares stage kept flight setup items core = call-leaves log v w call o next off spares stage kept flight setup items by_coming
+link-leaves laws log v w number event call k o next off last other spares stage kept flight setup items core =
+    call-leaves log v w call o next off spares stage kept flight setup items (subst (CountsStay v.scene.core) (sym core) (stays.days, stays.device_requests)) by_coming
   where
     h : Holds (owned ledger_rules) log v
     h = holds ledger_rules log v o.keeps
@@ -307,12 +373,15 @@ link-leaves laws log v w number event call k o next off last other spares stage 
     now : records_coming v ≡ v.scene.kept
     now = coming-kept v r.spares r.is_open.no_flight
 
+    stays : LinkKeepsInOrder (known_in v.scene k.setup) number (link_row (known_in v.scene k.setup) number event).core
+    stays = laws.links (known_in v.scene k.setup) number event
+
     by_coming : records_coming w ≡ records_coming v → ComesInOrder w
     by_coming coming clear pt terminal found no_cut =
         let others : AreOthersInOrder number v.scene.kept v.scene.core = λ one before differs there.
         subst (λ l. IsTerminalInOrder l before) now (o.terminals (stage-clear v w stage clear) one before there (last-cuts one v.calls call next last (other one differs))) in
         subst (λ l. IsTerminalInOrder l terminal) (sym (coming ∙ now))
-        (laws.links (known_in v.scene k.setup) number event others pt terminal (ap (λ (c : Core). slice_get c.terminals pt) (sym core) ∙ found))
+        (stays.terminals others pt terminal (ap (λ (c : Core). slice_get c.terminals pt) (sym core) ∙ found))
 
 -- ---- turns on the disk
 
@@ -409,8 +478,8 @@ opening-writes log v call turn o next writes opening = by_phase h.phase
     by_phase (inr (inr m)) = by_step m.0
 
 -- where no record comes there are slots enough
-none-leaves-slots : (records : List Record) (slots : ℕ) → records ≡ [] → length records + open_count_of records ≤ slots
-none-leaves-slots records slots none = subst (λ l. length l + open_count_of l ≤ slots) (sym none) (let open_none = no_open_key in omega arith)
+none-leaves-slots : (records : List Record) (slots : ℕ) (core : Core) → records ≡ [] → days_served core.terminals ≡ 0 → HasRoom slots records core
+none-leaves-slots records slots core none no_days = with-no-days slots records core no_days (subst (λ l. length l + open_count_of l ≤ slots) (sym none) (let open_none = no_open_key in omega arith))
 
 wrote-leaves : (log : List Turn) (v : View) (offset : ℕ) (bytes : List ℕ) → Ordered log v → AllowedTurn v (Wrote offset bytes) → Leaves (after_turn v (Wrote offset bytes))
 wrote-leaves log v offset bytes o ok =
@@ -419,14 +488,17 @@ wrote-leaves log v offset bytes o ok =
     record {
       read = o.read;
       quiet = λ opening. written_quiet (o.quiet (wrote-opening v.scene.stage opening));
+      no_days = λ opening. o.no_days (wrote-opening v.scene.stage opening);
+      numbered = o.numbered;
       room = λ setup is running. by_running setup is coming (wrote-running v.scene.stage running);
       terminals = same-terminals v (after_turn v turn) o.terminals coming refl (λ clear. sym (wrote-broken v.scene.stage) ∙ clear) (λ pt no_cut. later-cuts pt v.calls ok.0 ok.1 (writes-cut-none pt ok.0 turn ok.2) no_cut);
     }
   where
     by_running : (setup : Setup) → v.scene.setup ≡ Some setup → records_coming (after_turn v (Wrote offset bytes)) ≡ records_coming v → (is_running v.scene.stage ≡ true) ⊎ (is_opening v.scene.stage ≡ true)
-        → length (records_coming (after_turn v (Wrote offset bytes))) + open_count_of (records_coming (after_turn v (Wrote offset bytes))) ≤ setup.slots
-    by_running setup is coming (inl running) = subst (λ l. length l + open_count_of l ≤ setup.slots) (sym coming) (o.room setup is running)
-    by_running setup is coming (inr opening) = none-leaves-slots (records_coming (after_turn v (Wrote offset bytes))) setup.slots (coming ∙ opening-writes log v ok.0 (Wrote offset bytes) o ok.1 ok.2 opening)
+        → HasRoom setup.slots (records_coming (after_turn v (Wrote offset bytes))) v.scene.core
+    by_running setup is coming (inl running) = subst (λ l. HasRoom setup.slots l v.scene.core) (sym coming) (o.room setup is running)
+    by_running setup is coming (inr opening) =
+        none-leaves-slots (records_coming (after_turn v (Wrote offset bytes))) setup.slots v.scene.core (coming ∙ opening-writes log v ok.0 (Wrote offset bytes) o ok.1 ok.2 opening) (o.no_days opening)
 
     written_quiet : records_kept v.calls ≡ [] → records_kept (later v.calls) ≡ []
     written_quiet none = later-none v.calls none
@@ -447,21 +519,28 @@ synced-leaves log v o ok =
     record {
       read = o.read;
       quiet = λ opening. later-none v.calls (o.quiet (synced-opening v.scene.stage opening));
-      room = same-slots v (after_turn v Synced) o.room coming refl (λ running. sym (synced-running v.scene.stage) ∙ running);
+      no_days = λ opening. o.no_days (synced-opening v.scene.stage opening);
+      numbered = o.numbered;
+      room = same-slots v (after_turn v Synced) o.room coming (same-counts v.scene.core) refl (λ running. sym (synced-running v.scene.stage) ∙ running);
       terminals = same-terminals v (after_turn v Synced) o.terminals coming refl (λ clear. sym (synced-broken v.scene.stage) ∙ clear) (λ pt no_cut. later-cuts pt v.calls Sync ok refl no_cut);
     }
 
 -- ---- the ends of runs, and their beginning
 
 -- no terminal is remembered, and there is no run
-nobody-leaves : (w : View) → w.scene.core.terminals ≡ [] → w.scene.setup ≡ None → w.items ≡ [] → is_opening w.scene.stage ≡ false → Leaves w
+nobody-leaves : (w : View) → w.scene.core ≡ no_core → w.scene.setup ≡ None → w.items ≡ [] → is_opening w.scene.stage ≡ false → Leaves w
 nobody-leaves w nobody no_setup items closed = record {
   read = λ setup is. subst (λ l. All (IsReadItem setup) l) (sym items) (All-nil (IsReadItem setup));
   quiet = λ opening. no-true (sym closed ∙ opening);
+  no_days = λ opening. no-true (sym closed ∙ opening);
+  numbered = subst IsNumbered (sym nobody) (no-fewer-than-none greatest_device_number);
   room = λ setup is running. absurd (let n : None ≡ Some setup = sym no_setup ∙ is in cc);
-  terminals = λ clear pt terminal found no_cut. absurd (none pt terminal (ap (λ l. slice_get l pt) (sym nobody) ∙ found));
+  terminals = λ clear pt terminal found no_cut. absurd (none pt terminal (ap (λ (c : Core). slice_get c.terminals pt) (sym nobody) ∙ found));
 }
   where
+    no-fewer-than-none : (count : ℕ) → 0 ≤ count
+    no-fewer-than-none count = omega arith
+
     none : (pt : ℕ) (terminal : Terminal) → slice_get [] pt ≡ Some terminal → ⊥
     none pt terminal found = cc
 
@@ -484,35 +563,45 @@ start-leaves laws v setup =
     record {
       read = λ other is. All-nil (IsReadItem other);
       quiet = λ opening. none;
+      no_days = λ opening. (laws.new setup (records_coming w)).1;
+      numbered = first_number greatest_device_number;
       room = λ other is running.
           let same : setup ≡ other = same-some setup other is in
-          subst (λ (s : Setup). length (records_coming w) + open_count_of (records_coming w) ≤ s.slots) same
-          (subst (λ l. length l + open_count_of l ≤ setup.slots) (sym coming) (taken-leaves-slots setup.slots (length v.scene.outside.file) (records_of v.scene) (not-true (opening setup v.scene.outside.file (records_of v.scene)).refused running)));
-      terminals = λ clear pt terminal found no_cut. laws.new setup (records_coming w) pt terminal found;
+          subst (λ (s : Setup). HasRoom s.slots (records_coming w) (new_core setup)) same
+          (with-no-days setup.slots (records_coming w) (new_core setup) (laws.new setup (records_coming w)).1
+          (subst (λ l. length l + open_count_of l ≤ setup.slots) (sym coming) (taken-leaves-slots setup.slots (length v.scene.outside.file) (records_of v.scene) (not-true (opening setup v.scene.outside.file (records_of v.scene)).refused running))));
+      terminals = λ clear pt terminal found no_cut. (laws.new setup (records_coming w)).0 pt terminal found;
     }
+  where
+    first_number : (count : ℕ) → 0 ≤ count
+    first_number count = omega arith
+
+-- a till that is gone leaves as many ends of day
+gone-counts : (laws : OrderLaws) (core : Core) (till : ℕ) → CountsStay core (core_without core till)
+gone-counts laws core till = (subst (λ days. days ≤ days_served core.terminals) (sym (laws.gone core till)) (no-fewer (days_served core.terminals)), refl)
 
 -- ---- each turn
 
 turn-leaves : OrderLaws → (log : List Turn) (v : View) (turn : Turn) → Ordered log v → AllowedTurn v turn → Leaves (after_turn v turn)
 turn-leaves laws log v (Start setup) o ok = start-leaves laws v setup
 turn-leaves laws log v OpenFailed o ok = nobody-leaves (after_turn v OpenFailed) refl refl refl refl
-turn-leaves laws log v (Polled now) o ok = event-leaves log v (after_turn v (Polled now)) o ok.running ok.calls refl refl refl refl refl (λ setup. read-due setup v.scene.core)
+turn-leaves laws log v (Polled now) o ok = event-leaves log v (after_turn v (Polled now)) o ok.running ok.calls refl refl refl refl refl refl (λ setup. read-due setup v.scene.core)
 turn-leaves laws log v (Opened till) o ok =
-    event-leaves log v (after_turn v (Opened till)) o (ap is_running ok.0) (o.owing.polled ok.0) refl refl refl refl refl
+    event-leaves log v (after_turn v (Opened till)) o (ap is_running ok.0) (o.owing.polled ok.0) refl refl refl refl refl refl
     (λ setup. All-append (IsReadItem setup) (till_opened_items till v.scene.outside.tills) (items_due v.scene.core) (read-opened setup till v.scene.outside.tills) (read-due setup v.scene.core))
 turn-leaves laws log v (HeardTill till bytes) o ok =
     let decoded : DecodedFrames = decode_after (decode_frames (heard_on v.scene.outside.tills till)).rest bytes in
-    event-leaves log v (after_turn v (HeardTill till bytes)) o (ap is_running ok.0.polled) (o.owing.polled ok.0.polled) refl refl refl refl refl
+    event-leaves log v (after_turn v (HeardTill till bytes)) o (ap is_running ok.0.polled) (o.owing.polled ok.0.polled) refl refl refl refl refl refl
     (λ setup. All-append (IsReadItem setup) (decoded_items till decoded) (items_due v.scene.core) (read-till setup till decoded) (read-due setup v.scene.core))
 turn-leaves laws log v (Closed till) o ok =
-    event-leaves log v (after_turn v (Closed till)) o (ap is_running ok.polled) (o.owing.polled ok.polled) refl refl refl refl refl (λ setup. All-cons (IsReadItem setup) (Gone till) (items_due v.scene.core) tt (read-due setup v.scene.core))
+    event-leaves log v (after_turn v (Closed till)) o (ap is_running ok.polled) (o.owing.polled ok.polled) refl refl refl refl refl refl (λ setup. All-cons (IsReadItem setup) (Gone till) (items_due v.scene.core) tt (read-due setup v.scene.core))
 turn-leaves laws log v (HeardPt pt bytes) o ok =
     let decoded : DecodedApdus = decode_apdus ((decode_apdus (heard_on v.scene.outside.links pt)).rest ++ bytes) in
-    event-leaves log v (after_turn v (HeardPt pt bytes)) o (ap is_running ok.0.polled) (o.owing.polled ok.0.polled) refl refl refl refl refl
+    event-leaves log v (after_turn v (HeardPt pt bytes)) o (ap is_running ok.0.polled) (o.owing.polled ok.0.polled) refl refl refl refl refl refl
     (λ setup. All-append (IsReadItem setup) (decoded_apdu_items pt decoded) (items_due v.scene.core) (read-pt setup pt decoded) (read-due setup v.scene.core))
 turn-leaves laws log v (Lost pt) o ok =
-    event-leaves log v (after_turn v (Lost pt)) o (ap is_running ok.polled) (o.owing.polled ok.polled) refl refl refl refl refl (λ setup. All-cons (IsReadItem setup) (LinkLost pt) (items_due v.scene.core) tt (read-due setup v.scene.core))
-turn-leaves laws log v Stopped o ok = event-leaves log v (after_turn v Stopped) o (ap is_running ok) (o.owing.polled ok) refl refl refl refl refl (λ setup. All-nil (IsReadItem setup))
+    event-leaves log v (after_turn v (Lost pt)) o (ap is_running ok.polled) (o.owing.polled ok.polled) refl refl refl refl refl refl (λ setup. All-cons (IsReadItem setup) (LinkLost pt) (items_due v.scene.core) tt (read-due setup v.scene.core))
+turn-leaves laws log v Stopped o ok = event-leaves log v (after_turn v Stopped) o (ap is_running ok) (o.owing.polled ok) refl refl refl refl refl refl (λ setup. All-nil (IsReadItem setup))
 turn-leaves laws log v (Linked pt) o ok =
     let k = call-setup v (LinkPt pt) o.agrees.run ok in
     let spares = spares-both (link_made_at v.scene pt).calls (later v.calls) (made-at-spares v.scene pt) (call-spares log v (LinkPt pt) o ok refl) in
@@ -525,25 +614,25 @@ turn-leaves laws log v (LinkFailed pt) o ok =
     (ap (λ l. l ++ v.items) (lost-brings-none v.scene pt)) (ap (λ (r : Row). r.core) (lost-at v.scene pt k.setup k.setup_is))
 turn-leaves laws log v (SentTill till bytes true) o ok =
     let w : View = after_turn v (SentTill till bytes true) in
-    call-leaves log v w (SendTill till ok.0) o ok.1 refl (call-spares log v (SendTill till ok.0) o ok.1 refl) refl refl refl refl refl
+    call-leaves log v w (SendTill till ok.0) o ok.1 refl (call-spares log v (SendTill till ok.0) o ok.1 refl) refl refl refl refl refl (same-counts v.scene.core)
     (λ coming. same-terminals v w o.terminals coming refl (stage-clear v w refl) (λ pt no_cut. later-cuts pt v.calls (SendTill till ok.0) ok.1 refl no_cut))
 turn-leaves laws log v (SentTill till bytes false) o ok =
     let w : View = after_turn v (SentTill till bytes false) in
-    call-leaves log v w (SendTill till ok.0) o ok.1 refl refl refl refl refl refl refl
+    call-leaves log v w (SendTill till ok.0) o ok.1 refl refl refl refl refl refl refl (same-counts v.scene.core)
     (λ coming. same-terminals v w o.terminals coming refl (stage-clear v w refl)
     (λ pt no_cut. last-cuts pt v.calls (SendTill till ok.0) ok.1 (call-last v.calls (SendTill till ok.0) (λ more. refl) ok.1 o.agrees.ends) refl))
 turn-leaves laws log v (SentPt number bytes true) o ok =
     let w : View = after_turn v (SentPt number bytes true) in
-    call-leaves log v w (SendPt number ok.0) o ok.1 refl (call-spares log v (SendPt number ok.0) o ok.1 refl) refl refl refl refl refl
+    call-leaves log v w (SendPt number ok.0) o ok.1 refl (call-spares log v (SendPt number ok.0) o ok.1 refl) refl refl refl refl refl (same-counts v.scene.core)
     (λ coming. same-terminals v w o.terminals coming refl (stage-clear v w refl) (λ pt no_cut. later-cuts pt v.calls (SendPt number ok.0) ok.1 refl no_cut))
 turn-leaves laws log v (SentPt number bytes false) o ok =
     let w : View = after_turn v (SentPt number bytes false) in
-    call-leaves log v w (SendPt number ok.0) o ok.1 refl refl refl refl refl refl refl
+    call-leaves log v w (SendPt number ok.0) o ok.1 refl refl refl refl refl refl refl (same-counts v.scene.core)
     (λ coming. same-terminals v w o.terminals coming refl (stage-clear v w refl)
     (λ pt no_cut. last-cuts pt v.calls (SendPt number ok.0) ok.1 (call-last v.calls (SendPt number ok.0) (λ more. refl) ok.1 o.agrees.ends) refl))
 turn-leaves laws log v (CutTill till) o ok =
     let w : View = after_turn v (CutTill till) in
-    call-leaves log v w (OwedCutTill till) o ok refl (call-spares log v (OwedCutTill till) o ok refl) refl refl refl refl refl
+    call-leaves log v w (OwedCutTill till) o ok refl (call-spares log v (OwedCutTill till) o ok refl) refl refl refl refl refl (gone-counts laws v.scene.core till)
     (λ coming clear pt terminal found no_cut.
     subst (λ l. IsTerminalInOrder l terminal) (sym coming)
     (forgotten-in-order (records_coming v) till v.scene.core pt terminal found (λ before there. o.terminals (stage-clear v w refl clear) pt before there (later-cuts pt v.calls (OwedCutTill till) ok refl no_cut))))
@@ -557,6 +646,8 @@ turn-leaves laws log v Synced o ok = synced-leaves log v o ok
 turn-leaves laws log v DiskFailed o ok = record {
   read = λ setup is. All-nil (IsReadItem setup);
   quiet = λ opening. no-true opening;
+  no_days = λ opening. no-true opening;
+  numbered = o.numbered;
   room = λ setup is running. no-true running;
   terminals = λ clear pt terminal found no_cut. no-true (sym clear);
 }
@@ -572,7 +663,9 @@ turn-ordered laws log v turn o ok =
       owing = move-owing o.owed v (Make turn) o.owing ok;
       read = l.read;
       quiet = l.quiet;
+      no_days = l.no_days;
       room = l.room;
+      numbered = l.numbered;
       terminals = l.terminals;
     }
 
@@ -588,7 +681,7 @@ course-ordered laws log v (Make turn ∷ moves) o c =
 pub first-ordered : Ordered [] at_first
 first-ordered =
     let l = nobody-leaves at_first refl refl refl refl in
-    record { agrees = first-agrees; keeps = KeepsOn.NoMoves; owed = []; owing = first-owing; read = l.read; quiet = l.quiet; room = l.room; terminals = l.terminals }
+    record { agrees = first-agrees; keeps = KeepsOn.NoMoves; owed = []; owing = first-owing; read = l.read; quiet = l.quiet; no_days = l.no_days; room = l.room; numbered = l.numbered; terminals = l.terminals }
 
 pub log-ordered : OrderLaws → (log : List Turn) (v : View) → Stands log v → Ordered log v
 log-ordered laws log v s = subst (λ w. Ordered log w) s.view_is (subst (λ l. Ordered l (view_from at_first s.course)) s.log_is (course-ordered laws [] at_first s.course first-ordered s.lawful))
@@ -642,3 +735,6 @@ ready-has-none-open laws log v pt terminal last s between found is = between-rec
 
 pub served-is-open : OrderLaws → ServedIsOpen
 served-is-open laws log v pt terminal slot last s between found is = between-records laws log v pt terminal (Serving (Transaction slot) last) s between found is
+
+pub day-served-is-unknown : OrderLaws → DayServedIsUnknown
+day-served-is-unknown laws log v pt terminal header period last s between found is = between-records laws log v pt terminal (Serving (EndOfDay header period) last) s between found is

@@ -19,7 +19,7 @@ use Rattle.gw_owes.specs.Core.{Core, Wait}
 use Rattle.gw_owes.specs.Events.{till_opened_items, has_bad_length, decoded_items, is_oversized, apdu_items, decoded_apdu_items, for_each_terminal, waits_by_deadline, items_due}
 use Rattle.gw_owes.specs.Items.{RoundItem, Crowded, Message, Asked, Unframed, Gone, Greet, Handle, Serve, NextWaiting, Oversized, LinkLost, Late, Overdue, Due}
 use Rattle.gw_owes.specs.ReadAs.{ReadAs, IsReadAs}
-use Rattle.gw_owes.specs.RecordLaws.{IsTerminalInOrder, IsReadItem, IsInOrder, NewCoreIsInOrder, EachRowKeepsInOrder, EachCutKeepsInOrder, EachLinkKeepsInOrder, EachRowBringsReadItems}
+use Rattle.gw_owes.specs.RecordLaws.{IsTerminalInOrder, IsReadItem, HasRoom, IsNumbered, IsInOrder, NewCoreIsInOrder, EachRowKeepsInOrder, EachCutKeepsInOrder, EachLinkKeepsInOrder, EachRowBringsReadItems, EachTillGoneLeavesDays}
 use Rattle.gw_owes.specs.Reply.{ReplyValue}
 use Rattle.gw_owes.specs.Requests.{reply_to, begun_by}
 use Rattle.gw_owes.specs.Row.{Known, Row, owing}
@@ -52,6 +52,7 @@ pub record OrderLaws : Type 0 where
   pub cuts : EachCutKeepsInOrder
   pub links : EachLinkKeepsInOrder
   pub items : EachRowBringsReadItems
+  pub gone : EachTillGoneLeavesDays
 
 -- ---- records
 
@@ -231,23 +232,25 @@ lost-brings-none scene pt = by_setup scene.setup
 -- what a row leaves in order: the records with those that it keeps
 pub record LeavesInOrder (known : Known) (row : Row) : Type 0 where
   pub folded : AreFolded (known.kept ++ records_kept row.calls)
-  pub room : length (known.kept ++ records_kept row.calls) + open_count_of (known.kept ++ records_kept row.calls) ≤ known.setup.slots
+  pub room : HasRoom known.setup.slots (known.kept ++ records_kept row.calls) row.core
+  pub numbered : IsNumbered row.core
   pub terminals : (pt : ℕ) (terminal : Terminal) → slice_get row.core.terminals pt ≡ Some terminal → cut_owed pt row.calls ≡ false → IsTerminalInOrder (known.kept ++ records_kept row.calls) terminal
 
 -- a row that keeps no record
-keeping-none : (known : Known) (row : Row) → IsInOrder known → records_kept row.calls ≡ [] → ((pt : ℕ) (terminal : Terminal) → slice_get row.core.terminals pt ≡ Some terminal → cut_owed pt row.calls ≡ false → IsTerminalInOrder known.kept terminal)
+keeping-none : (known : Known) (row : Row) → IsInOrder known → records_kept row.calls ≡ [] → HasRoom known.setup.slots known.kept row.core → IsNumbered row.core → ((pt : ℕ) (terminal : Terminal) → slice_get row.core.terminals pt ≡ Some terminal → cut_owed pt row.calls ≡ false → IsTerminalInOrder known.kept terminal)
     → LeavesInOrder known row
-keeping-none known row i none each =
+keeping-none known row i none room numbered each =
     let same : known.kept ++ records_kept row.calls ≡ known.kept = ap (λ l. known.kept ++ l) none ∙ append-nil known.kept in
     record {
       folded = subst AreFolded (sym same) i.folded;
-      room = subst (λ l. length l + open_count_of l ≤ known.setup.slots) (sym same) i.room;
+      room = subst (λ l. HasRoom known.setup.slots l row.core) (sym same) room;
+      numbered = numbered;
       terminals = λ pt terminal found no_cut. subst (λ l. IsTerminalInOrder l terminal) (sym same) (each pt terminal found no_cut);
     }
 
 -- and changes nothing
 owing-in-order : (known : Known) (calls : List OwedCall) (items : List RoundItem) → IsInOrder known → records_kept calls ≡ [] → LeavesInOrder known (record { core = known.core; calls = calls; items = items })
-owing-in-order known calls items i none = keeping-none known (record { core = known.core; calls = calls; items = items }) i none (λ pt terminal found no_cut. i.terminals pt terminal found)
+owing-in-order known calls items i none = keeping-none known (record { core = known.core; calls = calls; items = items }) i none i.room i.numbered (λ pt terminal found no_cut. i.terminals pt terminal found)
 
 reply-keeps-none : (till : ℕ) (known : Known) (as_read : ReadAs) → records_kept (reply_calls_to (Some till) (reply_to known as_read)) ≡ []
 reply-keeps-none till known as_read = by_reply (reply_to known as_read)
@@ -267,7 +270,7 @@ forgotten-in-order kept till core pt terminal found each =
     let old : Terminal = there.0 in
     let same : forgets_till till old ≡ terminal = same-some (forgets_till till old) terminal (sym (there-image (forgets_till till) core.terminals pt old there.1) ∙ found) in
     let h : IsTerminalInOrder kept old = each old there.1 in
-    let new : IsTerminalInOrder kept (forgets_till till old) = record { records = h.records; read = h.read; few = h.few } in
+    let new : IsTerminalInOrder kept (forgets_till till old) = record { records = h.records; read = h.read } in
     subst (IsTerminalInOrder kept) same new
 
 -- the row of an item of a terminal
@@ -277,11 +280,11 @@ terminal-in-order laws known item number is of i read = by_cut (owes_cut (termin
     by_cut : (test : Bool) → owes_cut (terminal_row known item).calls ≡ test → LeavesInOrder known (terminal_row known item)
     by_cut true cuts =
         let k = laws.cuts known item number is i cuts in
-        keeping-none known (terminal_row known item) i k.0
-        (λ pt terminal found no_cut. k.1 pt terminal (λ same. no-true (sym no_cut ∙ ap (λ n. cut_owed n (terminal_row known item).calls) same ∙ (own-owed number known.moment (terminal_row known item).calls of).1 ∙ cuts)) found)
+        keeping-none known (terminal_row known item) i k.none_kept k.room k.numbered
+        (λ pt terminal found no_cut. k.others pt terminal (λ same. no-true (sym no_cut ∙ ap (λ n. cut_owed n (terminal_row known item).calls) same ∙ (own-owed number known.moment (terminal_row known item).calls of).1 ∙ cuts)) found)
     by_cut false e =
         let k = laws.rows known item i read e in
-        record { folded = k.folded; room = k.room; terminals = λ pt terminal found no_cut. k.terminals pt terminal found }
+        record { folded = k.folded; room = k.room; numbered = k.numbered; terminals = λ pt terminal found no_cut. k.terminals pt terminal found }
 
 pub rows-in-order : OrderLaws → (tills : List Connection) (known : Known) (item : RoundItem) → IsInOrder known → IsReadItem known.setup item → LeavesInOrder known (row_of tills known item)
 rows-in-order laws tills known (Crowded till) i read = owing-in-order known (OwedCutTill till ∷ []) [] i refl
@@ -291,7 +294,7 @@ rows-in-order laws tills known (Asked till as_read) i read =
 rows-in-order laws tills known (Unframed till) i read =
     by-where (LeavesInOrder known) known (owing known (OwedCutTill till ∷ [])) (is_connected tills till) (owing-in-order known [] [] i refl) (λ there. owing-in-order known (OwedCutTill till ∷ []) [] i refl)
 rows-in-order laws tills known (Gone till) i read =
-    keeping-none known (row_of tills known (Gone till)) i refl (λ pt terminal found no_cut. forgotten-in-order known.kept till known.core pt terminal found (i.terminals pt))
+    keeping-none known (row_of tills known (Gone till)) i refl (subst (λ days. length known.kept + (open_count_of known.kept + days) ≤ known.setup.slots) (sym (laws.gone known.core till)) i.room) i.numbered (λ pt terminal found no_cut. forgotten-in-order known.kept till known.core pt terminal found (i.terminals pt))
 rows-in-order laws tills known (Greet number apdu) i read = terminal-in-order laws known (Greet number apdu) number refl (rows-of tills known (Greet number apdu)) i read
 rows-in-order laws tills known (Handle number apdu) i read = terminal-in-order laws known (Handle number apdu) number refl (rows-of tills known (Handle number apdu)) i read
 rows-in-order laws tills known (Serve number till header request) i read = terminal-in-order laws known (Serve number till header request) number refl (rows-of tills known (Serve number till header request)) i read

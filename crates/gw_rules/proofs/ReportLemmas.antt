@@ -63,6 +63,7 @@ ready-stays known pt apdu last (own, found, ready) =
     let standing : terminal.standing ≡ Ready last = ap (λ (t : Terminal). t.standing) same ∙ ready in
     subst (λ s. HasStanding (consequence known pt (taking terminal message known.moment) (meaning_at terminal message) s).core pt (Ready last)) (sym standing)
     (taking terminal message known.moment, new-is-there known.core.terminals pt terminal (taking terminal message known.moment) there, standing))
+    (λ terminal message there linked is taken at stays. stays)
 
 -- a message that doesn't end an enquiry leaves it going on
 enquiring-stays : (known : Known) (pt : ℕ) (terminal : Terminal) (meant : Heard) → is_end meant ≡ false → enquiring known pt terminal meant ≡ staying known pt terminal
@@ -114,6 +115,7 @@ enquiring-goes-on = record {
   linked = refl;
   on = λ terminal is. rw is refl;
   stays = λ known pt terminal meant goes. enquiring-stays known pt terminal meant goes;
+  keyless = λ kept. refl;
 }
 
 -- ---- in the round

@@ -9,24 +9,31 @@ use Rattle.zvt_talk.specs.Came.{is_taken}
 use Rattle.zvt_talk.specs.declared.meaning.Heard.{Heard}
 use Rattle.zvt_talk.specs.declared.meaning.Heard.TheVariants as heard
 use Rattle.jrn_record.specs.declared.records.Outcome.{Outcome as TheOutcome}
+use Rattle.jrn_record.specs.declared.records.Settled.{Settled as TheSettled}
 use Rattle.gw_ledger.specs.declared.entry.Entry.{Entry as TheEntry}
 use Rattle.sale_values.specs.declared.header.Header.{Header}
 use Rattle.sale_values.specs.declared.request.Reference.{Reference}
 use Rattle.sale_values.specs.declared.request.SaleRequest.{SaleRequest}
 use Rattle.sale_values.specs.declared.request.SaleRequest.TheVariants as requests
 use Rattle.sale_values.specs.Key.{key_of}
+use Rattle.sale_reply.specs.declared.reply.Shown.{Shown}
+use Rattle.gw_owes.specs.DeviceRequests.{requests_device}
 use Rattle.gw_owes.specs.Diagnosis.{NamedTerminal, named_terminal}
-use Rattle.gw_owes.specs.Handling.{taking, meaning_at, enquires, registering, enquiring, serving_other, serving, consequence, handle_row}
+use Rattle.gw_owes.specs.Displays.{display_result, serving_display}
+use Rattle.gw_owes.specs.Handling.{taking, meaning_at, enquires, registering, enquiring, serving, consequence, handle_row}
 use Rattle.gw_owes.specs.Items.{RoundItem, Serve}
 use Rattle.gw_owes.specs.Links.{is_linked}
 use Rattle.gw_owes.specs.ReadAs.{ReadAs, Request, Silent, NoMessage, NoJson}
+use Rattle.gw_owes.specs.Reconciliations.{settle_calls, serving_day}
+use Rattle.gw_owes.specs.Reply.{ReplyValue}
 use Rattle.gw_owes.specs.Reports.{Report, on_record, standing_reported, outcome_reported, report_of_open, report_against}
 use Rattle.gw_owes.specs.Requests.{begun_at, begun_by}
 use Rattle.gw_owes.specs.Row.{Known, Row, owing_nothing}
-use Rattle.gw_owes.specs.Serving.{at_rest, staying, breaking, stops, resolves, approved_outcome, approved_row, serving_transaction}
+use Rattle.gw_owes.specs.Serving.{at_rest, done_with, staying, breaking, stops, resolves, approved_outcome, approved_row, serving_transaction}
+use Rattle.gw_owes.specs.SessionRows.{session_result}
 use Rattle.gw_owes.specs.Steps.{StepResult, KeptReply, Fails, Begins, step_result, item_of_result, items_of_result}
 use Rattle.gw_owes.specs.Stops.{serves_key, stop_items_at}
-use Rattle.gw_owes.specs.Terminals.{terminal_at, terminal_becomes}
+use Rattle.gw_owes.specs.Terminals.{terminal_at, terminal_becomes, reply_calls_to}
 use Rattle.gw_owes.specs.Transcript.{Carried, Wished, wished_of, wished_for}
 use Rattle.gw_owes.specs.declared.terminal.Service.{Service}
 use Rattle.gw_owes.specs.declared.terminal.Service.TheVariants.{Transaction, EndOfDay, Display}
@@ -48,6 +55,12 @@ pub record EachForm (P : Row → Type 0) (known : Known) (number : ℕ) (termina
   pub rests : (standing : Standing) → is_linked standing ≡ true → P (terminal_becomes known number (at_rest terminal standing) [])
   -- what it serves has its end
   pub resolves : (standing : Standing) (outcome : TheOutcome) → is_linked standing ≡ true → P (resolves known number terminal standing outcome)
+  -- its end of day is done, and settled
+  pub settles : (last : ℕ) (settled : TheSettled) → P (terminal_becomes known number (done_with terminal (Ready last)) (settle_calls known.kept terminal.asker settled))
+  -- its end of day is declined, or its display ends: nothing is kept, and its till gets the reply, where there is one
+  pub replies : (last : ℕ) (reply : Option ReplyValue) → P (terminal_becomes known number (done_with terminal (Ready last)) (reply_calls_to terminal.asker reply))
+  -- what it shows or prints is shown or printed at its till
+  pub requests : (till : ℕ) (request : ReplyValue) → terminal.asker ≡ Some till → P (requests_device known number terminal till request)
 
 module _ (P : Row → Type 0) (known : Known) (number : ℕ) (terminal : Terminal) (each : EachForm P known number terminal) where
   form-registering : (meant : Heard) → P (registering known number terminal meant)
@@ -116,24 +129,37 @@ module _ (P : Row → Type 0) (known : Known) (number : ℕ) (terminal : Termina
   form-transaction slot last heard.Unclear = each.cuts
   form-transaction slot last heard.Stray = each.stays
 
-  form-other : (meant : Heard) → P (serving_other known number terminal meant)
-  form-other (heard.Begun true) = each.stops
-  form-other (heard.Begun false) = each.stays
-  form-other (heard.Note intermediate_status) = each.stays
-  form-other heard.Line = each.stays
-  form-other heard.Block = each.stays
-  form-other heard.Seen = each.stays
-  form-other (heard.Approved figures) = each.stays
-  form-other heard.Done = each.stays
-  form-other (heard.Told reported approved result_code) = each.stays
-  form-other (heard.Declined result_code reported) = each.stays
-  form-other heard.Unclear = each.cuts
-  form-other heard.Stray = each.stays
+  form-day : (last : ℕ) (header : Header) (meant : Heard) → P (serving_day known number terminal last header meant)
+  form-day last header (heard.Begun true) = each.stops
+  form-day last header (heard.Begun false) = each.stays
+  form-day last header (heard.Note intermediate_status) = each.stays
+  form-day last header heard.Line = each.stays
+  form-day last header heard.Block = each.stays
+  form-day last header heard.Seen = each.stays
+  form-day last header (heard.Approved figures) = each.stays
+  form-day last header heard.Done = each.settles last _
+  form-day last header (heard.Told reported approved result_code) = each.stays
+  form-day last header (heard.Declined result_code reported) = each.replies last _
+  form-day last header heard.Unclear = each.cuts
+  form-day last header heard.Stray = each.stays
+
+  form-display : (last : ℕ) (header : Header) (results : Option (List Shown)) (meant : Heard) → P (serving_display known number terminal last header results meant)
+  form-display last header results (heard.Begun stop) = each.stays
+  form-display last header results (heard.Note intermediate_status) = each.stays
+  form-display last header results heard.Line = each.stays
+  form-display last header results heard.Block = each.stays
+  form-display last header results heard.Seen = each.stays
+  form-display last header results (heard.Approved figures) = each.stays
+  form-display last header results heard.Done = each.replies last _
+  form-display last header results (heard.Told reported approved result_code) = each.stays
+  form-display last header results (heard.Declined result_code reported) = each.replies last _
+  form-display last header results heard.Unclear = each.cuts
+  form-display last header results heard.Stray = each.stays
 
   form-serving : (service : Service) (last : ℕ) (meant : Heard) → P (serving known number terminal service last meant)
   form-serving (Transaction slot) last meant = form-transaction slot last meant
-  form-serving (EndOfDay header period) last meant = form-other meant
-  form-serving (Display header outputs) last meant = form-other meant
+  form-serving (EndOfDay header period) last meant = form-day last header meant
+  form-serving (Display header results) last meant = form-display last header results meant
 
   pub form-consequence : (meant : Heard) (standing : Standing) → P (consequence known number terminal meant standing)
   form-consequence meant (Unlinked due) = each.nothing
@@ -152,10 +178,11 @@ form-handled P known number apdu none each =
     each-handled P known number apdu none
     (λ terminal message found linked is taken.
     form-consequence P known number (taking terminal message known.moment) (each terminal message found linked is taken) (meaning_at terminal message) terminal.standing)
+    (λ terminal message found linked is taken at stays. (each terminal message found linked is taken).requests at.till at.request at.asker_is)
 
 -- ---- what a till's message begins
 
--- what holds of no item, and of the one with which a terminal begins to serve the request or to stop what it serves, holds of what a message begins
+-- what holds of no item, and of the one with which the request is begun at a terminal, or stops what that serves, holds of what a message begins
 module _ (P : List RoundItem → Type 0) (known : Known) (till : ℕ) (none : P []) where
   form-result : (header : Header) (request : SaleRequest) (number : ℕ) (given : StepResult) → P (Serve number till header request ∷ []) → P (item_of_result till header request number given)
   form-result header request number KeptReply some = none
@@ -176,14 +203,14 @@ module _ (P : List RoundItem → Type 0) (known : Known) (till : ℕ) (none : P 
       form-stop-where (serves_key known.kept (key_of header reference) named.terminal) (Serve named.number till header (requests.Abort reference)) (some named.number)
 
   form-begun-at : (named : Option NamedTerminal) (header : Header) (request : SaleRequest) → ((number : ℕ) → P (Serve number till header request ∷ [])) → P (begun_at named known till header request)
-  form-begun-at named header requests.Login some = none
-  form-begun-at named header requests.Logout some = none
+  form-begun-at named header requests.Login some = form-results header requests.Login named (session_result known header requests.Login named) some
+  form-begun-at named header requests.Logout some = form-results header requests.Logout named (session_result known header requests.Logout named) some
   form-begun-at named header (requests.Payment ask) some = form-results header (requests.Payment ask) named (step_result known header (requests.Payment ask) named) some
   form-begun-at named header (requests.Reversal ask) some = form-results header (requests.Reversal ask) named (step_result known header (requests.Reversal ask) named) some
   form-begun-at named header (requests.Abort reference) some = form-stop header reference (named_terminal known.core (key_of header reference).poi) some
   form-begun-at named header (requests.Status reference) some = none
   form-begun-at named header (requests.Reconciliation period) some = form-results header (requests.Reconciliation period) named (step_result known header (requests.Reconciliation period) named) some
-  form-begun-at named header (requests.Display outputs) some = none
+  form-begun-at named header (requests.Display outputs) some = form-results header (requests.Display outputs) named (display_result outputs named) some
   form-begun-at named header (requests.Print qualifier) some = none
   form-begun-at named header requests.Diagnosis some = none
 

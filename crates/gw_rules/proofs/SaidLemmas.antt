@@ -5,6 +5,10 @@ use Rattle.gw_base.specs.declared.setup.Setup.{Setup}
 use Rattle.gw_site.specs.Outside.{outside_of}
 use Rattle.gw_site.specs.declared.turn.Turn.{Turn}
 use Rattle.gw_site.specs.declared.turn.Turn.TheVariants.{Start, OpenFailed, Polled, Opened, HeardTill, Closed, HeardPt, Lost, Stopped, Linked, LinkFailed, SentTill, SentPt, CutTill, CutPt, Wrote, Synced, DiskFailed, Crash}
+use Rattle.sale_values.specs.declared.header.Header.{Header}
+use Rattle.sale_values.specs.declared.request.SaleRequest.{SaleRequest}
+use Rattle.sale_values.specs.declared.request.SaleRequest.TheVariants as requests
+use Rattle.sale_values.specs.Key.{key_of}
 use Rattle.zvt_apdu.specs.Grammar.{ApduValue}
 use Rattle.zvt_msg.specs.Message.{MessageValue}
 use Rattle.zvt_msg.specs.MessageDecode.{decode_pt_message}
@@ -13,21 +17,23 @@ use Rattle.zvt_talk.specs.Came.{is_taken}
 use Rattle.gw_owes.specs.Calls.{Sending, Ask, Acknowledge, Refuse, OwedCall, SendTill, LinkPt, WriteBody, WriteGate, WriteFirstGate, Sync, SendPt as OwedSendPt, CutTill as OwedCutTill, CutPt as OwedCutPt}
 use Rattle.gw_owes.specs.Items.{RoundItem, Crowded, Message, Asked, Unframed, Gone, Greet, Handle, Serve, NextWaiting, Oversized, LinkLost, Late, Overdue, Due}
 use Rattle.gw_owes.specs.Links.{is_linked}
+use Rattle.gw_owes.specs.ReadAs.{Request}
 use Rattle.gw_owes.specs.Reports.{on_record, least_reported}
 use Rattle.gw_owes.specs.Row.{Known}
+use Rattle.gw_owes.specs.Stops.{serves_key}
 use Rattle.gw_owes.specs.TerminalRows.{terminal_of, is_link_lost}
 use Rattle.gw_owes.specs.Terminals.{terminal_at}
-use Rattle.gw_owes.specs.Transcript.{Carried, Commanded, Took, Wished, commanded, took_decoded, took_of, took_by, is_number}
+use Rattle.gw_owes.specs.Transcript.{Carried, Commanded, Took, Wished, commanded, took_decoded, took_of, wished_of, wished_for, took_by, is_number}
 use Rattle.gw_owes.specs.declared.terminal.Terminal.{Terminal}
 use Rattle.gw_rules.specs.CutCauses.{HasSaidApdu}
 use Rattle.gw_rules.specs.Lawful.{IsCourse, turns_of, Stands}
 use Rattle.gw_rules.specs.Scene.{known_in}
 use Rattle.gw_rules.specs.TranscriptLaws.{command_to, command_next, transcript_with, transcript_in, transcript_begun, transcript_made, transcript_from, AreSaid, EachMessageWasSaid}
+use Rattle.gw_rules.specs.TillRounds.{HasAsked}
 use Rattle.gw_rules.specs.View.{View, Move, Begin, Read, Make, after, after_turn, at_first}
 use Rattle.gw_rules.proofs.CourseLemmas.{stands-more, stands-outside}
 use Rattle.gw_rules.proofs.CutCauseLemmas.{IsBrought, AreBrought, HasCauses, moves-causes}
 use Rattle.gw_rules.proofs.LinkedLemmas.{Agrees, first-agrees, move-agrees}
-use Rattle.gw_rules.proofs.RowFormLemmas.{form-wished}
 
 -- ---- logs that go on
 
@@ -39,7 +45,9 @@ said-on log more pt (Took message moment last ∷ earlier) said =
       record { before = first.before; rest = first.rest ++ more; log_is = ap (λ l. l ++ more) first.log_is ∙ append_assoc first.before first.rest more; moment_is = first.moment_is; apdu = first.apdu; said = first.said; decoded = first.decoded },
       said-on log more pt earlier said.1,
     )
-said-on log more pt (Wished ∷ earlier) said = said-on log more pt earlier said
+said-on log more pt (Wished ∷ earlier) said =
+    let first = said.0 in
+    (record { before = first.before; rest = first.rest ++ more; log_is = ap (λ l. l ++ more) first.log_is ∙ append_assoc first.before first.rest more; till = first.till; header = first.header; reference = first.reference; asked = first.asked }, said-on log more pt earlier said.1)
 
 -- ---- items that begin
 
@@ -64,6 +72,28 @@ handled-said log pt known apdu (Some terminal) transcript now said h = by_linked
     by_linked true = by_decoded (decode_pt_message apdu) refl
     by_linked false = h
 
+-- a stop that is wished
+wished-said : (log : List Turn) (pt : ℕ) (known : Known) (number till : ℕ) (header : Header) (request : SaleRequest) (transcript : List Carried) → HasAsked log till (Request header request) → AreSaid log pt transcript
+    → AreSaid log pt (wished_for known number header request ++ transcript)
+wished-said log pt known number till header requests.Login transcript asked h = h
+wished-said log pt known number till header requests.Logout transcript asked h = h
+wished-said log pt known number till header (requests.Payment ask) transcript asked h = h
+wished-said log pt known number till header (requests.Reversal ask) transcript asked h = h
+wished-said log pt known number till header (requests.Abort reference) transcript asked h = by_terminal (terminal_at known number)
+  where
+    by_serves : (serves : Bool) → AreSaid log pt ((if serves then Wished ∷ [] else []) ++ transcript)
+    by_serves true = (record { before = log; rest = []; log_is = sym (append-nil log); till = till; header = header; reference = reference; asked = asked }, h)
+    by_serves false = h
+
+    by_terminal : (terminal : Option Terminal) → AreSaid log pt (wished_of known.kept (key_of header reference) terminal ++ transcript)
+    by_terminal None = h
+    by_terminal (Some terminal) = by_serves (serves_key known.kept (key_of header reference) terminal)
+wished-said log pt known number till header (requests.Status reference) transcript asked h = h
+wished-said log pt known number till header (requests.Reconciliation period) transcript asked h = h
+wished-said log pt known number till header (requests.Display outputs) transcript asked h = h
+wished-said log pt known number till header (requests.Print qualifier) transcript asked h = h
+wished-said log pt known number till header requests.Diagnosis transcript asked h = h
+
 took-said : (log : List Turn) (pt : ℕ) (known : Known) (item : RoundItem) (transcript : List Carried) → (outside_of log).moment ≡ known.moment → is_number pt (terminal_of item) ≡ true → IsBrought log item → AreSaid log pt transcript
     → AreSaid log pt (took_by known item ++ transcript)
 took-said log pt known (Crowded till) transcript now own brought h = h
@@ -74,7 +104,7 @@ took-said log pt known (Gone till) transcript now own brought h = h
 took-said log pt known (Greet number apdu) transcript now own brought h = h
 took-said log pt known (Handle number apdu) transcript now own brought h =
     handled-said log pt known apdu (terminal_at known number) transcript now (subst (λ n. HasSaidApdu log n apdu) (eqb-true number pt own) brought) h
-took-said log pt known (Serve number till header request) transcript now own brought h = form-wished (λ l. AreSaid log pt (l ++ transcript)) known number header request h h
+took-said log pt known (Serve number till header request) transcript now own brought h = wished-said log pt known number till header request transcript brought h
 took-said log pt known (NextWaiting number) transcript now own brought h = h
 took-said log pt known (Oversized number) transcript now own brought h = h
 took-said log pt known (LinkLost number) transcript now own brought h = h

@@ -1,5 +1,5 @@
 -- What a row owes on the disk: nothing, or that one record is kept in the next slot.
-use Rattle.std.proofs.Common.{◌≡◌, ℕ, Bool, true, false, List, [], ◌∷◌, ◌++◌, length, refl, inl, inr}
+use Rattle.std.proofs.Common.{◌≡◌, ℕ, Bool, true, false, List, [], ◌∷◌, ◌++◌, length, refl, sym, inl, inr}
 use Rattle.std.specs.Prelude.{◌⊎◌, Option, Some, None, Result, Ok, Err}
 use Rattle.gw_base.specs.declared.setup.Setup.{Setup}
 use Rattle.gw_site.specs.Outside.{Connection, is_connected}
@@ -7,7 +7,8 @@ use Rattle.zvt_msg.specs.declared.fault.PtFault.{PtFault}
 use Rattle.zvt_msg.specs.Message.{MessageValue, Ack, Nack, Intermediate, Line, Block, Status, Completion, Abort, Other}
 use Rattle.zvt_msg.specs.MessageDecode.{decode_pt_message}
 use Rattle.jrn_record.specs.declared.records.Record.{Record}
-use Rattle.jrn_record.specs.declared.records.Record.TheVariants.{Intent, Outcome}
+use Rattle.jrn_record.specs.declared.records.Record.TheVariants.{Intent, Outcome, Settled}
+use Rattle.jrn_record.specs.declared.records.Settled.{Settled as TheSettled}
 use Rattle.sale_values.specs.declared.header.Header.{Header}
 use Rattle.sale_values.specs.declared.request.SaleRequest.{SaleRequest}
 use Rattle.xlate.specs.Ask.{ask}
@@ -17,6 +18,7 @@ use Rattle.gw_owes.specs.Greeting.{greeting, sending_calls, greet_decoded}
 use Rattle.gw_owes.specs.Items.{RoundItem, Crowded, Message, Asked, Unframed, Gone, Greet, Handle, Serve, NextWaiting, Oversized, LinkLost, Late, Overdue, Due}
 use Rattle.gw_owes.specs.Links.{cutting}
 use Rattle.gw_owes.specs.Payments.{serve_row}
+use Rattle.gw_owes.specs.Reconciliations.{settle_calls, reply_to_settled}
 use Rattle.gw_owes.specs.Reply.{ReplyValue}
 use Rattle.gw_owes.specs.Requests.{reply_to}
 use Rattle.gw_owes.specs.Row.{Known, Row, owing, owing_where}
@@ -29,7 +31,9 @@ use Rattle.gw_owes.proofs.PaymentLemmas.{each-served}
 use Rattle.gw_rules.specs.JournalFiles.{spare_disk}
 use Rattle.gw_rules.specs.Scene.{Scene, known_in, row_in, link_made_at, link_lost_at}
 use Rattle.gw_rules.specs.View.{begin}
+use Rattle.gw_rules.proofs.LinkStateLemmas.{is_serve}
 use Rattle.gw_rules.proofs.RowFormLemmas.{EachForm, form-handled}
+use Rattle.gw_rules.proofs.StageLemmas.{no-true}
 
 -- these calls keep one record in the slot after those of the records that are kept, and no later one is on the disk
 pub record KeepsNext (kept : List Record) (calls : List OwedCall) : Type 0 where
@@ -42,7 +46,7 @@ pub record KeepsNext (kept : List Record) (calls : List OwedCall) : Type 0 where
 abbrev pub KeepsOne : List Record → List OwedCall → Type 0
 KeepsOne kept calls = (spare_disk calls ≡ true) ⊎ KeepsNext kept calls
 
-abbrev Spares : Row → Type 0
+abbrev pub Spares : Row → Type 0
 Spares row = spare_disk row.calls ≡ true
 
 reply-spares : (asker : Option ℕ) (reply : Option ReplyValue) → spare_disk (reply_calls_to asker reply) ≡ true
@@ -88,6 +92,10 @@ greet-spares known number (Err fault) = each-linked Spares known number (λ term
 abbrev RowKeeps : Known → Row → Type 0
 RowKeeps known row = KeepsOne known.kept row.calls
 
+-- what settles keeps one
+settle-keeps : (kept : List Record) (asker : Option ℕ) (settled : TheSettled) → KeepsNext kept (settle_calls kept asker settled)
+settle-keeps kept asker settled = record { the_record = Settled settled; more = reply_calls_to asker (reply_to_settled kept settled); calls_are = refl; spares = reply-spares asker (reply_to_settled kept settled) }
+
 forms-keep : (known : Known) (number : ℕ) (terminal : Terminal) → EachForm (RowKeeps known) known number terminal
 forms-keep known number terminal = record {
   nothing = inl refl;
@@ -102,13 +110,22 @@ forms-keep known number terminal = record {
     calls_are = refl;
     spares = reply-spares terminal.asker (reply_to_outcome known.kept outcome.slot outcome);
   });
+  settles = λ last settled. inr (settle-keeps known.kept terminal.asker settled);
+  replies = λ last reply. inl (reply-spares terminal.asker reply);
+  requests = λ till request asks. inl refl;
 }
 
 serve-keeps : (known : Known) (number till : ℕ) (header : Header) (request : SaleRequest) → RowKeeps known (serve_row known number till header request)
-serve-keeps known number till header request = each-served (RowKeeps known) known number till header request (inl refl)
-    (λ terminal last asking at.
-    inr (record { the_record = Intent asking.intent; more = SendPt number (Ask (ask asking.intent asking.original terminal.pt)) ∷ []; calls_are = refl; spares = refl }))
-    (λ terminal talk at now. inl refl) (λ terminal talk at later. inl refl)
+serve-keeps known number till header request = each-served (RowKeeps known) known number till header request (record {
+  none = inl refl;
+  begins = λ terminal last asking at. inr (record { the_record = Intent asking.intent; more = SendPt number (Ask (ask asking.intent asking.original terminal.pt)) ∷ []; calls_are = refl; spares = refl });
+  sent = λ terminal talk at now. inl refl;
+  wished = λ terminal talk at later. inl refl;
+  session = λ success. inl refl;
+  settles = λ terminal at. inr (settle-keeps known.kept (Some till) _);
+  day = λ terminal last at. inl refl;
+  displays = λ terminal last outputs command at. inl refl;
+})
 
 -- ---- what may be due
 
@@ -122,21 +139,54 @@ due-spares known number = each-terminal Spares known number (λ terminal. owing_
 
 -- ---- each row
 
+-- an item that neither handles a message of a terminal nor begins to serve keeps none
+abbrev pub is_handle : RoundItem → Bool
+is_handle (Crowded till) = false
+is_handle (Message till bytes) = false
+is_handle (Asked till as_read) = false
+is_handle (Unframed till) = false
+is_handle (Gone till) = false
+is_handle (Greet number apdu) = false
+is_handle (Handle number apdu) = true
+is_handle (Serve number till header request) = false
+is_handle (NextWaiting number) = false
+is_handle (Oversized number) = false
+is_handle (LinkLost number) = false
+is_handle (Late number) = false
+is_handle (Overdue key) = false
+is_handle (Due number) = false
+
+pub others-spare : (tills : List Connection) (known : Known) (item : RoundItem) → is_handle item ≡ false → is_serve item ≡ false → Spares (row_of tills known item)
+others-spare tills known (Crowded till) no_handle no_serve = refl
+others-spare tills known (Message till bytes) no_handle no_serve = refl
+others-spare tills known (Asked till as_read) no_handle no_serve = where-spares (is_connected tills till) known (asked_row known till as_read) (reply-spares (Some till) (reply_to known as_read))
+others-spare tills known (Unframed till) no_handle no_serve = where-spares (is_connected tills till) known (owing known (CutTill till ∷ [])) refl
+others-spare tills known (Gone till) no_handle no_serve = refl
+others-spare tills known (Greet number apdu) no_handle no_serve = greet-spares known number (decode_pt_message apdu)
+others-spare tills known (Handle number apdu) no_handle no_serve = no-true (sym no_handle)
+others-spare tills known (Serve number till header request) no_handle no_serve = no-true (sym no_serve)
+others-spare tills known (NextWaiting number) no_handle no_serve = refl
+others-spare tills known (Oversized number) no_handle no_serve = each-linked Spares known number (λ terminal. cutting known number) refl (λ terminal found linked. cutting-spares known number)
+others-spare tills known (LinkLost number) no_handle no_serve = lost-spares known number
+others-spare tills known (Late number) no_handle no_serve = late-spares known number
+others-spare tills known (Overdue key) no_handle no_serve = refl
+others-spare tills known (Due number) no_handle no_serve = due-spares known number
+
 rows-keep-one : (tills : List Connection) (known : Known) (item : RoundItem) → RowKeeps known (row_of tills known item)
-rows-keep-one tills known (Crowded till) = inl refl
-rows-keep-one tills known (Message till bytes) = inl refl
-rows-keep-one tills known (Asked till as_read) = inl (where-spares (is_connected tills till) known (asked_row known till as_read) (reply-spares (Some till) (reply_to known as_read)))
-rows-keep-one tills known (Unframed till) = inl (where-spares (is_connected tills till) known (owing known (CutTill till ∷ [])) refl)
-rows-keep-one tills known (Gone till) = inl refl
-rows-keep-one tills known (Greet number apdu) = inl (greet-spares known number (decode_pt_message apdu))
+rows-keep-one tills known (Crowded till) = inl (others-spare tills known (Crowded till) refl refl)
+rows-keep-one tills known (Message till bytes) = inl (others-spare tills known (Message till bytes) refl refl)
+rows-keep-one tills known (Asked till as_read) = inl (others-spare tills known (Asked till as_read) refl refl)
+rows-keep-one tills known (Unframed till) = inl (others-spare tills known (Unframed till) refl refl)
+rows-keep-one tills known (Gone till) = inl (others-spare tills known (Gone till) refl refl)
+rows-keep-one tills known (Greet number apdu) = inl (others-spare tills known (Greet number apdu) refl refl)
 rows-keep-one tills known (Handle number apdu) = form-handled (RowKeeps known) known number apdu (inl refl) (λ terminal message found linked is taken. forms-keep known number _)
 rows-keep-one tills known (Serve number till header request) = serve-keeps known number till header request
-rows-keep-one tills known (NextWaiting number) = inl refl
-rows-keep-one tills known (Oversized number) = inl (each-linked Spares known number (λ terminal. cutting known number) refl (λ terminal found linked. cutting-spares known number))
-rows-keep-one tills known (LinkLost number) = inl (lost-spares known number)
-rows-keep-one tills known (Late number) = inl (late-spares known number)
-rows-keep-one tills known (Overdue key) = inl refl
-rows-keep-one tills known (Due number) = inl (due-spares known number)
+rows-keep-one tills known (NextWaiting number) = inl (others-spare tills known (NextWaiting number) refl refl)
+rows-keep-one tills known (Oversized number) = inl (others-spare tills known (Oversized number) refl refl)
+rows-keep-one tills known (LinkLost number) = inl (others-spare tills known (LinkLost number) refl refl)
+rows-keep-one tills known (Late number) = inl (others-spare tills known (Late number) refl refl)
+rows-keep-one tills known (Overdue key) = inl (others-spare tills known (Overdue key) refl refl)
+rows-keep-one tills known (Due number) = inl (others-spare tills known (Due number) refl refl)
 
 in-spares : (scene : Scene) (row : Known → Row) (setup : Option Setup) → ((known : Known) → Spares (row known)) → Spares (row_in scene row setup)
 in-spares scene row None each = refl

@@ -15,6 +15,7 @@ use Rattle.zvt_msg.specs.declared.fault.PtFault.{PtFault}
 use Rattle.sale_values.specs.declared.header.Header.{Header}
 use Rattle.sale_values.specs.declared.request.SaleRequest.{SaleRequest}
 use Rattle.gw_ledger.specs.History.{history}
+use Rattle.jrn_record.specs.declared.records.How.TheVariants as hows
 use Rattle.gw_owes.specs.Calls.{OwedCall, SendTill, LinkPt, WriteBody, WriteGate, WriteFirstGate, Sync, write_turn, SendPt as OwedSendPt, CutTill as OwedCutTill, CutPt as OwedCutPt}
 use Rattle.gw_owes.specs.Core.{Core, new_core, new_terminal}
 use Rattle.gw_owes.specs.Deadlines.{is_late, is_due, late_row, due_row}
@@ -23,6 +24,7 @@ use Rattle.gw_owes.specs.Handling.{taking, handle_row}
 use Rattle.gw_owes.specs.Items.{RoundItem, Crowded, Message, Asked, Unframed, Gone, Greet, Handle, Serve, NextWaiting, Oversized, LinkLost, Late, Overdue, Due}
 use Rattle.gw_owes.specs.Links.{cutting, LinkEvent, LinkIsMade, LinkHasFailed, LinkIsLost, link_row}
 use Rattle.gw_owes.specs.Payments.{serve_row}
+use Rattle.gw_owes.specs.Reconciliations.{reply_to_settled, settled_of}
 use Rattle.gw_owes.specs.Reply.{ReplyValue}
 use Rattle.gw_owes.specs.Requests.{reply_to}
 use Rattle.gw_owes.specs.Row.{Known, Row, owing}
@@ -257,6 +259,9 @@ forms-of known number terminal = record {
   enquires = (refl, tt);
   rests = λ standing linked. tt;
   resolves = λ standing outcome linked. (tt, (tt, (tt, (tt, reply-of (Some number) terminal.asker (reply_to_outcome known.kept outcome.slot outcome)))));
+  settles = λ last settled. (tt, (tt, (tt, (tt, reply-of (Some number) terminal.asker (reply_to_settled known.kept settled)))));
+  replies = λ last reply. reply-of (Some number) terminal.asker reply;
+  requests = λ till request asks. (tt, tt);
 }
 
 handle-of : (known : Known) (number : ℕ) (apdu : ApduValue) → IsRowOf number (handle_row known number apdu)
@@ -264,7 +269,16 @@ handle-of known number apdu = form-handled (IsRowOf number) known number apdu tt
 
 serve-of : (known : Known) (number till : ℕ) (header : Header) (request : SaleRequest) → IsRowOf number (serve_row known number till header request)
 serve-of known number till header request =
-    each-served (IsRowOf number) known number till header request tt (λ terminal last asking at. (tt, (tt, (tt, (tt, (refl, tt)))))) (λ terminal talk at may. (refl, tt)) (λ terminal talk at may. tt)
+    each-served (IsRowOf number) known number till header request (record {
+      none = tt;
+      begins = λ terminal last asking at. (tt, (tt, (tt, (tt, (refl, tt)))));
+      sent = λ terminal talk at may. (refl, tt);
+      wished = λ terminal talk at may. tt;
+      session = λ success. (tt, tt);
+      settles = λ terminal at. (tt, (tt, (tt, (tt, reply-of (Some number) (Some till) (reply_to_settled known.kept (settled_of hows.Sale header terminal.pt.currency known.moment))))));
+      day = λ terminal last at. (refl, tt);
+      displays = λ terminal last outputs command at. (refl, tt);
+    })
 
 late-of : (known : Known) (number : ℕ) → IsRowOf number (late_row known number)
 late-of known number = each-terminal (IsRowOf number) known number _ tt (λ terminal found. by-where (IsRowOf number) known (cutting known number) (is_late known.moment terminal.talk) tt (λ late. (refl, tt)))

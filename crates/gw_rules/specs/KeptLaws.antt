@@ -44,7 +44,7 @@ slots_needed rules records = length records + rules.open_keys records
 -- ---- a gateway that keeps a journal
 
 -- the run's setup has the slots that the records need once this one is kept too
-pub record HasRoom (rules : RecordRules) (scene : Scene) (the_record : Record) : Type 0 where
+pub record HasSlotFor (rules : RecordRules) (scene : Scene) (the_record : Record) : Type 0 where
   pub setup : Setup
   pub setup_is : scene.setup ≡ Some setup
   pub room : slots_needed rules (scene.kept ++ the_record ∷ []) ≤ setup.slots
@@ -57,7 +57,7 @@ pub record KeepsRecord (rules : RecordRules) (scene : Scene) (calls : List OwedC
   pub spares : spare_disk more ≡ true
   pub within : IsRecord the_record
   pub follows : IsTrue (rules.may_follow scene.kept the_record)
-  pub room : HasRoom rules scene the_record
+  pub room : HasSlotFor rules scene the_record
 
 -- these calls keep one record at most
 abbrev pub KeepsAtMostOne : RecordRules → Scene → List OwedCall → Type 0

@@ -9,6 +9,8 @@ pub mod ChunkLaws
 pub mod CutCauseExample
 pub mod CutCauses
 pub mod CutExample
+pub mod DayLogExample
+pub mod DayLogs
 pub mod DialogueLaws
 pub mod DoneExample
 pub mod Example
@@ -29,7 +31,11 @@ pub mod RowExample
 pub mod Scene
 pub mod SilenceLaws
 pub mod Stage
+pub mod StopLogs
 pub mod TerminalLogExample
+pub mod TillLaws
+pub mod TillLogExample
+pub mod TillRounds
 pub mod TranscriptLaws
 pub mod TrickleExample
 pub mod Triple

@@ -1,18 +1,21 @@
--- The laws of lawful logs that an APDU outside the grammar, and bytes that begin one above the limit, change nothing but the link of the terminal that says them.
+-- The laws of lawful logs that an APDU outside the grammar, and bytes that begin one above the limit, change nothing but the link of the terminal that says them; where it serves an end of day or a display, the till of that gets its reply.
 use Rattle.std.specs.Prelude.{◌≡◌, ◌⊎◌, ℕ, ℤ, true, false, List, [], ◌∷◌, ◌++◌, slice_get, Some, Err}
 use Rattle.std.specs.List.{flat_map}
+use Rattle.gw_bytes.specs.Bytes.{IsPrefix}
 use Rattle.gw_site.specs.Outside.{is_connected, without, outside_of}
 use Rattle.gw_site.specs.Sorts.{AreOfRound}
 use Rattle.gw_site.specs.declared.turn.Turn.{Turn}
-use Rattle.gw_site.specs.declared.turn.Turn.TheVariants.{Polled, HeardPt, CutPt}
+use Rattle.gw_site.specs.declared.turn.Turn.TheVariants.{Polled, HeardPt, SentTill, CutTill, CutPt}
 use Rattle.zvt_apdu.specs.Grammar.{ApduValue, BeginsTooLongApdu}
 use Rattle.zvt_msg.specs.MessageDecode.{decode_pt_message}
 use Rattle.zvt_msg.specs.declared.fault.PtFault.{PtFault}
+use Rattle.gw_owes.specs.Calls.{OwedCall, SendTill}
 use Rattle.gw_owes.specs.Core.{Core}
 use Rattle.gw_owes.specs.Events.{apdu_items, items_due}
 use Rattle.gw_owes.specs.Items.{RoundItem, Crowded, Message, Asked, Unframed, Gone, Greet, Handle, Serve, NextWaiting, Oversized, LinkLost, Late, Overdue, Due}
+use Rattle.gw_owes.specs.Reply.{ReplyValue, reply_value_bytes}
 use Rattle.gw_owes.specs.TerminalLaws.{ChangesTerminalAlone}
-use Rattle.gw_owes.specs.Terminals.{with_terminal, unlinked_terminal}
+use Rattle.gw_owes.specs.Terminals.{with_terminal, unlinked_terminal, core_without, reply_calls_to, reply_to_lost}
 use Rattle.gw_owes.specs.declared.terminal.Terminal.{Terminal}
 use Rattle.gw_rules.specs.Lawful.{Begins, IsCourse, turns_of, Stands, IsLawful}
 use Rattle.gw_rules.specs.LinkLaws.{HasSaid}
@@ -68,18 +71,61 @@ link_cut scene pt terminal =
       core = with_terminal scene.core pt (unlinked_terminal terminal scene.outside.moment);
     }
 
--- what a terminal's bytes have brought was handled, with the cut of the terminal, which was linked: nothing has changed but its link, no other call was owed, and only what may be due is left
+-- what the loss of its link owes the till of what the terminal serves, where that is there: the reply to an end of day or a display, which isn't finished
+abbrev pub calls_of_loss : Terminal → List OwedCall
+calls_of_loss terminal = reply_calls_to terminal.asker (reply_to_lost terminal.standing)
+
+-- the scene once this till was cut: it is gone, its requests wait no longer, and all else is as it was
+abbrev pub till_gone : Scene → ℕ → Scene
+till_gone scene till = record scene {
+  outside = record scene.outside { tills = without scene.outside.tills till };
+  core = core_without scene.core till;
+}
+
+-- no call is owed: no turn is made of it, and nothing changes
+pub record OwesNone (calls : List OwedCall) (turns : List Turn) (before after : Scene) : Type 0 where
+  pub calls_are : calls ≡ []
+  pub turns_are : turns ≡ []
+  pub after_is : after ≡ before
+
+-- one reply is owed, and its till is sent it: nothing else changes
+pub record RepliesWhole (calls : List OwedCall) (turns : List Turn) (before after : Scene) : Type 0 where
+  pub till : ℕ
+  pub reply : ReplyValue
+  pub calls_are : calls ≡ SendTill till reply ∷ []
+  pub turns_are : turns ≡ SentTill till (reply_value_bytes reply) true ∷ []
+  pub after_is : after ≡ before
+
+-- one reply is owed, its send fails, and its till is cut
+pub record ReplyFails (calls : List OwedCall) (turns : List Turn) (before after : Scene) : Type 0 where
+  pub till : ℕ
+  pub reply : ReplyValue
+  pub calls_are : calls ≡ SendTill till reply ∷ []
+  pub bytes : List ℕ
+  pub sent : IsPrefix bytes (reply_value_bytes reply)
+  pub turns_are : turns ≡ SentTill till bytes false ∷ CutTill till ∷ []
+  pub after_is : after ≡ till_gone before till
+
+-- these calls, of which there is one reply at most, are made in these turns
+abbrev pub ArePaid : List OwedCall → List Turn → Scene → Scene → Type 0
+ArePaid calls turns before after = OwesNone calls turns before after ⊎ RepliesWhole calls turns before after ⊎ ReplyFails calls turns before after
+
+-- what a terminal's bytes have brought was handled, with the cut of the terminal, which was linked: nothing has changed but its link, no other call was owed but the reply to an end of day or a display that it served, and only what may be due is left
 pub record CutsLink (turns rest : List Turn) (pt : ℕ) (v : View) (due : List RoundItem) : Type 0 where
   pub linked : is_connected v.scene.outside.links pt ≡ true
   pub terminal : Terminal
   pub found : slice_get v.scene.core.terminals pt ≡ Some terminal
   -- of what is remembered only the terminal differs then
   pub alone : ChangesTerminalAlone pt v.scene.core (link_cut v.scene pt terminal).core
-  -- the next turn is the cut
+  -- the next turn is the cut, and then its till gets the reply, where it is there
+  pub reply_turns : List Turn
   pub later : List Turn
-  pub turns_are : turns ≡ CutPt pt ∷ later
-  pub leads : HasCourseTo v (CutPt pt ∷ []) (idle_with (link_cut v.scene pt terminal) due)
-  pub goes_on : HasCourse (idle_with (link_cut v.scene pt terminal) due) (later ++ rest)
+  pub turns_are : turns ≡ CutPt pt ∷ (reply_turns ++ later)
+  -- the scene then
+  pub scene : Scene
+  pub paid : ArePaid (calls_of_loss terminal) reply_turns (link_cut v.scene pt terminal) scene
+  pub leads : HasCourseTo v (CutPt pt ∷ reply_turns) (idle_with scene due)
+  pub goes_on : HasCourse (idle_with scene due) (later ++ rest)
 
 -- it was handled without a turn, since the terminal was cut before: nothing has changed, no call was owed, and only what may be due is left
 pub record ChangesNothing (turns rest : List Turn) (pt : ℕ) (v : View) (due : List RoundItem) : Type 0 where

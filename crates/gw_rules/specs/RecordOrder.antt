@@ -1,16 +1,17 @@
 -- The records along lawful logs: at each moment they fold, and between items they have what each terminal's standing says.
-use Rattle.std.specs.Prelude.{◌≡◌, ◌≤◌, ℕ, ◌+◌, true, false, List, [], ◌++◌, All, length, slice_get, Some}
+use Rattle.std.specs.Prelude.{◌≡◌, ℕ, true, false, List, [], ◌++◌, All, slice_get, Some}
 use Rattle.gw_base.specs.declared.setup.Setup.{Setup}
 use Rattle.gw_site.specs.Image.{Image}
 use Rattle.gw_site.specs.Outside.{outside_of}
 use Rattle.gw_site.specs.declared.turn.Turn.{Turn}
+use Rattle.sale_values.specs.declared.header.Header.{Header}
+use Rattle.sale_values.specs.declared.names.Period.{Period}
 use Rattle.jrn_record.specs.declared.records.Record.{Record}
 use Rattle.jrn_log.specs.Slots.{AreSlots}
 use Rattle.gw_ledger.specs.Fold.{AreFolded, AreBodiesOf}
-use Rattle.gw_ledger.specs.Sums.{open_count_of}
 use Rattle.gw_owes.specs.Calls.{records_kept}
-use Rattle.gw_owes.specs.RecordLaws.{IsServedOpen, HasNoneOpen, IsTerminalInOrder, IsReadItem, IsInOrder}
-use Rattle.gw_owes.specs.declared.terminal.Service.TheVariants.{Transaction}
+use Rattle.gw_owes.specs.RecordLaws.{IsServedOpen, IsDayServed, HasNoneOpen, HasRoom, IsTerminalInOrder, IsReadItem, IsInOrder}
+use Rattle.gw_owes.specs.declared.terminal.Service.TheVariants.{Transaction, EndOfDay}
 use Rattle.gw_owes.specs.declared.terminal.Standing.TheVariants.{Ready, Serving}
 use Rattle.gw_owes.specs.declared.terminal.Terminal.{Terminal}
 use Rattle.gw_rules.specs.Lawful.{Stands}
@@ -42,11 +43,11 @@ EachLogImageFolds =
 
 -- ---- while calls are owed
 
--- while the run goes on, a slot is left for the Outcome of each key that is open once what is owed at once is made
+-- while the run goes on, a slot is left for the Outcome of each key that is open once what is owed at once is made, and for the Settled of each end of day that is served
 abbrev pub EachLogLeavesSlots : Type 0
 EachLogLeavesSlots =
     (log : List Turn) (v : View) (setup : Setup) → Stands log v → v.scene.setup ≡ Some setup → is_running v.scene.stage ≡ true
-    → length (records_coming v) + open_count_of (records_coming v) ≤ setup.slots
+    → HasRoom setup.slots (records_coming v) v.scene.core
 
 -- and until a call on the disk fails, the records once what is owed at once is made have what the standing of each terminal says, but of one whose cut is owed
 abbrev pub EachLogComesInOrder : Type 0
@@ -75,8 +76,14 @@ ReadyHasNoneOpen =
     (log : List Turn) (v : View) (pt : ℕ) (terminal : Terminal) (last : ℕ) → Stands log v → IsBetweenItems v → slice_get v.scene.core.terminals pt ≡ Some terminal → terminal.standing ≡ Ready last
     → HasNoneOpen v.scene.kept terminal.pt.poi last
 
--- and what a terminal serves is its one open key, in that slot, with the number before with which it was ready
+-- and a payment or a reversal that a terminal serves is its one open key, in that slot, with the number before with which it was ready
 abbrev pub ServedIsOpen : Type 0
 ServedIsOpen =
     (log : List Turn) (v : View) (pt : ℕ) (terminal : Terminal) (slot last : ℕ) → Stands log v → IsBetweenItems v → slice_get v.scene.core.terminals pt ≡ Some terminal
     → terminal.standing ≡ Serving (Transaction slot) last → IsServedOpen v.scene.kept terminal.pt.poi last slot
+
+-- and the key of an end of day that a terminal serves is unknown to the records, so that its Settled may come next; none of the terminal's keys is open
+abbrev pub DayServedIsUnknown : Type 0
+DayServedIsUnknown =
+    (log : List Turn) (v : View) (pt : ℕ) (terminal : Terminal) (header : Header) (period : Period) (last : ℕ) → Stands log v → IsBetweenItems v → slice_get v.scene.core.terminals pt ≡ Some terminal
+    → terminal.standing ≡ Serving (EndOfDay header period) last → IsDayServed v.scene.kept terminal.pt.poi last header period

@@ -4,6 +4,9 @@ use Rattle.gw_base.specs.declared.setup.Setup.{Setup}
 use Rattle.gw_site.specs.Outside.{outside_of}
 use Rattle.gw_site.specs.declared.turn.Turn.{Turn}
 use Rattle.gw_site.specs.declared.turn.Turn.TheVariants.{Start, OpenFailed, Polled, Opened, HeardTill, Closed, HeardPt, Lost, Stopped, Linked, LinkFailed, SentTill, SentPt, CutTill, CutPt, Wrote, Synced, DiskFailed, Crash}
+use Rattle.sale_values.specs.declared.header.Header.{Header}
+use Rattle.sale_values.specs.declared.request.Reference.{Reference}
+use Rattle.sale_values.specs.declared.request.SaleRequest.TheVariants as requests
 use Rattle.zvt_apdu.specs.Grammar.{ApduValue}
 use Rattle.zvt_msg.specs.CommandCanonical.{canonical_command}
 use Rattle.zvt_msg.specs.Message.{MessageValue, Ack, Completion}
@@ -11,6 +14,7 @@ use Rattle.zvt_msg.specs.MessageDecode.{decode_pt_message}
 use Rattle.gw_owes.specs.Calls.{Ask, Acknowledge, OwedCall, SendTill, LinkPt, WriteBody, WriteGate, WriteFirstGate, Sync, keep_calls, SendPt as OwedSendPt, CutTill as OwedCutTill, CutPt as OwedCutPt}
 use Rattle.gw_owes.specs.Handling.{enquiry_command}
 use Rattle.gw_owes.specs.Items.{RoundItem}
+use Rattle.gw_owes.specs.ReadAs.{Request}
 use Rattle.gw_owes.specs.Row.{Known}
 use Rattle.gw_owes.specs.TerminalRows.{terminal_of, is_link_lost}
 use Rattle.gw_owes.specs.Terminals.{registration}
@@ -24,6 +28,7 @@ use Rattle.gw_rules.specs.RowExample.{example_pt, example_record, keep_view, gat
 use Rattle.gw_rules.specs.Scene.{Scene, known_in}
 use Rattle.gw_rules.specs.Stage.{is_broken}
 use Rattle.gw_rules.specs.TerminalLogExample.{linked_course, enquired_course, declined_course}
+use Rattle.gw_rules.specs.TillRounds.{HasAsked}
 use Rattle.gw_rules.specs.View.{View, Move, Begin, Read, Make, after, view_from, at_first}
 
 -- ---- what is owed to a terminal
@@ -215,14 +220,24 @@ pub record WasSaid (log : List Turn) (pt : ℕ) (message : MessageValue) (moment
   pub said : HasSaidApdu before pt apdu
   pub decoded : decode_pt_message apdu ≡ Ok message
 
--- so each message of a transcript
+-- a till has said, in a round of this log, the Abort by which a stop is wished
+pub record WasWished (log : List Turn) : Type 0 where
+  pub before : List Turn
+  pub rest : List Turn
+  pub log_is : log ≡ before ++ rest
+  pub till : ℕ
+  pub header : Header
+  pub reference : Reference
+  pub asked : HasAsked before till (Request header (requests.Abort reference))
+
+-- so each message of a transcript, and each stop that is wished
 abbrev pub AreSaid : List Turn → ℕ → List Carried → Type 0
 AreSaid log pt [] = Unit {0}
 AreSaid log pt (Commanded command moment ∷ earlier) = AreSaid log pt earlier
 AreSaid log pt (Took message moment least ∷ earlier) = WasSaid log pt message moment × AreSaid log pt earlier
-AreSaid log pt (Wished ∷ earlier) = AreSaid log pt earlier
+AreSaid log pt (Wished ∷ earlier) = WasWished log × AreSaid log pt earlier
 
--- each message of a terminal's transcript was said by it, in a round at the message's moment
+-- each message of a terminal's transcript was said by it, in a round at the message's moment, and each stop in it was wished by a till that has said an Abort
 abbrev pub EachMessageWasSaid : Type 0
 EachMessageWasSaid = (log : List Turn) (v : View) (s : Stands log v) (pt : ℕ) → AreSaid log pt (transcript_of pt s.course)
 

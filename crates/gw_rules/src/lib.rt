@@ -6,7 +6,7 @@ ghost use Rattle.gw_rules.specs.JournalFiles.{EachHasJournalFiles, KeepingHasJou
 ghost use Rattle.gw_rules.specs.KeptExample.{FlightIsKept, UnsyncedKeepsNone};
 ghost use Rattle.gw_rules.specs.KeptLaws.{EachImageHasKept, EachKeepsFile, EachKeepsJournalFiles, EachRoundHasJournal, EachStartOpensJournal, FullOnlyWithFewerSlots, HandedInKeepsFiles, KeepingKeepsFiles, LongOnlyWithFewerSlots, NeverBad, NeverTruncated, NoneKeptIsLost, OpeningKeepsFiles};
 ghost use Rattle.gw_rules.specs.LedgerRules.{EachFileFolds, EachImageFolds, EachLawfulHasKept, EachLawfulKeepsJournal, LawfulRefusedOnlyWithFewerSlots, RefusedAtLimits, RefusedOnlyWithFewerSlots};
-ghost use Rattle.gw_rules.specs.RecordOrder.{EachItemWasRead, EachLogComesInOrder, EachLogFolds, EachLogImageFolds, EachLogIsInOrder, EachLogLeavesSlots, ReadyHasNoneOpen, ServedIsOpen};
+ghost use Rattle.gw_rules.specs.RecordOrder.{EachItemWasRead, EachLogComesInOrder, EachLogFolds, EachLogImageFolds, EachLogIsInOrder, EachLogLeavesSlots, DayServedIsUnknown, ReadyHasNoneOpen, ServedIsOpen};
 ghost use Rattle.gw_rules.specs.PaymentLogExample.{BegunIsServedOpen, PaidHasNoneOpen, PaymentIsLawful, PaymentIsSilent, ResolvedIsLawful};
 ghost use Rattle.gw_rules.specs.RecoveryLogExample.{OpenIsReported, RecoveryIsLawful};
 ghost use Rattle.gw_rules.specs.RowExample.{BothAreItems, ClosedGateDrops, FailedSendCutsLink, FailedSyncCrashes, GateIsInFlight, GoneTillIsForgotten, LinkIsDueAgain, LinkRegisters, LostEndOfDayReplies, LostIsDue, LostTransactionKeepsAsker, OpenGateKeeps, PollBeforeUnframedCut, RowItemsComeFirst, SendingsAreSpelled, StartLeavesFlight, SyncKeeps, UnframedIsLawful, UnlinkedIsLawful, WaitsByDeadline};
@@ -18,6 +18,8 @@ ghost use Rattle.gw_rules.specs.ChunkExample.{PollBeforeSplitEnquiry, SplitIsEnq
 ghost use Rattle.gw_rules.specs.ChunkLaws.{DoneAtOnceIsEnquired};
 ghost use Rattle.gw_rules.specs.CutCauseExample.{ExampleDeclinedCut, ExampleFailedCut, ExampleLateCut, ExampleOutsideCut, ExampleTooLongCut, ExampleUnclearCut};
 ghost use Rattle.gw_rules.specs.CutCauses.{EachPtCutHasCause, FailedSendCuts};
+ghost use Rattle.gw_rules.specs.DayLogExample.{DayIsLawful, DisplayIsLawful, LostDayIsLawful};
+ghost use Rattle.gw_rules.specs.DayLogs.{CutDayFails, EachDayKeptWasCompleted, LostDayFails};
 ghost use Rattle.gw_rules.specs.DialogueLaws.{DoneRegistrationIsEnquired, ReportMakesReady};
 ghost use Rattle.gw_rules.specs.DoneExample.{ExampleDone, ExampleDoneAtOnce};
 ghost use Rattle.gw_rules.specs.CutExample.{BothAreCut, BothAreLinkedAgain, EnquiryUnacknowledged, OtherIsNotCutFirst, PollBeforeOtherCut, UnacknowledgedDoneIsCut};
@@ -25,8 +27,11 @@ ghost use Rattle.gw_rules.specs.LinkLaws.{DueIsTried, EachUsesLinks, EnquiryFoll
 ghost use Rattle.gw_rules.specs.OutsideLaws.{OutsideIsAlone, TooLongIsAlone};
 ghost use Rattle.gw_rules.specs.SilenceLaws.{SilentDialogueIsCut, SilentRegistrationIsCut};
 ghost use Rattle.gw_rules.specs.TerminalLogExample.{DeclinedIsLawful, DoneIsEnquired, DoneThenSilentIsCut, DueAgainIsLawful, EnquiryAfterCut, EnquiryBeforeRegistration, LinkTooEarly, PollBeforeEnquiry, PollBeforeLink, PollBeforeSilentCut, ReadyIsLawful, SilentEnquiryIsLawful, SilentRegistrationIsLawful, UnacknowledgedIsLawful, UnfinishedIsCut};
+ghost use Rattle.gw_rules.specs.StopLogs.{EachStopIsWishedOnce, ExampleStops, StopIsSentOnce};
 ghost use Rattle.gw_rules.specs.Laws.{BadFrameCuts, CallsEndInOne, CrowdedCuts, EachHasOneLeanCourse, EachHeardIsBytes, PrefixIsLawful, PtBytesBring, RestartIsLawful, SetupIsWithinLimits, TillBytesBring};
 ghost use Rattle.gw_rules.specs.TranscriptLaws.{ClearOwesItsCalls, EachCommandWasSent, EachLogFollowsTranscript, EachMessageWasSaid, EachPollFollowsTranscript, ExampleLogTranscript};
+ghost use Rattle.gw_rules.specs.TillLaws.{EachBeginningIsThere, EachServedIsThere, EachUsesTills, OwedIsThere};
+ghost use Rattle.gw_rules.specs.TillLogExample.{ClosedTillIsLawful, UnsentDayIsLawful};
 ghost use Rattle.gw_rules.specs.TrickleExample.{PollBeforeTrickleCut, TrickleIsCut, TrickleIsSilent};
 
 /// Along each lawful log there is exactly one course in which nothing begins unless a turn of its run follows.
@@ -97,6 +102,20 @@ pub fn law_links()
     ensures registers { LinkedRegisters }
 {}
 
+/// Along each lawful log a till is sent something, or that fails, only while it is there: each till that is owed anything at once is. The
+/// till of what a terminal serves is there, or has just closed its connection, which is handled next; and so is the till whose request a
+/// terminal is to begin to serve next.
+///
+/// In an example a till closes in the middle of the device requests of its payment: it gets none after, and no other till does; the
+/// payment ends and its Outcome is kept, and nobody gets a reply.
+pub fn law_tills()
+    ensures used { EachUsesTills }
+    ensures owed { OwedIsThere }
+    ensures served { EachServedIsThere }
+    ensures begins { EachBeginningIsThere }
+    ensures closed_example { ClosedTillIsLawful }
+{}
+
 /// In a lawful log, after bytes of a terminal that say an APDU outside the grammar, or begin one above the limit, it is cut before
 /// the next poll.
 pub fn law_outside_cuts()
@@ -106,16 +125,15 @@ pub fn law_outside_cuts()
 /// In a lawful log, an APDU outside the grammar, and bytes that begin one above the limit, change nothing but the link of the terminal
 /// that says them. Their item begins before the next poll. Where the terminal is linked in the view before that, the next turn is its
 /// cut, and once nothing is left to handle of the same bytes all is as in that view, but that the terminal's connection is gone and that
-/// it is due in five seconds: each other terminal, each till, the records and the file are the same, and no other call was owed. Where
-/// it was cut before, all is as in that view.
+/// it is due in five seconds: each other terminal, each till, the records and the file are the same, and no other call was owed. But
+/// where it serves an end of day or a display, the till of that, where it is there, is sent the reply for what isn't finished right after the
+/// cut, or is cut where that send fails. Where the terminal was cut before, all is as in that view.
 pub fn law_outside_alone()
     ensures outside { OutsideIsAlone }
     ensures too_long { TooLongIsAlone }
     ensures example { OutsideLeavesOther }
     ensures too_long_example { TooLongEndsOwnLink }
-{
-    gw_owes::law_transcript();
-}
+{}
 
 /// In a lawful log a terminal is cut only for these causes: the turn right before is a send to it that has failed; with the bytes that
 /// began the round it has said an APDU outside the grammar, begun one above the limit, or said a message that leaves its dialogue unclear,
@@ -184,13 +202,12 @@ pub fn law_dialogue_ends()
 {}
 
 /// After each lawful log, each terminal's dialogue, how many Acks and Nacks it awaits, and its standing, but for the moment at which
-/// one that isn't linked is due and the slot of what it serves, are those of a flat list: since it was linked, the commands that were
+/// one that isn't linked is due and the slot or the request of what it serves, are those of a flat list: since it was linked, the commands that were
 /// sent to it, the messages that were taken of it, each with the least trace number that it might report then, by the records, and the
 /// stops that tills wished of what it serves. The commands that are owed to it count as sent, after others too; and where its cut is
 /// owed nothing is said. Where a call on the disk has failed, what was owed then counts so, though it is made no more. While it is
 /// linked the commands that were sent to it are all that the log says were sent to it since; and each of the messages it said in some
-/// round of the log, at that moment. Of a stop that was wished nothing is said here by the log: that a till's Abort has wished it is
-/// said by `took_by` and `gw_owes::law_transcript` together, of each row.
+/// round of the log, at that moment; and each stop that was wished was wished by a till that has said, in some round of the log, an Abort.
 pub fn law_standing_transcript()
     ensures logs { EachLogFollowsTranscript }
     ensures owed { ClearOwesItsCalls }
@@ -268,10 +285,11 @@ pub fn law_openings()
 }
 
 /// After each lawful log the records fold: those that are kept, those of the file, those once the calls that are owed at once are made,
-/// and those of whatever a power failure leaves. While the run goes on they leave a slot for the Outcome of each open key; and until a call on the disk fails, they have what the
-/// standing of each terminal says, but of one whose cut is owed. So between items what is known is in order: of a terminal that is ready no
-/// key is open, and what a terminal serves is its one open key. Each message that is to be handled, and each request that a terminal is
-/// to begin to serve, was read from bytes.
+/// and those of whatever a power failure leaves. While the run goes on they leave a slot for the Outcome of each open key and the
+/// Settled of each end of day that is served; and until a call on the disk fails, they have what the standing of each terminal says, but of
+/// one whose cut is owed. So between items what is known is in order: of a terminal that is ready no key is open, a payment or a reversal
+/// that a terminal serves is its one open key, and the key of an end of day that one serves is unknown to the records. Each message that
+/// is to be handled, and each request that a terminal is to begin to serve, was read from bytes.
 pub fn law_records_in_order()
     ensures folds { EachLogFolds }
     ensures images { EachLogImageFolds }
@@ -281,6 +299,7 @@ pub fn law_records_in_order()
     ensures order { EachLogIsInOrder }
     ensures ready { ReadyHasNoneOpen }
     ensures served { ServedIsOpen }
+    ensures day { DayServedIsUnknown }
 {
     gw_owes::law_records();
 }
@@ -345,7 +364,7 @@ pub fn law_terminal_examples()
 /// acknowledged in time, are cut; and where the acknowledgement of an APDU can't be sent, neither it nor the one after it is handled. No poll
 /// comes before the link of a terminal that is due, and none is made before it is; nothing but the registration follows a link; no
 /// poll comes before a silent terminal is cut at its deadline, or before the enquiry of one whose registration is done; and after a
-/// cut nothing is sent.
+/// cut nothing is sent to it.
 pub fn law_terminal_logs()
     ensures ready { ReadyIsLawful }
     ensures due_again { DueAgainIsLawful }
@@ -417,6 +436,41 @@ pub fn law_payment_logs()
     ensures none_open { PaidHasNoneOpen }
     ensures silent { PaymentIsSilent }
 {}
+
+/// Along each lawful course `06 B0` is owed to a terminal, and sent to it, only where its link has carried, since its last command but
+/// stops, an Ack and a stop that a till wished, and no stop: so it is sent only once an Ack has come since the command of what is served,
+/// which may be the late one of a stop before, only after an Abort of a till, and once a dialogue. That a till has said the Abort, and the terminal the Ack, each in a round of the
+/// log, is `law_standing_transcript`.
+pub fn law_stop_logs()
+    ensures stops { EachStopIsWishedOnce }
+    ensures sent { StopIsSentOnce }
+    ensures example { ExampleStops }
+{
+    gw_owes::law_transcript();
+}
+
+/// In a lawful log the Settled of an end of day is kept only once a terminal of the run's setup, whose POIID it has, was sent an end of
+/// day on its present link, and no other command after it but stops, and has then said a Completion with the bytes that began the round; and its
+/// till gets the totals only after the Settled is kept. Where the link of a terminal that serves an end of day is cut or lost, its till
+/// gets a Failure for `UnavailableDevice`, where it is there, no other call is owed, and no record is kept.
+///
+/// In examples, a till asks for an end of day, of which nothing is kept before the terminal has completed it; what the
+/// terminal shows on its way is shown at the till, the Settled is kept after the records before it, and then the till gets their totals.
+/// Where the terminal's link is lost before that, the till gets a Failure and no Settled is kept; and so where the command can't be sent,
+/// as the terminal is cut then. A display is done with the acknowledgement of its command, and then its till gets the results of its
+/// outputs.
+pub fn law_day_logs()
+    ensures kept { EachDayKeptWasCompleted }
+    ensures cut { CutDayFails }
+    ensures lost { LostDayFails }
+    ensures done_example { DayIsLawful }
+    ensures lost_example { LostDayIsLawful }
+    ensures unsent_example { UnsentDayIsLawful }
+    ensures display_example { DisplayIsLawful }
+{
+    gw_owes::law_transcript();
+    gw_owes::law_records();
+}
 
 /// A record is in flight once its gate is written, and kept once that is synced. A start leaves it in flight; a power failure
 /// leaves it exactly where it leaves the gate open.

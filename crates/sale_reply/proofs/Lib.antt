@@ -2,6 +2,7 @@
 pub mod BodySizeLemmas
 pub mod CanonicalLemmas
 pub mod LimitLemmas
+pub mod OutputLemmas
 pub mod PartLemmas
 pub mod ReplySizeLemmas
 pub mod RequestSizeLemmas

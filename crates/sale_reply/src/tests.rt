@@ -247,14 +247,15 @@ fn devices(rt: HostRuntime) -> Result<(), Fail> {
     };
     let cashier = Shown {
         device: Ident::of(b"CashierDisplay").ok_or("printable")?,
-        verdict: unavailable,
         ..customer
     };
     outputs.push(customer)?;
     outputs.push(cashier)?;
+    let mut outputs = OutputResults::new(outputs);
+    outputs.set_verdict(1, unavailable);
     let shown = SaleReply::Display {
         header: display,
-        outputs: OutputResults::new(outputs),
+        outputs,
     };
     is_written_as(&rt, &mut out, &shown, SHOWN);
     let printed = SaleReply::Print {

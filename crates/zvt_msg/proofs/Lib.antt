@@ -8,3 +8,4 @@ pub mod DisplayGrammarLemmas
 pub mod DisplayLemmas
 pub mod LimitLemmas
 pub mod MessageLemmas
+pub mod PrintedLinesLemmas

@@ -53,7 +53,7 @@ spelled_status_size apdu fields (is, spells) =
     let size : length (canonical_status fields) ≤ 19 = spelled_size apdu.body fields spells in
     omega (arith, short_apdu 0x04 0x0F (canonical_status fields) (omega (arith, size)), size)
 
-decoded_spells : (apdu : ApduValue) (message : MessageValue) → decode_pt_message apdu ≡ Ok message → SpellsPtMessage apdu message
+pub decoded_spells : (apdu : ApduValue) (message : MessageValue) → decode_pt_message apdu ≡ Ok message → SpellsPtMessage apdu message
 decoded_spells apdu message is = subst (SpellsPtMessageOrFault apdu) is (reports apdu)
 
 pub decoded_numbers : (apdu : ApduValue) (message : MessageValue) → decode_pt_message apdu ≡ Ok message → NumbersFitFields message

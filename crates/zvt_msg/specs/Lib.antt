@@ -10,5 +10,6 @@ pub mod MessageCanonical
 pub mod MessageDecode
 pub mod MessageGrammar
 pub mod Numbers
+pub mod PrintedLines
 pub mod Results
 pub mod inner

@@ -99,18 +99,22 @@ pt 0 061e016c
 > declined 1 0 2
 > result 1 1 Cancel 000000-0000-0
 
-# What is to be shown or printed is acknowledged, and the till gets nothing of it.
+# What is to be shown or printed is acknowledged, and is shown or printed at its till; it changes nothing of the payment.
 pt 0 800000
 pt 0 04ff010a
 > pt 0 out 800000
-pt 0 06d1030084ff
+> shows 1 1 0 0A
+pt 0 06d1020041
 > pt 0 out 800000
+> prints 1 1 1 [{\"Text\":\"A\"}]
 pt 0 06d30706052503070141
 > pt 0 out 800000
+> prints 1 1 2 [{\"Text\":\"A\"}]
 pt 0 040f102700040000000010990b000123870017
 > pt 0 out 800000
 pt 0 04ff00
 > pt 0 out 800000
+> shows 1 1 3 00
 pt 0 060f00
 > pt 0 out 800000
 > approved 1 0 123 17 1099
@@ -372,6 +376,7 @@ pt 0 800000
 at 1741342443
 pt 0 04ff010a
 > pt 0 out 800000
+> shows 1 1 0 0A
 at 1741342622
 pt 0 069900
 > pt 0 out 848300

@@ -1,5 +1,6 @@
 -- The examples.
 use Rattle.gw_books.proofs.CourseLemmas.{lost-has-past, paid-has-past, refused-has-past}
+use Rattle.gw_books.proofs.DayExampleLemmas.{settled-agrees, settled-has-past}
 use Rattle.gw_books.proofs.DisagreeLemmas.{disordered-books, entries-of-one-key, keyless-disagrees, later-entry-disagrees, links-end, not-found-disagrees, other-content-agrees, other-repeat-disagrees, outside-disagrees, progress-disagrees, repeat-agrees, reported-books, same-content-disagrees, twice-disagrees, unaccepted-disagrees, unbooked-disagrees, uncaused-books, unreported-may-be-open, unresolved-disagrees, untrue-books, waiting-is-in-progress}
 use Rattle.gw_books.proofs.ExampleLemmas.{asked-has-past, lost-agrees, paid-agrees, refused-agrees}
 use Rattle.gw_books.proofs.law_examples.Goals as goal
@@ -24,6 +25,12 @@ returns-clause-lost c = lost-has-past
 
 pub returns-clause-lost_agrees : goal.returns-clause-lost_agrees
 returns-clause-lost_agrees c = lost-agrees
+
+pub returns-clause-day : goal.returns-clause-day
+returns-clause-day c = settled-has-past
+
+pub returns-clause-day_agrees : goal.returns-clause-day_agrees
+returns-clause-day_agrees c = settled-agrees
 
 pub returns-clause-twice : goal.returns-clause-twice
 returns-clause-twice c = twice-disagrees

@@ -7,7 +7,7 @@ use Rattle.gw_books.proofs.law_headline.Goals as goal
 
 -- the laws of what a row keeps
 order_laws : (c : goal.After-law_fits) → OrderLaws
-order_laws c = record { new = c.law_records.ensures.new; rows = c.law_records.ensures.rows; cuts = c.law_records.ensures.cuts; links = c.law_records.ensures.links; items = c.law_records.ensures.items }
+order_laws c = record { new = c.law_records.ensures.new; rows = c.law_records.ensures.rows; cuts = c.law_records.ensures.cuts; links = c.law_records.ensures.links; items = c.law_records.ensures.items; gone = c.law_records.ensures.gone }
 
 -- the ledger's laws
 ledger_laws : (c : goal.After-law_fits) → LedgerLaws
@@ -20,6 +20,7 @@ ledger_laws c = record {
   payment = c.law_fits.ensures.payment;
   reversal = c.law_fits.ensures.reversal;
   outcome = c.law_fits.ensures.outcome;
+  settled = c.law_fits.ensures.settled;
 }
 
 pub returns-clause-headline : goal.returns-clause-headline

@@ -14,6 +14,7 @@ ledger_laws c = record {
   payment = c.law_fits.ensures.payment;
   reversal = c.law_fits.ensures.reversal;
   outcome = c.law_fits.ensures.outcome;
+  settled = c.law_fits.ensures.settled;
 }
 
 pub returns-clause-stays : goal.returns-clause-stays

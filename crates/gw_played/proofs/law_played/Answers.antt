@@ -1,6 +1,7 @@
 -- Proof of the contract of `law_played`.
 use Rattle.gw_owes.proofs.RecordLemmas.{LedgerLaws}
 use Rattle.gw_rules.proofs.RecordRowLemmas.{OrderLaws}
+use Rattle.gw_played.proofs.DayExampleLemmas.{played-days}
 use Rattle.gw_played.proofs.PlayedExampleLemmas.{played-examples}
 use Rattle.gw_played.proofs.PlayedLemmas.{played-agrees, played-is-honest}
 use Rattle.gw_played.proofs.Playing.{PeerLaws}
@@ -9,7 +10,7 @@ use Rattle.gw_played.proofs.law_played.Goals as goal
 
 -- the laws of what a row keeps
 order_laws : (c : goal.After-law_commands-2) → OrderLaws
-order_laws c = record { new = c.law_records.ensures.new; rows = c.law_records.ensures.rows; cuts = c.law_records.ensures.cuts; links = c.law_records.ensures.links; items = c.law_records.ensures.items }
+order_laws c = record { new = c.law_records.ensures.new; rows = c.law_records.ensures.rows; cuts = c.law_records.ensures.cuts; links = c.law_records.ensures.links; items = c.law_records.ensures.items; gone = c.law_records.ensures.gone }
 
 -- the ledger's laws
 ledger_laws : (c : goal.After-law_commands-2) → LedgerLaws
@@ -22,6 +23,7 @@ ledger_laws c = record {
   payment = c.law_fits.ensures.payment;
   reversal = c.law_fits.ensures.reversal;
   outcome = c.law_fits.ensures.outcome;
+  settled = c.law_fits.ensures.settled;
 }
 
 -- the laws of commands, messages and dialogues
@@ -54,3 +56,6 @@ returns-clause-examples c = played-examples
 
 pub returns-clause-reversals : goal.returns-clause-reversals
 returns-clause-reversals c = played-reversals
+
+pub returns-clause-days : goal.returns-clause-days
+returns-clause-days c = played-days

@@ -1,7 +1,7 @@
 -- Proof of the contract of `follow`.
 use Rattle.std.proofs.Common.{◌≡◌}
 use Rattle.std.proofs.lemmas.Int.{to_z-of_z}
-use Rattle.gw_owes.specs.declared.terminal.Service.TheVariants.{Transaction}
+use Rattle.gw_owes.specs.declared.terminal.Service.TheVariants.{Transaction, EndOfDay}
 use Rattle.gw_core.proofs.handling.follow.Goals as goal
 
 pub returns-in-Registering-clause-row : goal.returns-in-Registering-clause-row
@@ -14,3 +14,8 @@ pub returns-in-Serving-Transaction-default-clause-row : goal.returns-in-Serving-
 returns-in-Serving-Transaction-default-clause-row c = λ setup core.
     let served : c.in-Serving-Transaction-default.service ≡ Transaction c.in-Serving-Transaction-default.slot = rw c.in-Serving-Transaction-default.is at c.in-Serving-Transaction-default.service-is in
     rw (c.in-Serving-Transaction-default.is, served) (simp (to_z-of_z, c.ranges.now) at (c.serving_transaction.ensures.row setup core))
+
+pub returns-in-Serving-EndOfDay-default-clause-row : goal.returns-in-Serving-EndOfDay-default-clause-row
+returns-in-Serving-EndOfDay-default-clause-row c = λ setup core.
+    let served : c.in-Serving-EndOfDay-default.service ≡ EndOfDay c.in-Serving-EndOfDay-default.header c.in-Serving-EndOfDay-default.service-1 = rw c.in-Serving-EndOfDay-default.is at c.in-Serving-EndOfDay-default.service-is in
+    rw (c.in-Serving-EndOfDay-default.is, served) (simp (to_z-of_z, c.ranges.now) at (c.serving_day.ensures.row setup core))

@@ -12,5 +12,5 @@ pub returns-in-Err-Fault : goal.returns-in-Err-Fault
 returns-in-Err-Fault c = record {
   as_read = NoJson c.in-Err-Fault.fault;
   read = subst (RefusesText c.args.message.now) c.in-Err-Fault.field-0-is c.in-Err-Fault.ensures.fault;
-  replied = λ known at. record { reply = rw (at.name_is, at.moment_is) (simp (to_z-of_z, c.ranges.now, c.in-Err-Fault.field-0-is) at c.reply_to_no_text-reply.ensures); begun = λ till. refl };
+  replied = λ known at. record { reply = rw (at.name_is, at.moment_is) (simp (to_z-of_z, c.ranges.now, c.in-Err-Fault.field-0-is) at c.reply_to_no_text-reply.ensures); begun = λ till. refl; prepared = tt };
 }

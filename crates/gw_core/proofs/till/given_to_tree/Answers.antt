@@ -22,12 +22,12 @@ pub returns-in-Ok-Silent : goal.returns-in-Ok-Silent
 returns-in-Ok-Silent c = λ message spelled. record {
   as_read = Silent;
   read = record { tree = value_of c.args.json.now; spelled = spelled; read = subst (IsTillMessage (value_of c.args.json.now)) c.in-Ok-Silent.field-0-is c.in-Ok-Silent.ensures.ok };
-  replied = λ known at. record { reply = tt; begun = λ till. refl };
+  replied = λ known at. record { reply = tt; begun = λ till. refl; prepared = tt };
 }
 
 pub returns-in_ok-reply-in-Err-Fault : goal.returns-in_ok-reply-in-Err-Fault
 returns-in_ok-reply-in-Err-Fault c = λ message spelled. record {
   as_read = NoMessage c.in-Err-Fault.fault;
   read = record { tree = value_of c.args.json.now; spelled = spelled; faulty = subst (RefusesTree (value_of c.args.json.now)) c.in-Err-Fault.field-0-is c.in-Err-Fault.ensures.err };
-  replied = λ known at. record { reply = rw (at.name_is, at.moment_is) (simp (to_z-of_z, c.ranges.now) at c.in_ok-reply-in-Err-Fault.ensures); begun = λ till. refl };
+  replied = λ known at. record { reply = rw (at.name_is, at.moment_is) (simp (to_z-of_z, c.ranges.now) at c.in_ok-reply-in-Err-Fault.ensures); begun = λ till. refl; prepared = tt };
 }

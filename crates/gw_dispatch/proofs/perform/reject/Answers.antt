@@ -6,20 +6,17 @@ use Rattle.gw_dispatch.proofs.FitLemmas.{linked-is}
 use Rattle.gw_dispatch.proofs.GrowthLemmas.{still-stands}
 use Rattle.gw_dispatch.proofs.RunStateLemmas.{stays-same}
 use Rattle.gw_dispatch.proofs.PerformLemmas.{Performs, all-in-order, outside-handled, none-performed}
-use Rattle.gw_dispatch.proofs.PtsLemmas.{all-serve-no-other}
+use Rattle.gw_dispatch.proofs.ReaderLemmas.{still-same}
 use Rattle.gw_dispatch.proofs.perform.reject.Goals as goal
-
-pub cut-requires-clause-unserved : goal.cut-requires-clause-unserved
-cut-requires-clause-unserved g c = all-serve-no-other c.args.core.now c.args.pt c.requires.dialogues
 
 pub returns-then-is_linked-clause-triple : goal.returns-then-is_linked-clause-triple
 returns-then-is_linked-clause-triple g c = λ item outside.
-    let cuts : Performs (g.S.Site.observed c.args.site.now) (g.S.Site.observed c.cut.new.site) c.args.core.now c.cut.new.core c.args.now (CutPt c.args.pt ∷ []) = simp (to_z-of_z, c.ranges.now) at c.cut.ensures.triple in
-    outside-handled _ _ c.args.core.now c.cut.new.core c.args.now c.args.pt item true outside (linked-is c.args.core.now.terminals c.args.pt c.is_linked.result c.requires.there c.is_linked.ensures ∙ c.if-is_linked.true) cuts
+    let cuts : Performs (g.S.Site.observed c.args.site.now) (g.S.Site.observed c.cut.new.site) c.args.core.now c.cut.new.core c.args.tills.now.list.items c.cut.new.tills.list.items c.args.now (CutPt c.args.pt ∷ []) = simp (to_z-of_z, c.ranges.now) at c.cut.ensures.triple in
+    outside-handled _ _ c.args.core.now c.cut.new.core c.args.tills.now.list.items c.cut.new.tills.list.items c.args.now c.args.pt item true outside (linked-is c.args.core.now.terminals c.args.pt c.is_linked.result c.requires.there c.is_linked.ensures ∙ c.if-is_linked.true) cuts
 
 pub returns-else-is_linked-clause-triple : goal.returns-else-is_linked-clause-triple
 returns-else-is_linked-clause-triple g c = λ item outside.
-    outside-handled _ _ c.args.core.now c.args.core.now c.args.now c.args.pt item false outside (linked-is c.args.core.now.terminals c.args.pt c.is_linked.result c.requires.there c.is_linked.ensures ∙ c.if-is_linked.false) (none-performed _ c.args.core.now c.args.now)
+    outside-handled _ _ c.args.core.now c.args.core.now c.args.tills.now.list.items c.args.tills.now.list.items c.args.now c.args.pt item false outside (linked-is c.args.core.now.terminals c.args.pt c.is_linked.result c.requires.there c.is_linked.ensures ∙ c.if-is_linked.false) (none-performed _ c.args.core.now c.args.tills.now.list.items c.args.now)
 
 pub returns-then-is_linked-clause-order : goal.returns-then-is_linked-clause-order
 returns-then-is_linked-clause-order g c = all-in-order c.args.core.now c.cut.new.core c.args.pt c.cut.ensures.order
@@ -29,3 +26,6 @@ returns-else-is_linked-clause-order g c = stays-same c.args.core.now
 
 pub returns-else-is_linked-clause-goes_on : goal.returns-else-is_linked-clause-goes_on
 returns-else-is_linked-clause-goes_on g c = still-stands _
+
+pub returns-else-is_linked-clause-still : goal.returns-else-is_linked-clause-still
+returns-else-is_linked-clause-still g c = still-same c.args.tills.now.list.items

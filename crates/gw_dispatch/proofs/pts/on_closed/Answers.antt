@@ -1,37 +1,47 @@
 -- Proof of the contract of `on_closed`.
-use Rattle.std.proofs.Common.{[], refl, sym, ◌∙◌}
+use Rattle.std.proofs.Common.{refl, inl, sym, ◌∙◌}
 use Rattle.std.proofs.lemmas.Int.{to_z-of_z}
 use Rattle.gw_base.specs.Moment.{moment_of}
 use Rattle.gw_owes.specs.Links.{LinkIsLost, link_row}
+use Rattle.gw_rules.proofs.TripleLemmas.{triple-then}
 use Rattle.gw_core.specs.IsRow.{known_with}
-use Rattle.gw_rules.specs.Example.{example_setup}
 use Rattle.gw_dispatch.specs.MidRound.{AreReady}
-use Rattle.gw_dispatch.proofs.GrowthLemmas.{still-stands}
-use Rattle.gw_dispatch.proofs.PerformLemmas.{IsRowOf, all-in-order, link-orders}
-use Rattle.gw_dispatch.proofs.PtsLemmas.{all-serve-no-other, lost-handled, lost-ready}
+use Rattle.gw_dispatch.proofs.PerformLemmas.{IsRowOf, all-in-order, link-orders, lost-reply, others-then, wanted-writable}
+use Rattle.gw_dispatch.proofs.PtsLemmas.{lost-handled, lost-ready, over-heard}
+use Rattle.gw_dispatch.proofs.SendLemmas.{sent-count, sent-stays}
 use Rattle.gw_dispatch.proofs.pts.on_closed.Goals as goal
 
-pub on_link-requires-clause-others : goal.on_link-requires-clause-others
-on_link-requires-clause-others g c = all-serve-no-other c.args.core.now c.args.pt c.requires.ready.dialogues
+pub send_owed-requires-clause-replies : goal.send_owed-requires-clause-replies
+send_owed-requires-clause-replies g c =
+    let is : IsRowOf c.args.core.now (moment_of c.args.now) (λ known. link_row known c.args.pt LinkIsLost) c.on_link-owed.new.self c.on_link-owed.result = simp (to_z-of_z, c.ranges.now) at c.on_link-owed.ensures.row in
+    lost-reply c.args.core.now c.on_link-owed.new.self (moment_of c.args.now) c.args.pt c.on_link-owed.result is
+
+pub send_owed-requires-clause-writable : goal.send_owed-requires-clause-writable
+send_owed-requires-clause-writable g c = wanted-writable c.args.pt c.on_link-owed.result c.on_link-owed.ensures.wanted
 
 pub returns-clause-triple : goal.returns-clause-triple
-returns-clause-triple g c = λ setup kept tills polls items. lost-handled _ setup c.args.core.now c.on_link.new.self kept tills polls c.args.now c.args.readers.now c.args.pt items c.requires.ready.dialogues
-    (simp (to_z-of_z, c.ranges.now) at (c.on_link.ensures.row setup kept).core_is)
+returns-clause-triple g c = λ setup kept polls items.
+    let is : IsRowOf c.args.core.now (moment_of c.args.now) (λ known. link_row known c.args.pt LinkIsLost) c.on_link-owed.new.self c.on_link-owed.result = simp (to_z-of_z, c.ranges.now) at c.on_link-owed.ensures.row in
+    let row = is setup kept in
+    let ready : AreReady c.on_link-owed.new.self c.args.readers.now = lost-ready c.args.core.now c.on_link-owed.new.self c.on_link-owed.new.self (moment_of c.args.now) c.args.pt c.on_link-owed.result c.args.readers.now is (inl refl) c.requires.ready in
+    triple-then _ _ _ _ _ _
+    (lost-handled _ setup c.args.core.now c.on_link-owed.new.self kept c.args.tills.now.list.items polls c.args.now c.args.readers.now c.args.pt items c.on_link-owed.result row)
+    (over-heard _ _ setup c.on_link-owed.new.self c.send_owed.new.core kept c.args.tills.now.list.items c.send_owed.new.tills.list.items polls c.args.now c.args.readers.now (link_row (known_with setup kept c.args.core.now (moment_of c.args.now)) c.args.pt LinkIsLost).calls items items c.requires.ready.waits
+    (ready.count ∙ sym (sent-count c.on_link-owed.new.self c.send_owed.new.core c.send_owed.ensures.core)) (λ heard. c.send_owed.ensures.triple _ row.calls_are setup kept polls c.args.now heard items))
 
 pub returns-clause-ready : goal.returns-clause-ready
-returns-clause-ready g c = lost-ready (known_with example_setup [] c.args.core.now (moment_of c.args.now)) c.args.core.now c.on_link.new.self c.args.pt c.args.readers.now refl
-    (simp (to_z-of_z, c.ranges.now) at (c.on_link.ensures.row example_setup []).core_is) c.requires.ready
+returns-clause-ready g c =
+    let is : IsRowOf c.args.core.now (moment_of c.args.now) (λ known. link_row known c.args.pt LinkIsLost) c.on_link-owed.new.self c.on_link-owed.result = simp (to_z-of_z, c.ranges.now) at c.on_link-owed.ensures.row in
+    lost-ready c.args.core.now c.on_link-owed.new.self c.send_owed.new.core (moment_of c.args.now) c.args.pt c.on_link-owed.result c.args.readers.now is c.send_owed.ensures.core c.requires.ready
 
 pub returns-clause-count : goal.returns-clause-count
 returns-clause-count g c =
-    let ready : AreReady c.on_link.new.self c.args.readers.now = lost-ready (known_with example_setup [] c.args.core.now (moment_of c.args.now)) c.args.core.now c.on_link.new.self c.args.pt c.args.readers.now refl
-    (simp (to_z-of_z, c.ranges.now) at (c.on_link.ensures.row example_setup []).core_is) c.requires.ready in
+    let is : IsRowOf c.args.core.now (moment_of c.args.now) (λ known. link_row known c.args.pt LinkIsLost) c.on_link-owed.new.self c.on_link-owed.result = simp (to_z-of_z, c.ranges.now) at c.on_link-owed.ensures.row in
+    let ready : AreReady c.send_owed.new.core c.args.readers.now = lost-ready c.args.core.now c.on_link-owed.new.self c.send_owed.new.core (moment_of c.args.now) c.args.pt c.on_link-owed.result c.args.readers.now is c.send_owed.ensures.core c.requires.ready in
     sym ready.count ∙ c.requires.ready.count
 
 pub returns-clause-order : goal.returns-clause-order
 returns-clause-order g c =
-    let is : IsRowOf c.args.core.now (moment_of c.args.now) (λ known. link_row known c.args.pt LinkIsLost) c.on_link.new.self c.on_link.result = simp (to_z-of_z, c.ranges.now) at c.on_link.ensures.row in
-    all-in-order c.args.core.now c.on_link.new.self c.args.pt (link-orders c.args.core.now c.on_link.new.self (moment_of c.args.now) c.args.pt LinkIsLost c.on_link.result is)
-
-pub returns-clause-goes_on : goal.returns-clause-goes_on
-returns-clause-goes_on g c = still-stands _
+    let is : IsRowOf c.args.core.now (moment_of c.args.now) (λ known. link_row known c.args.pt LinkIsLost) c.on_link-owed.new.self c.on_link-owed.result = simp (to_z-of_z, c.ranges.now) at c.on_link-owed.ensures.row in
+    all-in-order c.args.core.now c.send_owed.new.core c.args.pt
+    (others-then c.args.pt c.args.core.now c.on_link-owed.new.self c.send_owed.new.core (link-orders c.args.core.now c.on_link-owed.new.self (moment_of c.args.now) c.args.pt LinkIsLost c.on_link-owed.result is) (sent-stays c.on_link-owed.new.self c.send_owed.new.core c.send_owed.ensures.core))

@@ -12,6 +12,7 @@ use Rattle.gw_dispatch.specs.Apdus.{items_held}
 use Rattle.gw_dispatch.specs.MidRound.{AreHeard, HeldRound, is_linked_in}
 use Rattle.gw_dispatch.proofs.ApduLemmas.{less-apdu, rest-waiting}
 use Rattle.gw_dispatch.proofs.HandleLemmas.{disk-done, disk-failed}
+use Rattle.gw_dispatch.proofs.ReaderLemmas.{still-same}
 use Rattle.gw_dispatch.proofs.RunStateLemmas.{well-core}
 use Rattle.gw_dispatch.proofs.PtsLemmas.{apdu-first, apdu-handled, apdu-cut, apdu-waits, oversized-cut}
 use Rattle.gw_dispatch.proofs.pts.take_apdu.Goals as goal
@@ -32,6 +33,12 @@ returns-in-Ok-None-clause-reader g c =
     let leaves : LeavesBytes c.args.reader.now (Ok None) c.next.follows.lender-at-none =
     subst (λ r. LeavesBytes c.args.reader.now r c.next.follows.lender-at-none) (c.in-Ok-None.is ∙ ap Ok c.in-Ok-None.field-0-is) c.next.follows.holds-at-none in
     record { waits = ap decode_apdu leaves.1 ∙ none; rest = λ linked. leaves.1 ∙ sym (rest-waiting c.args.reader.now none) }
+
+pub on_apdu-requires-clause-within : goal.on_apdu-requires-clause-within
+on_apdu-requires-clause-within g c =
+    let leaves : LeavesBytes c.args.reader.now (Ok (Some c.in-Ok-Some.apdu)) c.next.follows.lender-at-none =
+    subst (λ r. LeavesBytes c.args.reader.now r c.next.follows.lender-at-none) (c.in-Ok-Some.is ∙ ap Ok c.in-Ok-Some.field-0-is) c.next.follows.holds-at-none in
+    leaves.1.within
 
 pub returns-in-Ok-true-clause-triple : goal.returns-in-Ok-true-clause-triple
 returns-in-Ok-true-clause-triple g c =
@@ -69,8 +76,8 @@ returns-clause-triple g c = λ setup polls heard items.
           rw (w.state-is, w.tills-is, w.site-is) (
           let fault : ReturnsApdu (Err w.in-Err.field-0) (decode_apdu c.args.reader.now) = subst (λ r. ReturnsApdu r (decode_apdu c.args.reader.now)) w.in-Err.is c.next.ensures.computes in
           let long = too-long w.in-Err.field-0 (decode_apdu c.args.reader.now) fault in
-          oversized-cut _ _ c.args.state.now (record c.args.state.now { core = w.on_oversized.new.core }) c.args.tills.now.list.items c.args.tills.now.list.items c.args.now c.args.pt c.args.reader.now long.0 long.1
-          (λ setup polls heard items. simp (to_z-of_z, c.ranges.now) at (w.on_oversized.ensures.triple setup c.args.state.now.records.ledger.records c.args.tills.now.list.items polls heard items))
+          oversized-cut _ _ c.args.state.now (record c.args.state.now { core = w.on_oversized.new.core }) c.args.tills.now.list.items w.on_oversized.new.tills.list.items c.args.now c.args.pt c.args.reader.now long.0 long.1
+          (λ setup polls heard items. simp (to_z-of_z, c.ranges.now) at (w.on_oversized.ensures.triple setup c.args.state.now.records.ledger.records polls heard items))
           setup polls heard items)
     ]
 
@@ -79,4 +86,14 @@ returns-clause-well g c =
     elim c.match-next.branch [
       | in-Ok-Some+in-Ok-false w ↦ rw (w.state-is, w.site-is) w.in-Ok-false.ensures.well
       | in-Err w ↦ rw (w.state-is, w.site-is) (well-core c.args.state.now w.on_oversized.new.core _ _ c.requires.well w.on_oversized.ensures.order w.on_oversized.ensures.dialogues w.on_oversized.ensures.goes_on)
+    ]
+
+pub returns-in-Ok-None-clause-still : goal.returns-in-Ok-None-clause-still
+returns-in-Ok-None-clause-still g c = still-same c.args.tills.now.list.items
+
+pub returns-clause-still : goal.returns-clause-still
+returns-clause-still g c =
+    elim c.match-next.branch [
+      | in-Ok-Some+in-Ok-false w ↦ rw w.tills-is w.on_apdu.ensures.still
+      | in-Err w ↦ rw w.tills-is w.on_oversized.ensures.still
     ]

@@ -8,6 +8,7 @@ use Rattle.gw_dispatch.specs.Apdus.{items_held}
 use Rattle.gw_dispatch.specs.Growth.{HasGoneOn}
 use Rattle.gw_dispatch.specs.RunState.{IsWell}
 use Rattle.gw_dispatch.specs.MidRound.{AreHeard, HeldRound}
+use Rattle.gw_dispatch.specs.Tills.{AllStillHold}
 use Rattle.gw_dispatch.proofs.pts.take_apdus.Given as goal
 
 abbrev pub invariant-loop : goal.invariant-loop
@@ -19,6 +20,7 @@ invariant-loop g l = record {
   well : IsWell l.state (g.S.Site.observed l.site);
   gateway : l.state.gateway ≡ l.fn.state.gateway;
   count : length l.state.core.terminals ≡ length l.fn.state.core.terminals;
+  still : AllStillHold l.fn.tills.list.items l.tills.list.items;
   goes_on : HasGoneOn (g.S.Site.observed l.fn.site) (g.S.Site.observed l.site);
 }
 

@@ -1,10 +1,13 @@
 -- The premises of the laws hold of the examples, by computing.
-use Rattle.std.proofs.Common.{refl, lit<, lit≤}
+use Rattle.std.proofs.Common.{refl, codes, lit<, lit≤}
 use Rattle.std.specs.Fmt.{digits}
 use Rattle.gw_base.specs.Transaction.{transaction_text}
-use Rattle.gw_ledger.specs.Example.{second}
+use Rattle.gw_ledger.specs.Example.{key, second}
 use Rattle.gw_ledger.specs.History.{history}
+use Rattle.gw_ledger.specs.Keys.{settled_key}
+use Rattle.gw_ledger.specs.Premises.{day_settled}
 use Rattle.gw_ledger.proofs.ExampleLemmas.{day_folded, opened_folded, second_within, undone_folded}
+use Rattle.gw_ledger.proofs.SettlingLemmas.{keys_differ, texts_differ}
 use Rattle.gw_ledger.proofs.laws.law_examples.Goals as goal
 
 pub returns-clause-next : goal.returns-clause-next
@@ -80,3 +83,13 @@ returns-clause-reversed_once c = record {
 pub returns-clause-second_reversal : goal.returns-clause-second_reversal
 unfolding history
 returns-clause-second_reversal c = record { after_decline = refl; while_open = refl; after_approval = refl }
+
+pub returns-clause-settling : goal.returns-clause-settling
+unfolding history
+returns-clause-settling c = record {
+  may_come = refl;
+  other_poi = texts_differ (codes "B") day_settled.poi refl;
+  other_key = keys_differ (key (codes "2")) (settled_key day_settled) refl;
+  ended = record { kept = refl; what = refl; poi_is = refl; ended = refl };
+  settled = refl;
+}

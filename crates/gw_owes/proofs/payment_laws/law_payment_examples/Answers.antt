@@ -1,5 +1,5 @@
 -- Proof of the contract of `law_payment_examples`.
-use Rattle.gw_owes.proofs.PaymentExampleLemmas.{payment-accepted, payment-begins, command-fails, approved, not-above, unclear-end, declined, second-request, room}
+use Rattle.gw_owes.proofs.PaymentExampleLemmas.{payment-accepted, payment-begins, command-fails, approved, not-above, unclear-end, declined, second-request, room, beside-day}
 use Rattle.gw_owes.proofs.payment_laws.law_payment_examples.Goals as goal
 
 pub returns-clause-begins : goal.returns-clause-begins
@@ -28,3 +28,6 @@ returns-clause-second c = second-request
 
 pub returns-clause-room : goal.returns-clause-room
 returns-clause-room c = room
+
+pub returns-clause-day : goal.returns-clause-day
+returns-clause-day c = beside-day

@@ -1,5 +1,5 @@
 -- Proof of the contract of `law_repeats`.
-use Rattle.gw_owes.proofs.AskedLemmas.{repeat-begins-nothing, asked-sends-none, asked-begins, only-asked-begins}
+use Rattle.gw_owes.proofs.AskedLemmas.{repeat-begins-nothing, asked-sends-none, asked-begins, key-of-day-not-allowed, only-asked-begins}
 use Rattle.gw_owes.proofs.payment_laws.law_repeats.Goals as goal
 
 pub returns-clause-repeat : goal.returns-clause-repeat
@@ -13,3 +13,6 @@ returns-clause-begins c = asked-begins
 
 pub returns-clause-others : goal.returns-clause-others
 returns-clause-others c = only-asked-begins
+
+pub returns-clause-of_day : goal.returns-clause-of_day
+returns-clause-of_day c = key-of-day-not-allowed

@@ -1,6 +1,6 @@
 -- Proof of the contract of `law_record_examples`.
 use Rattle.gw_owes.proofs.AskedTextLemmas.{fourth-aborted-read, fourth-read, second-reversed-read}
-use Rattle.gw_owes.proofs.RecordExampleLemmas.{RecordFacts, intent-is-kept, key-stays-open, outcome-is-kept, request-begins, reversal-is-kept, stop-keeps-nothing}
+use Rattle.gw_owes.proofs.RecordExampleLemmas.{RecordFacts, intent-is-kept, key-stays-open, outcome-is-kept, request-begins, reversal-is-kept, settled-is-kept, stop-keeps-nothing}
 use Rattle.gw_owes.proofs.record_laws.law_record_examples.Goals as goal
 
 facts : (c : goal.After-law_examples) → RecordFacts
@@ -11,6 +11,7 @@ facts c = record {
   items = c.law_records.ensures.items;
   ready = c.law_examples.ensures.payment;
   opened = c.law_examples.ensures.outcome;
+  reconciled = c.law_examples.ensures.reconciliation;
   read = fourth-read;
   reversed = second-reversed-read;
   aborted = fourth-aborted-read;
@@ -33,3 +34,6 @@ returns-clause-reversal c = reversal-is-kept (facts c)
 
 pub returns-clause-stop : goal.returns-clause-stop
 returns-clause-stop c = stop-keeps-nothing (facts c)
+
+pub returns-clause-settled : goal.returns-clause-settled
+returns-clause-settled c = settled-is-kept (facts c)

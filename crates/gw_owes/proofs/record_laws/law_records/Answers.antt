@@ -1,4 +1,5 @@
 -- Proof of the contract of `law_records`.
+use Rattle.gw_owes.proofs.MemoryLemmas.{gone-leaves-days, messages-take-theirs, requests-take-one}
 use Rattle.gw_owes.proofs.OrderLemmas.{cuts-in-order, items-read, links-in-order, new-in-order, rows-in-order}
 use Rattle.gw_owes.proofs.RecordLemmas.{LedgerLaws}
 use Rattle.gw_owes.proofs.record_laws.law_records.Goals as goal
@@ -14,6 +15,7 @@ ledger_laws c = record {
   payment = c.law_fits.ensures.payment;
   reversal = c.law_fits.ensures.reversal;
   outcome = c.law_fits.ensures.outcome;
+  settled = c.law_fits.ensures.settled;
 }
 
 pub returns-clause-new : goal.returns-clause-new
@@ -30,3 +32,12 @@ returns-clause-links c = links-in-order
 
 pub returns-clause-items : goal.returns-clause-items
 returns-clause-items c = items-read (ledger_laws c) c.law_read_fits.ensures.numbers
+
+pub returns-clause-messages : goal.returns-clause-messages
+returns-clause-messages c = messages-take-theirs
+
+pub returns-clause-requests : goal.returns-clause-requests
+returns-clause-requests c = requests-take-one
+
+pub returns-clause-gone : goal.returns-clause-gone
+returns-clause-gone c = gone-leaves-days

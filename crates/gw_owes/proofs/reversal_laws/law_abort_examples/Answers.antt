@@ -1,5 +1,5 @@
 -- Proof of the contract of `law_abort_examples`.
-use Rattle.gw_owes.proofs.AbortExampleLemmas.{abort-unserved, enquired-after-stop, late-acknowledgement, late-refusal, stop-sent, stopped-ends}
+use Rattle.gw_owes.proofs.AbortExampleLemmas.{abort-unserved, day-aborted, display-aborted, enquired-after-stop, late-acknowledgement, late-refusal, stop-sent, stopped-ends}
 use Rattle.gw_owes.proofs.reversal_laws.law_abort_examples.Goals as goal
 
 pub returns-clause-unserved : goal.returns-clause-unserved
@@ -19,3 +19,9 @@ returns-clause-enquired c = enquired-after-stop
 
 pub returns-clause-late_acknowledgement : goal.returns-clause-late_acknowledgement
 returns-clause-late_acknowledgement c = late-acknowledgement
+
+pub returns-clause-of_day : goal.returns-clause-of_day
+returns-clause-of_day c = day-aborted
+
+pub returns-clause-display : goal.returns-clause-display
+returns-clause-display c = display-aborted

@@ -1,6 +1,6 @@
 -- Proof of the contract of `law_aborts`.
 use Rattle.gw_owes.proofs.PaymentLawLemmas.{decline-is-kept}
-use Rattle.gw_owes.proofs.StopLemmas.{ack-or-nack-ends-nothing, each-stop-is-first, stop-ends-nothing, stopped-is-not-stopped-again, wished-is-sent}
+use Rattle.gw_owes.proofs.StopLemmas.{abort-code-of-day-is-replied, ack-or-nack-ends-nothing, each-stop-is-first, stop-ends-nothing, stopped-is-not-stopped-again, wished-is-sent}
 use Rattle.gw_owes.proofs.reversal_laws.law_aborts.Goals as goal
 
 pub returns-clause-then_sent : goal.returns-clause-then_sent
@@ -20,3 +20,6 @@ returns-clause-refused c = ack-or-nack-ends-nothing
 
 pub returns-clause-aborted : goal.returns-clause-aborted
 returns-clause-aborted c = λ known number apdu terminal slot last reported at. decline-is-kept known number apdu terminal slot last 0x6C reported at
+
+pub returns-clause-aborted_day : goal.returns-clause-aborted_day
+returns-clause-aborted_day c = abort-code-of-day-is-replied

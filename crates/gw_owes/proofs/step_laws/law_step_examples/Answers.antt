@@ -1,5 +1,5 @@
 -- Proof of the contract of `law_step_examples`.
-use Rattle.gw_owes.proofs.StepExampleLemmas.{payment-again, other-content, open-again, declined-again, reversal-again, reconciliation-again, status, last-status, abort, new-key, used-up, room, unavailable, begins}
+use Rattle.gw_owes.proofs.StepExampleLemmas.{payment-again, other-content, open-again, declined-again, reversal-again, reconciliation-again, status, last-status, abort, new-key, used-up, room, unavailable, begins, new-reconciliation, day-served}
 use Rattle.gw_owes.proofs.step_laws.law_step_examples.Goals as goal
 
 pub returns-clause-payment : goal.returns-clause-payment
@@ -43,3 +43,9 @@ returns-clause-unavailable c = unavailable
 
 pub returns-clause-begins : goal.returns-clause-begins
 returns-clause-begins c = begins
+
+pub returns-clause-reconciled : goal.returns-clause-reconciled
+returns-clause-reconciled c = new-reconciliation
+
+pub returns-clause-day : goal.returns-clause-day
+returns-clause-day c = day-served

@@ -1,6 +1,6 @@
 -- Proof of the contract of `law_awaited`.
-use Rattle.gw_owes.proofs.HandlingLemmas.{acks-take-one, each-message-counts, late-is-unclear}
-use Rattle.gw_owes.proofs.StopLemmas.{each-served-counts}
+use Rattle.gw_owes.proofs.HandlingLemmas.{acks-take-one, each-message-counts, late-is-unclear, most-is-unclear}
+use Rattle.gw_owes.proofs.ServedCountLemmas.{each-served-counts}
 use Rattle.gw_owes.proofs.TerminalLemmas.{link-counts-anew}
 use Rattle.gw_owes.proofs.terminal_laws.law_awaited.Goals as goal
 
@@ -18,3 +18,6 @@ returns-clause-anew c = link-counts-anew
 
 pub returns-clause-late : goal.returns-clause-late
 returns-clause-late c = late-is-unclear
+
+pub returns-clause-most : goal.returns-clause-most
+returns-clause-most c = most-is-unclear

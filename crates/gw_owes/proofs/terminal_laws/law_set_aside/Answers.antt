@@ -1,5 +1,5 @@
 -- Proof of the contract of `law_set_aside`.
-use Rattle.gw_owes.proofs.AsideLemmas.{each-aside-has-cause, no-link-event-sets-aside, enquired-is-set-aside, aside-stays-aside}
+use Rattle.gw_owes.proofs.AsideLemmas.{each-aside-has-cause, no-link-event-sets-aside, enquired-is-set-aside, aside-stays-aside, each-served-leaves-last}
 use Rattle.gw_owes.proofs.PaymentExampleLemmas.{report-below, report-below-open}
 use Rattle.gw_owes.proofs.terminal_laws.law_set_aside.Goals as goal
 
@@ -14,6 +14,9 @@ returns-clause-enquired c = enquired-is-set-aside
 
 pub returns-clause-stays : goal.returns-clause-stays
 returns-clause-stays c = aside-stays-aside
+
+pub returns-clause-no_trace : goal.returns-clause-no_trace
+returns-clause-no_trace c = each-served-leaves-last
 
 pub returns-clause-example : goal.returns-clause-example
 returns-clause-example c = report-below

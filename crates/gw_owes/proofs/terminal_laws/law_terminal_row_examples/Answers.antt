@@ -1,5 +1,5 @@
 -- Proof of the contract of `law_terminal_row_examples`.
-use Rattle.gw_owes.proofs.ExampleLemmas.{becomes-ready, reports-last, registration-fails, enquiry-fails, link-fails, silence, stray-messages, foreign-command, outside, failed-send, unlinked, aside, stop, late-stop, compared-reports, many-terminals, diagnosis, unserved}
+use Rattle.gw_owes.proofs.ExampleLemmas.{becomes-ready, reports-last, registration-fails, enquiry-fails, link-fails, silence, stray-messages, foreign-command, outside, failed-send, unlinked, aside, stop, late-stop, compared-reports, many-terminals, diagnosis, end-of-day, day-lost, day-stopped, display, display-lost, outputs, lost-serving}
 use Rattle.gw_owes.proofs.terminal_laws.law_terminal_row_examples.Goals as goal
 
 pub returns-clause-becomes_ready : goal.returns-clause-becomes_ready
@@ -53,5 +53,23 @@ returns-clause-many c = many-terminals
 pub returns-clause-diagnosis : goal.returns-clause-diagnosis
 returns-clause-diagnosis c = diagnosis
 
-pub returns-clause-unserved : goal.returns-clause-unserved
-returns-clause-unserved c = unserved
+pub returns-clause-end_of_day : goal.returns-clause-end_of_day
+returns-clause-end_of_day c = end-of-day
+
+pub returns-clause-day_lost : goal.returns-clause-day_lost
+returns-clause-day_lost c = day-lost
+
+pub returns-clause-day_stopped : goal.returns-clause-day_stopped
+returns-clause-day_stopped c = day-stopped
+
+pub returns-clause-display : goal.returns-clause-display
+returns-clause-display c = display
+
+pub returns-clause-display_lost : goal.returns-clause-display_lost
+returns-clause-display_lost c = display-lost
+
+pub returns-clause-outputs : goal.returns-clause-outputs
+returns-clause-outputs c = outputs
+
+pub returns-clause-lost_serving : goal.returns-clause-lost_serving
+returns-clause-lost_serving c = lost-serving

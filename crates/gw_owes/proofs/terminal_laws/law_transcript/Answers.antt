@@ -1,7 +1,8 @@
 -- Proof of the contract of `law_transcript`.
 use Rattle.std.proofs.Common.{◌∙◌, ap, not}
 use Rattle.gw_owes.proofs.AwaitedLemmas.{rows-await, links-await, steps-await, unstopped-is-handed, awaited-of-stops}
-use Rattle.gw_owes.proofs.TranscriptLemmas.{new-follows, rows-follow, links-begin, steps-follow, example-transcript}
+use Rattle.gw_owes.proofs.TranscriptExampleLemmas.{example-transcript}
+use Rattle.gw_owes.proofs.TranscriptLemmas.{new-follows, rows-follow, links-begin, steps-follow}
 use Rattle.gw_owes.proofs.terminal_laws.law_transcript.Goals as goal
 
 pub returns-clause-new : goal.returns-clause-new

@@ -20,7 +20,7 @@ invariant_of-self c =
     let is : c.loop-terminal.terminal-items ≡ map (forgets_till c.args.till) items =
     all-mapped (forgets_till c.args.till) items c.deref_mut-terminal-items.result.now c.loop-terminal.terminal-items c.loop-terminal.terminal-index c.deref_mut-terminal-items.ensures.value c.loop-terminal-test.false c.loop-terminal.invariant in
     rw (written-back items c.loop-terminal.terminal-items c.self.inside.terminals.len (ap length is ∙ length-map items (forgets_till c.args.till)) (sym c.deref_mut-terminal-items.ensures.len ∙ ap length c.deref_mut-terminal-items.ensures.value), is)
-    (rw length-map c.self.invariant.0, forgotten-have-settings items c.args.till c.self.invariant.1)
+    (rw length-map c.self.invariant.0, forgotten-have-settings items c.args.till c.self.invariant.1, c.self.invariant.2)
 
 pub returns : goal.returns
 returns c =

@@ -32,7 +32,7 @@ pub returns-in-TillClosed-clause-triple : goal.returns-in-TillClosed-clause-trip
 returns-in-TillClosed-clause-triple g c = λ setup polls named. rest-forgotten _ c.in-TillClosed.number c.args.buf.now setup c.args.self.now c.forget.new.self polls c.args.now c.args.what c.in-TillClosed.is c.forget.ensures.list c.forget.ensures.state (ap (λ readers. readers.items) c.forget.ensures.readers)
 
 pub returns-in-TillClosed-clause-ready : goal.returns-in-TillClosed-clause-ready
-returns-in-TillClosed-clause-ready g c = ready-without c.args.self.now c.in-TillClosed.number c.forget.new.self _ _ c.forget.ensures.state c.forget.ensures.readers c.requires.ready (still-stands _)
+returns-in-TillClosed-clause-ready g c = ready-without c.args.self.now c.in-TillClosed.number c.forget.new.self _ _ c.forget.ensures.state c.forget.ensures.list c.forget.ensures.readers c.requires.ready (still-stands _)
 
 pub returns-in-Ok-clause-triple : goal.returns-in-Ok-clause-triple
 returns-in-Ok-clause-triple g c = λ setup polls named. triple-then _ _ _ _ _ _

@@ -16,9 +16,9 @@ returns-then-not-is_linked-clause-triple g c = λ setup polls.
 
 pub returns-clause-triple : goal.returns-clause-triple
 returns-clause-triple g c = λ setup polls.
-    pt-handled _ _ _ setup c.args.self.now.state.core c.on_closed.new.core c.args.self.now.state.records.ledger.records c.args.self.now.readers.items c.args.self.now.tills.list.items polls c.args.now c.on_closed.ensures.count
-    (rw c.deref.ensures.value at (simp (to_z-of_z, c.ranges.now) at (c.on_closed.ensures.triple setup c.args.self.now.state.records.ledger.records c.args.self.now.tills.list.items polls (due_in c.args.self.now))))
+    pt-handled _ _ _ setup c.args.self.now.state.core c.on_closed.new.core c.args.self.now.state.records.ledger.records c.args.self.now.readers.items c.on_closed.new.tills.list.items polls c.args.now c.on_closed.ensures.count
+    (rw c.deref.ensures.value at (simp (to_z-of_z, c.ranges.now) at (c.on_closed.ensures.triple setup c.args.self.now.state.records.ledger.records polls (due_in c.args.self.now))))
 
 pub returns-clause-ready : goal.returns-clause-ready
-returns-clause-ready g c = ready-core c.args.self.now c.on_closed.new.core c.args.self.now.readers.items _ _ _ refl refl c.requires.ready c.on_closed.ensures.order
+returns-clause-ready g c = ready-core c.args.self.now c.on_closed.new.core c.args.self.now.readers.items _ _ _ refl refl c.requires.ready c.on_closed.ensures.still c.on_closed.ensures.order
     (rw c.deref.ensures.value at c.on_closed.ensures.ready) c.on_closed.ensures.goes_on

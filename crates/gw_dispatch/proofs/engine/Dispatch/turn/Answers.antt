@@ -17,6 +17,7 @@ use Rattle.gw_rules.proofs.CallLemmas.{poll-triple}
 use Rattle.gw_dispatch.specs.Rounds.{IsBetweenRounds, IsPolled}
 use Rattle.gw_dispatch.specs.declared.engine.Dispatch.{Dispatch}
 use Rattle.gw_dispatch.proofs.GrowthLemmas.{goes-then, was-polled}
+use Rattle.gw_dispatch.proofs.ReaderLemmas.{still-same}
 use Rattle.gw_dispatch.proofs.RunStateLemmas.{ready-core, stays-same}
 use Rattle.gw_dispatch.proofs.RoundLemmas.{rest-polled, handled-rest}
 use Rattle.gw_dispatch.proofs.engine.Dispatch.turn.Goals as goal
@@ -33,15 +34,15 @@ returns-in-Ok-Went-clause-triple g c = λ setup polls named.
     triple-then _ _ _ _ _ _
     (polled _ _ setup c.args.self.now polls c.poll-now.result (to_z w64 (of_z w64 c.poll-now.result.now)) c.poll-now.new.buf same c.poll-now.ensures.turns c.poll-now.ensures.step c.poll-now.ensures.promise c.poll-now.ensures.count c.poll-now.ensures.buf c.on_event.ensures.bytes)
     (triple-then _ _ _ _ _ _ (rw c.in-Ok-Went.field-0-is at (c.in-Ok-Went.ensures.triple setup polls named))
-    (triple-after _ _ _ _ _ (rw c.deref_mut.ensures.value at (c.on_due.ensures.triple setup c.on_event.new.self.state.records.ledger.records c.on_event.new.self.tills.list.items (polls + 1)))
-    (λ v q. handled-rest setup (record { state = record c.on_event.new.self.state { core = c.on_due.new.core }; tills = c.on_event.new.self.tills; readers = with_items c.on_event.new.self.readers c.on_due.new.readers }) (polls + 1) (to_z w64 (of_z w64 c.poll-now.result.now)) v
+    (triple-after _ _ _ _ _ (rw c.deref_mut.ensures.value at (c.on_due.ensures.triple setup c.on_event.new.self.state.records.ledger.records (polls + 1)))
+    (λ v q. handled-rest setup (record { state = record c.on_event.new.self.state { core = c.on_due.new.core }; tills = c.on_due.new.tills; readers = with_items c.on_event.new.self.readers c.on_due.new.readers }) (polls + 1) (to_z w64 (of_z w64 c.poll-now.result.now)) v
     (rw (with_items_is c.on_event.new.self.readers c.on_due.new.readers (c.on_due.auto.readers ∙ c.deref_mut.ensures.len)) q))))
 
 pub on_event-requires-clause-ready : goal.on_event-requires-clause-ready
-on_event-requires-clause-ready g c = ready-core c.args.self.now c.args.self.now.state.core c.args.self.now.readers.items _ _ _ refl refl c.requires.ready (stays-same c.args.self.now.state.core) c.requires.ready.terminals (was-polled _ _ c.poll-now.result c.poll-now.new.buf c.poll-now.ensures.turns c.poll-now.ensures.cause)
+on_event-requires-clause-ready g c = ready-core c.args.self.now c.args.self.now.state.core c.args.self.now.readers.items _ _ _ refl refl c.requires.ready (still-same c.args.self.now.tills.list.items) (stays-same c.args.self.now.state.core) c.requires.ready.terminals (was-polled _ _ c.poll-now.result c.poll-now.new.buf c.poll-now.ensures.turns c.poll-now.ensures.cause)
 
 pub returns-in-Ok-Went-clause-ready : goal.returns-in-Ok-Went-clause-ready
-returns-in-Ok-Went-clause-ready g c = ready-core c.on_event.new.self c.on_due.new.core c.on_due.new.readers _ _ _ refl (with_items_is c.on_event.new.self.readers c.on_due.new.readers (c.on_due.auto.readers ∙ c.deref_mut.ensures.len)) c.in-Ok-Went.ensures.ready c.on_due.ensures.order c.on_due.ensures.ready c.on_due.ensures.goes_on
+returns-in-Ok-Went-clause-ready g c = ready-core c.on_event.new.self c.on_due.new.core c.on_due.new.readers _ _ _ refl (with_items_is c.on_event.new.self.readers c.on_due.new.readers (c.on_due.auto.readers ∙ c.deref_mut.ensures.len)) c.in-Ok-Went.ensures.ready c.on_due.ensures.still c.on_due.ensures.order c.on_due.ensures.ready c.on_due.ensures.goes_on
 
 pub returns-in-Ok-Went-clause-goes_on : goal.returns-in-Ok-Went-clause-goes_on
 returns-in-Ok-Went-clause-goes_on g c = goes-then _ _ _ (was-polled _ _ c.poll-now.result c.poll-now.new.buf c.poll-now.ensures.turns c.poll-now.ensures.cause).goes_on (goes-then _ _ _ c.in-Ok-Went.ensures.goes_on c.on_due.ensures.goes_on.goes_on)

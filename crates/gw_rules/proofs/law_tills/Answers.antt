@@ -1,0 +1,19 @@
+-- Proof of the contract of `law_tills`.
+use Rattle.gw_rules.proofs.TillLawLemmas.{uses-tills, owed-is-there, served-is-there, beginning-is-there}
+use Rattle.gw_rules.proofs.TillLogExampleLemmas.{closed-till-lawful}
+use Rattle.gw_rules.proofs.law_tills.Goals as goal
+
+pub returns-clause-used : goal.returns-clause-used
+returns-clause-used c = uses-tills
+
+pub returns-clause-owed : goal.returns-clause-owed
+returns-clause-owed c = owed-is-there
+
+pub returns-clause-served : goal.returns-clause-served
+returns-clause-served c = served-is-there
+
+pub returns-clause-begins : goal.returns-clause-begins
+returns-clause-begins c = beginning-is-there
+
+pub returns-clause-closed_example : goal.returns-clause-closed_example
+returns-clause-closed_example c = closed-till-lawful
