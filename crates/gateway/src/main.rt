@@ -1,4 +1,4 @@
-//! The gateway's program: the top call over the words and the standard streams of the process.
+//! The gateway's program: the top call over the words and the standard streams of the process, and a site over sockets and a file.
 #![tactic(auto)]
 
 ghost use Rattle.std.specs.Prelude.{◌≡◌, ◌⊎◌, codes};
@@ -7,7 +7,8 @@ ghost use Rattle.gw_bytes.specs.Bytes.{IsPrefix};
 ghost use Rattle.gw_run.specs.LogWritten.{Adds};
 
 use gw_base::Text;
-use gw_site::{Failed, NoSite, Sink, StdSink, StdSource};
+use gw_site::{Failed, Sink, StdSink, StdSource};
+use net_site::NetSite;
 use std::alloc::AllocError;
 use std::env::{self, Env};
 use std::io::ErrorKind;
@@ -33,7 +34,7 @@ fn words_of<R: Env + AllocGlobal>(rt: &R) -> Result<Vec<Text>, AllocError> {
     Ok(words)
 }
 
-/// Writes the last lines where there was no memory for the words, and returns the status.
+/// Writes the last lines where there was no memory for the words or the site, and returns the status.
 fn report_memory<O: Sink>(out: &mut O) -> u8
     ensures whole { result ≡ 71 → Adds (O.written out.old) (O.written out.new) (λ text. text ≡ codes "memory\nstatus 71\n") }
     ensures prefix { result ≡ 73 → Adds (O.written out.old) (O.written out.new) (λ text. IsPrefix text (codes "memory\nstatus 71\n")) }
@@ -49,9 +50,15 @@ fn report_memory<O: Sink>(out: &mut O) -> u8
 fn main(rt: HostRuntime) -> ExitCode {
     let mut input = StdSource::new(rt.stdin());
     let mut out = StdSink::new(rt.stdout());
-    let status = match words_of(&rt) {
-        Ok(words) => gw_run::top(rt.alloc(), &words, &mut NoSite::new(), &mut input, &mut out),
-        Err(AllocError) => report_memory(&mut out),
+    let status = match (words_of(&rt), NetSite::new(&rt, rt.alloc())) {
+        (Ok(words), Ok(mut site)) => gw_run::top(
+            rt.alloc(),
+            &words,
+            &mut site,
+            &mut input,
+            &mut out,
+        ),
+        (Err(AllocError), _) | (_, Err(AllocError)) => report_memory(&mut out),
     };
     ExitCode::from(status)
 }

@@ -32,8 +32,14 @@ mod reversal_tests;
 #[cfg(test)]
 mod script_tests;
 #[cfg(test)]
+mod serve_tests;
+#[cfg(test)]
 mod session_tests;
 #[cfg(test)]
 mod tables;
 #[cfg(test)]
+mod terminals_tests;
+#[cfg(test)]
 mod top_tests;
+#[cfg(test)]
+mod waiting_tests;

@@ -85,7 +85,7 @@ fn new_site(alloc: Global, script: &str) -> Result<SimSite, Fail>
 }
 
 /// A site that plays this script, and holds the file of these words where there are any.
-fn site_of(alloc: Global, script: &str, words: &str) -> Result<SimSite, Fail> {
+pub(crate) fn site_of(alloc: Global, script: &str, words: &str) -> Result<SimSite, Fail> {
     let mut site = new_site(alloc, script)?;
     if !words.is_empty() {
         site.holding(alloc, &file_of(alloc, words)?)?;

@@ -1,7 +1,7 @@
 //! Rows of reconciliations of the till's own, in the form that `tables` and `payment_lines` say: what is kept and counted, and what is
 //! repeated, settled and refused after them.
 use crate::opening_tests;
-use crate::tables::{check_after, push_form};
+use crate::tables::{check_after, check_row, push_form};
 use std::alloc::Global;
 use std::process::Abort;
 use std::test::Fail;
@@ -377,6 +377,33 @@ fn settlements(rt: HostRuntime) -> Result<(), Fail> {
         &[READY, PAYING, PAID, REVERSING],
         BESIDE_A_REVERSAL,
     )
+}
+
+/// The same of a terminal in francs.
+const READY_IN_FRANCS: &str = "\
+terminal T1 CHF 123456 186 131
+at 1741342264
+> start
+open 1
+> link 0
+> pt 0 out 060006123456ba0756
+pt 0 800000060f00
+> pt 0 out 800000
+> pt 0 out 062003123456
+pt 0 800000061e0183
+> pt 0 out 800000";
+
+/// The currency of a reconciliation is its terminal's.
+const IN_FRANCS: &str = r#"reconcile 1 1 SaleReconciliation
+> wrote 1 030102533100000000000000000000000000000000000000000000000000000000000000000000000000000254310000000000000000000000000000000000000000000000000000000000000000000000000000013100000000000000000007560000000067cac63800000000000000000000000000000000000000000000000000000000000000000000000000000000000000000000000000000000000000000000000000000000000000000000000000000000000000000000000000000000000000000000000000000000000000000000000000000000000000000000000000000000000000000000000000000000000000000000000000000000000000
+> synced
+> wrote 0 a5
+> synced
+> reply Service Reconciliation {"Response":{"Result":"Success"},"ReconciliationType":"SaleReconciliation","TransactionTotals":[{"PaymentInstrumentType":"Card","PaymentCurrency":"CHF","PaymentTotals":[{"TransactionType":"Debit","TransactionCount":0,"TransactionAmount":0.00},{"TransactionType":"ReverseDebit","TransactionCount":0,"TransactionAmount":0.00}]}]}"#;
+
+#[test]
+fn a_settlement_in_francs(rt: HostRuntime) -> Result<(), Fail> {
+    check_row(&rt, rt.alloc(), READY_IN_FRANCS, IN_FRANCS)
 }
 
 /// Two slots are free.

@@ -8,7 +8,7 @@ use std::str;
 use std::test::Fail;
 
 /// The words of a line.
-fn words_of(alloc: Global, line: &str) -> Result<Vec<Text>, AllocError> {
+pub(crate) fn words_of(alloc: Global, line: &str) -> Result<Vec<Text>, AllocError> {
     let mut words = Vec::new(alloc);
     for word in line.split_whitespace() {
         words.push(Text::new(String::from_str(alloc, word)?))?;

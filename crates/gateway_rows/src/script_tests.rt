@@ -288,21 +288,6 @@ fn lines_of_a_terminal_and_failing_calls(rt: HostRuntime) -> Result<(), Fail> {
     check_rows(&rt, rt.alloc(), "> start", TERMINAL)
 }
 
-/// Scripts with a line that isn't served yet, in rows of the same form.
-const UNSERVED: &str = "\
-2 terminal T1 EUR 123456 186 131;terminal T2 EUR 123456 186 131
-2 name A;line 1
-1 line 8
-3 slots 2;wait 1;line 1
-1 line 1;sya 1 x
-1 sya 1 x;line 1
-2 line 0;sya 1 x";
-
-#[test]
-fn unserved_lines_are_refused_with_their_number(rt: HostRuntime) -> Result<(), Fail> {
-    check_table(&rt, rt.alloc(), UNSERVED)
-}
-
 /// A line with so many times a text gets 0, and one with one more 65.
 fn check_longest(
     rt: &impl Abort,

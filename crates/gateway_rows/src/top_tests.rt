@@ -40,6 +40,27 @@ fn rows(rt: HostRuntime) -> Result<(), Fail> {
     )
 }
 
+/// Words that are refused.
+const REFUSED: &str = "
+replay replay
+Replay
+drill
+drill --payments 0
+--turns 5
+serve --turns
+serve --turns 5 --turns 6
+serve --turns five
+serve --turns=-5
+serve --turns 18446744073709551616
+serve --from
+serve --payments 10001
+replay --payments 10001
+serve --port 7
+serve --help
+--version
+help
+serve -t 5";
+
 /// The top call with these words reads nothing of an input whose first read fails.
 fn check_words(rt: &impl Abort, alloc: Global, words: &str) -> Result<(), Fail> {
     let mut input = MemSource::new(Bytes::copied(alloc, b"open 1\n")?, Some(0));
@@ -55,9 +76,10 @@ fn check_words(rt: &impl Abort, alloc: Global, words: &str) -> Result<(), Fail> 
 
 #[test]
 fn refused_words_read_nothing(rt: HostRuntime) -> Result<(), Fail> {
-    check_words(&rt, rt.alloc(), "")?;
-    check_words(&rt, rt.alloc(), "replay replay")?;
-    check_words(&rt, rt.alloc(), "serve")
+    for words in REFUSED.split('\n') {
+        check_words(&rt, rt.alloc(), words)?;
+    }
+    Ok(())
 }
 
 /// A replay of so many bytes that are no script writes this.

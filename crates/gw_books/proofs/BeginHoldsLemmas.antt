@@ -12,7 +12,7 @@ use Rattle.jrn_record.specs.declared.records.Record.TheVariants.{Outcome}
 use Rattle.gw_owes.specs.declared.terminal.Terminal.{Terminal}
 use Rattle.gw_owes.specs.Calls.{records_kept, CutTill}
 use Rattle.gw_owes.specs.Dialogues.{HasItsDialogue, AllHaveDialogues}
-use Rattle.gw_owes.specs.Items.{RoundItem, Crowded, Message, Asked, Unframed, Gone, Greet, Handle, Serve, NextWaiting, Oversized, LinkLost, Late, Overdue, Due}
+use Rattle.gw_owes.specs.Items.{RoundItem, Crowded, Message, Asked, Unframed, Gone, Greet, Handle, Serve, Queue, NextWaiting, Oversized, LinkLost, Late, Overdue, Due}
 use Rattle.gw_owes.specs.ReadAs.{ReadAs}
 use Rattle.gw_owes.specs.Row.{Known, Row, owing}
 use Rattle.gw_owes.specs.Rows.{asked_row, row_of}
@@ -37,12 +37,15 @@ use Rattle.gw_rules.proofs.KeptPhaseLemmas.{round-runs}
 use Rattle.gw_rules.proofs.KeptTurnLemmas.{idle-rests, no-more}
 use Rattle.gw_rules.proofs.LinkedLemmas.{round-setup}
 use Rattle.gw_rules.proofs.OwingLemmas.{clear-where}
-use Rattle.gw_rules.proofs.RecordOrderLemmas.{Ordered, between-items, first-was-read, row-is}
+use Rattle.gw_rules.proofs.RecordOrderLemmas.{Ordered, between-items, first-was-read, row-is, waits-between-items}
 use Rattle.gw_rules.proofs.RecordRowLemmas.{coming-kept}
 use Rattle.gw_rules.proofs.SetupLemmas.{HasSetup}
 use Rattle.gw_rules.proofs.StageLemmas.{no-true}
 use Rattle.gw_rules.proofs.TranscriptLogLemmas.{AreCallsOf, own-owed, rows-of, image-there, there-image}
-use Rattle.gw_books.specs.Past.{Occasion, OfRequest, OfMessage, OfNothing, MadeLink, Ending, HeardEnd, MadePoll, Past, no_past, occasion_of, ending_at, ends_by, ends_of, past_after}
+use Rattle.gw_owes.specs.Core.{Wait}
+use Rattle.gw_owes.specs.Waits.{waiting_with, queue_of, first_waiting}
+use Rattle.gw_owes.proofs.NextLemmas.{each-queued, each-overdue}
+use Rattle.gw_books.specs.Past.{Occasion, OfRequest, OfMessage, OfNothing, MadeLink, Ending, HeardEnd, MadePoll, Past, no_past, occasion_waiting, occasion_of, ending_at, ends_by, ends_of, past_after}
 use Rattle.gw_books.specs.Books.{BookedEntry, Honest}
 use Rattle.gw_books.specs.Agrees.{is_report, is_report_on, report_resolves, is_resolved_on}
 use Rattle.gw_books.proofs.ListLemmas.{In, in-either}
@@ -81,11 +84,21 @@ row-dialogues tills known (Greet number apdu) all pt terminal found no_cut = ter
 row-dialogues tills known (Handle number apdu) all pt terminal found no_cut = terminal-dialogues known (Handle number apdu) number refl (rows-of tills known (Handle number apdu)) all pt terminal found no_cut
 row-dialogues tills known (Serve number till header request) all pt terminal found no_cut =
     terminal-dialogues known (Serve number till header request) number refl (rows-of tills known (Serve number till header request)) all pt terminal found no_cut
-row-dialogues tills known (NextWaiting number) all pt terminal found no_cut = all pt terminal found
+row-dialogues tills known (Queue number till header request) all pt terminal found no_cut =
+    each-queued (λ (row : Row). slice_get row.core.terminals pt ≡ Some terminal → HasItsDialogue terminal) known number till header request (record {
+      none = all pt terminal;
+      joins = λ at key joins. all pt terminal;
+      taken = λ wait taken. all pt terminal;
+    }) found
+row-dialogues tills known (NextWaiting number) all pt terminal found no_cut = terminal-dialogues known (NextWaiting number) number refl (rows-of tills known (NextWaiting number)) all pt terminal found no_cut
 row-dialogues tills known (Oversized number) all pt terminal found no_cut = terminal-dialogues known (Oversized number) number refl (rows-of tills known (Oversized number)) all pt terminal found no_cut
 row-dialogues tills known (LinkLost number) all pt terminal found no_cut = terminal-dialogues known (LinkLost number) number refl (rows-of tills known (LinkLost number)) all pt terminal found no_cut
 row-dialogues tills known (Late number) all pt terminal found no_cut = terminal-dialogues known (Late number) number refl (rows-of tills known (Late number)) all pt terminal found no_cut
-row-dialogues tills known (Overdue key) all pt terminal found no_cut = all pt terminal found
+row-dialogues tills known (Overdue key) all pt terminal found no_cut =
+    each-overdue (λ (row : Row). slice_get row.core.terminals pt ≡ Some terminal → HasItsDialogue terminal) known key (record {
+      none = all pt terminal;
+      taken = λ wait waits overdue. all pt terminal;
+    }) found
 row-dialogues tills known (Due number) all pt terminal found no_cut = terminal-dialogues known (Due number) number refl (rows-of tills known (Due number)) all pt terminal found no_cut
 
 -- ---- ends
@@ -129,8 +142,13 @@ ends-after-poll poll link [] each = refl
 ends-after-poll poll link (end ∷ ends) each =
     ap (λ b. b || list_any (is_report_on poll link) ends) (after-poll poll link end (each end (inl refl))) ∙ ends-after-poll poll link ends (λ other within. each other (inr within))
 
+-- what is about a request that waits brings no end
+waiting-ends-none : (scene : Scene) (past : Past) (wait : Option Wait) → ends_of scene past (occasion_waiting wait) ≡ []
+waiting-ends-none scene past None = refl
+waiting-ends-none scene past (Some wait) = refl
+
 -- no item but Handle brings an end, and a poll lies before that of Handle
-item-reports-none : (scene : Scene) (past : Past) (item : RoundItem) (poll : MadePoll) (link : MadeLink) → (is_handle item ≡ true → poll.place < past.heard) → list_any (is_report_on poll link) (ends_of scene past (occasion_of item)) ≡ false
+item-reports-none : (scene : Scene) (past : Past) (item : RoundItem) (poll : MadePoll) (link : MadeLink) → (is_handle item ≡ true → poll.place < past.heard) → list_any (is_report_on poll link) (ends_of scene past (occasion_of scene.core item)) ≡ false
 item-reports-none scene past (Crowded till) poll link early = refl
 item-reports-none scene past (Message till bytes) poll link early = refl
 item-reports-none scene past (Asked till as_read) poll link early = ap (list_any (is_report_on poll link)) (asked-ends-none scene past as_read)
@@ -138,13 +156,14 @@ item-reports-none scene past (Unframed till) poll link early = refl
 item-reports-none scene past (Gone till) poll link early = refl
 item-reports-none scene past (Greet number apdu) poll link early = refl
 item-reports-none scene past (Handle number apdu) poll link early =
-    ends-after-poll poll link (ends_of scene past (occasion_of (Handle number apdu))) (λ end within. subst (λ n. poll.place < n) (sym (new-ends-now scene past (occasion_of (Handle number apdu)) end within)) (early refl))
+    ends-after-poll poll link (ends_of scene past (occasion_of scene.core (Handle number apdu))) (λ end within. subst (λ n. poll.place < n) (sym (new-ends-now scene past (occasion_of scene.core (Handle number apdu)) end within)) (early refl))
 item-reports-none scene past (Serve number till header request) poll link early = refl
-item-reports-none scene past (NextWaiting number) poll link early = refl
+item-reports-none scene past (Queue number till header request) poll link early = refl
+item-reports-none scene past (NextWaiting number) poll link early = ap (list_any (is_report_on poll link)) (waiting-ends-none scene past (first_waiting (queue_of number scene.core.waits)))
 item-reports-none scene past (Oversized number) poll link early = refl
 item-reports-none scene past (LinkLost number) poll link early = refl
 item-reports-none scene past (Late number) poll link early = refl
-item-reports-none scene past (Overdue key) poll link early = refl
+item-reports-none scene past (Overdue key) poll link early = ap (list_any (is_report_on poll link)) (waiting-ends-none scene past (waiting_with key scene.core.waits))
 item-reports-none scene past (Due number) poll link early = refl
 
 -- where none of the first list passes, some of both pass where some of the second do
@@ -192,6 +211,7 @@ between-holds log v past book o b h k =
       repliable = h.repliable;
       dialogues = λ number terminal found. h.dialogues clear number terminal found (ap (cut_owed number) b.idle.calls);
       links = λ link lasts. at_rest coming link (h.links clear link lasts);
+      waits = waits-between-items log v o k running b.idle.calls;
     }
   where
     at_rest : records_coming v ≡ v.scene.kept → (link : MadeLink) → IsLinkSound (records_coming v) v.scene.core v.calls past link → IsLinkAtRest v.scene.kept v.scene.core past link
@@ -226,10 +246,10 @@ row-holds log v past book item rest row o b h k e is r =
     let coming : records_coming (begun v.scene row rest) ≡ v.scene.kept ++ records_kept row.calls = ap (λ l. l ++ records_kept row.calls) (no-more v.scene.kept v.scene.flight none) in
     record {
       heard = h.heard;
-      ended = λ end within. ended end (in-either end (ends_of v.scene past (occasion_of item)) past.ends within);
+      ended = λ end within. ended end (in-either end (ends_of v.scene past (occasion_of v.scene.core item)) past.ends within);
       commands = h.commands;
       outcomes = subst (AreOutcomesTrue past.commands book past.place) (sym coming) r.outcomes;
-      calls = subst (λ l. AreCallsSound l row.core past.commands (occasion_of item) row.calls) (sym coming) r.calls;
+      calls = subst (λ l. AreCallsSound l row.core past.commands (occasion_of v.scene.core item) row.calls) (sym coming) r.calls;
       serving = λ runs number terminal found no_charge no_cut.
           subst (λ l. IsServingSound l past.commands terminal.pt.poi terminal.standing) (sym coming) (r.serving number terminal found no_charge no_cut);
       repliable = r.repliable;
@@ -241,15 +261,15 @@ row-holds log v past book item rest row o b h k e is r =
       polled = h.polled;
       handled = λ handles poll within. h.handled (ap (list_any is_handle) e ∙ handles_later (is_handle item) (sym (any-second is_handle row.items rest r.handles_none) ∙ handles)) poll within;
       links = λ runs link lasts. subst (λ l. IsLinkSound l row.core row.calls now link) (sym coming) (r.links link lasts);
-      polls = polls-resolve past now (ends_of v.scene past (occasion_of item)) past.polls refl
+      polls = polls-resolve past now (ends_of v.scene past (occasion_of v.scene.core item)) past.polls refl
           (λ poll within link. item-reports-none v.scene past item poll link (λ handles. h.handled (ap (list_any is_handle) e ∙ ap (λ b. b || list_any is_handle rest) handles) poll within)) h.polls;
       replies = h.replies;
       replied = h.replied;
       kept_polled = h.kept_polled;
     }
   where
-    ended : (end : HeardEnd) → In end (ends_of v.scene past (occasion_of item)) ⊎ In end past.ends → end.place ≤ past.heard
-    ended end (inl new) = let now = new-ends-now v.scene past (occasion_of item) end new in omega (arith, now)
+    ended : (end : HeardEnd) → In end (ends_of v.scene past (occasion_of v.scene.core item)) ⊎ In end past.ends → end.place ≤ past.heard
+    ended end (inl new) = let now = new-ends-now v.scene past (occasion_of v.scene.core item) end new in omega (arith, now)
     ended end (inr old) = h.ended end old
 
     handles_later : (b : Bool) → list_any is_handle rest ≡ true → (b || list_any is_handle rest) ≡ true
@@ -285,6 +305,7 @@ read-handles as_read (Gone till ∷ items) = refl
 read-handles as_read (Greet number apdu ∷ items) = refl
 read-handles as_read (Handle number apdu ∷ items) = refl
 read-handles as_read (Serve number till header request ∷ items) = refl
+read-handles as_read (Queue number till header request ∷ items) = refl
 read-handles as_read (NextWaiting number ∷ items) = refl
 read-handles as_read (Oversized number ∷ items) = refl
 read-handles as_read (LinkLost number ∷ items) = refl

@@ -43,7 +43,7 @@ lean-tested (Make turn ∷ moves) e = lean-tested moves e
 
 -- ---- what is heard
 
-payment-chunk : IsChunk (frame payment_text)
+pub payment-chunk : IsChunk (frame payment_text)
 unfolding payment_text
 payment-chunk = record { count = (omega arith, omega arith); bytes = bytes-tested (frame payment_text) refl }
 

@@ -99,7 +99,7 @@ settled-has-past = record { moves = settled_course; lean = record { turns_are = 
 
 -- ---- what is sent
 
-day-heading : IsHeaderWithinLimits (header_of_reply day_header)
+pub day-heading : IsHeaderWithinLimits (header_of_reply day_header)
 day-heading = record { category = ident-tested 40 (codes "Reconciliation") refl; service = ident-tested 10 (codes "2") refl; device = tt; sale = ident-tested 40 (codes "S1") refl; poi = ident-tested 40 (codes "T1") refl }
 
 served-framed : IsFramed sent_served.bytes (reply_value_tree served_day_reply)

@@ -260,7 +260,7 @@ other-content-agrees =
 
 -- ---- a status
 
-asking-within : IsHeaderWithinLimits (header_of_reply status_asking_header)
+pub asking-within : IsHeaderWithinLimits (header_of_reply status_asking_header)
 asking-within = record { category = ident-tested 40 (codes "TransactionStatus") refl; service = ident-tested 10 (codes "8") refl; device = tt; sale = ident-tested 40 (codes "S1") refl; poi = ident-tested 40 (codes "T1") refl }
 
 abbrev named_ask : SaleRequest

@@ -12,7 +12,7 @@ use Rattle.zvt_msg.specs.MessageDecode.{block_or_fault, control_field_of, decode
 use Rattle.zvt_msg.specs.MessageGrammar.{ControlField}
 use Rattle.zvt_msg.specs.PrintedLines.{printed_lines}
 use Rattle.zvt_msg.proofs.PrintedLinesLemmas.{decoded_printed}
-use Rattle.gw_owes.specs.Items.{RoundItem, Crowded, Message, Asked, Unframed, Gone, Greet, Handle, Serve, NextWaiting, Oversized, LinkLost, Late, Overdue, Due}
+use Rattle.gw_owes.specs.Items.{RoundItem, Crowded, Message, Asked, Unframed, Gone, Greet, Handle, Serve, Queue, NextWaiting, Oversized, LinkLost, Late, Overdue, Due}
 use Rattle.gw_owes.specs.ReadAs.{ReadAs}
 use Rattle.gw_rules.specs.CutCauses.{HasSaidApdu}
 use Rattle.gw_rules.specs.Lawful.{Allowed, IsLawful, Stands}
@@ -40,6 +40,7 @@ IsItemHandled (Gone till) = Unit {0}
 IsItemHandled (Greet number apdu) = Unit {0}
 IsItemHandled (Handle number apdu) = IsHandled apdu
 IsItemHandled (Serve number till header request) = Unit {0}
+IsItemHandled (Queue number till header request) = Unit {0}
 IsItemHandled (NextWaiting number) = Unit {0}
 IsItemHandled (Oversized number) = Unit {0}
 IsItemHandled (LinkLost number) = Unit {0}
@@ -112,6 +113,7 @@ item-handled log v (Gone till) s by = tt
 item-handled log v (Greet number apdu) s by = tt
 item-handled log v (Handle number apdu) s by = said-handled log v number apdu s by
 item-handled log v (Serve number till header request) s by = tt
+item-handled log v (Queue number till header request) s by = tt
 item-handled log v (NextWaiting number) s by = tt
 item-handled log v (Oversized number) s by = tt
 item-handled log v (LinkLost number) s by = tt

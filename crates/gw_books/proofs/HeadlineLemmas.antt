@@ -2,7 +2,7 @@
 use Rattle.std.proofs.Common.{List, [], ◌∷◌, ◌++◌, refl, sym, subst}
 use Rattle.gw_site.specs.declared.turn.Turn.{Turn}
 use Rattle.gw_site.specs.declared.turn.Turn.TheVariants.{Start, OpenFailed, Polled, Opened, HeardTill, Closed, HeardPt, Lost, Stopped, Linked, LinkFailed, SentTill, SentPt, CutTill, CutPt, Wrote, Synced, DiskFailed, Crash}
-use Rattle.gw_owes.specs.Items.{RoundItem, Crowded, Message, Asked, Unframed, Gone, Greet, Handle, Serve, NextWaiting, Oversized, LinkLost, Late, Overdue, Due}
+use Rattle.gw_owes.specs.Items.{RoundItem, Crowded, Message, Asked, Unframed, Gone, Greet, Handle, Serve, Queue, NextWaiting, Oversized, LinkLost, Late, Overdue, Due}
 use Rattle.gw_owes.proofs.RecordLemmas.{LedgerLaws}
 use Rattle.gw_ledger.specs.Fold.{AreFolded}
 use Rattle.gw_rules.specs.Laws.{IsLeanCourse}
@@ -27,9 +27,10 @@ use Rattle.gw_books.proofs.Holding.{Holds, TurnHolds}
 use Rattle.gw_books.proofs.HonestLemmas.{honest-back}
 use Rattle.gw_books.proofs.Numbering.{Numbered, RowHolds, RowNumbers}
 use Rattle.gw_books.proofs.PastLawLemmas.{each-has-one-past}
-use Rattle.gw_books.proofs.QuietRowLemmas.{asked-holds, crowded-holds, due-holds, gone-holds, greet-holds, late-holds, link-lost-holds, message-holds, next-waiting-holds, overdue-holds, oversized-holds, unframed-holds}
+use Rattle.gw_books.proofs.QuietRowLemmas.{asked-holds, crowded-holds, due-holds, gone-holds, greet-holds, late-holds, link-lost-holds, message-holds, oversized-holds, unframed-holds}
 use Rattle.gw_books.proofs.RowNumberLemmas.{begin-numbers, row-numbers}
 use Rattle.gw_books.proofs.ServeLemmas.{serve-holds}
+use Rattle.gw_books.proofs.WaitingRowLemmas.{next-waiting-holds, overdue-holds, queue-holds}
 use Rattle.gw_books.proofs.TurnHoldsLemmas.{closed-holds, crash-holds, disk-failed-holds, heard-pt-holds, heard-till-holds, lost-holds, open-failed-holds, opened-holds, polled-holds, start-holds, stopped-holds, synced-holds, wrote-holds}
 use Rattle.gw_books.proofs.TurnNumberLemmas.{first-numbered, read-numbers, turn-numbers}
 
@@ -45,7 +46,8 @@ row-holds laws (Gone till) handled = gone-holds till
 row-holds laws (Greet number apdu) handled = greet-holds number apdu
 row-holds laws (Handle number apdu) handled = handle-holds laws number apdu handled
 row-holds laws (Serve number till header request) handled = serve-holds laws number till header request
-row-holds laws (NextWaiting number) handled = next-waiting-holds number
+row-holds laws (Queue number till header request) handled = queue-holds number till header request
+row-holds laws (NextWaiting number) handled = next-waiting-holds laws number
 row-holds laws (Oversized number) handled = oversized-holds number
 row-holds laws (LinkLost number) handled = link-lost-holds number
 row-holds laws (Late number) handled = late-holds number
@@ -62,6 +64,7 @@ numbers-of laws (Gone till) = row-numbers laws (Gone till) refl
 numbers-of laws (Greet number apdu) = row-numbers laws (Greet number apdu) refl
 numbers-of laws (Handle number apdu) = handle-numbers laws number apdu
 numbers-of laws (Serve number till header request) = row-numbers laws (Serve number till header request) refl
+numbers-of laws (Queue number till header request) = row-numbers laws (Queue number till header request) refl
 numbers-of laws (NextWaiting number) = row-numbers laws (NextWaiting number) refl
 numbers-of laws (Oversized number) = row-numbers laws (Oversized number) refl
 numbers-of laws (LinkLost number) = row-numbers laws (LinkLost number) refl

@@ -31,8 +31,9 @@ use Rattle.gw_owes.specs.declared.terminal.Terminal.{Terminal}
 use Rattle.gw_owes.specs.Calls.{Sending, Ask, Acknowledge, Refuse, OwedCall, SendTill, SendPt, LinkPt, WriteBody, WriteGate, WriteFirstGate, Sync, CutTill, CutPt, records_kept}
 use Rattle.gw_owes.specs.Core.{Core}
 use Rattle.gw_owes.specs.Dialogues.{AllHaveDialogues, HasItsDialogue}
-use Rattle.gw_owes.specs.Items.{RoundItem, Crowded, Message, Asked, Unframed, Gone, Greet, Handle, Serve, NextWaiting, Oversized, LinkLost, Late, Overdue, Due}
+use Rattle.gw_owes.specs.Items.{RoundItem, Crowded, Message, Asked, Unframed, Gone, Greet, Handle, Serve, Queue, NextWaiting, Oversized, LinkLost, Late, Overdue, Due}
 use Rattle.gw_owes.specs.RecordLaws.{AreResultsWithinLimits, IsInOrder}
+use Rattle.gw_owes.specs.WaitingLaws.{AreWaitsInOrder}
 use Rattle.gw_owes.specs.Reply.{ReplyValue, reply_value_tree}
 use Rattle.gw_owes.specs.Row.{Known, Row}
 use Rattle.gw_rules.specs.Lawful.{AllowedTurn, IsRead}
@@ -359,6 +360,7 @@ is_handle (Gone till) = false
 is_handle (Greet number apdu) = false
 is_handle (Handle number apdu) = true
 is_handle (Serve number till header request) = false
+is_handle (Queue number till header request) = false
 is_handle (NextWaiting number) = false
 is_handle (Oversized number) = false
 is_handle (LinkLost number) = false
@@ -411,6 +413,7 @@ pub record HoldsBetween (known : Known) (past : Past) (book : List BookedEntry) 
   pub repliable : AreRepliable known.core
   pub dialogues : AllHaveDialogues known.core
   pub links : (link : MadeLink) → In link past.lasting → IsLinkAtRest known.kept known.core past link
+  pub waits : AreWaitsInOrder known
 
 -- the records once the row's calls are made
 abbrev pub records_after : Known → Row → List Record
@@ -429,7 +432,7 @@ pub record HoldsAfterRow (known : Known) (past : Past) (book : List BookedEntry)
 
 -- the past once an item has begun
 abbrev pub begun_past : Scene → Past → RoundItem → Past
-begun_past scene past item = record past { occasion = occasion_of item; ends = ends_of scene past (occasion_of item) ++ past.ends }
+begun_past scene past item = record past { occasion = occasion_of scene.core item; ends = ends_of scene past (occasion_of scene.core item) ++ past.ends }
 
 -- ---- the steps
 

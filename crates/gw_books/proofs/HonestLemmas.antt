@@ -115,7 +115,7 @@ move-grows v past Begin = record {
   place = omega arith;
   commands = λ command within. inl within;
   links = λ link within. within;
-  ends = λ end within. in-second end (ends_of v.scene past (first_occasion v.items)) past.ends within;
+  ends = λ end within. in-second end (ends_of v.scene past (first_occasion v.scene.core v.items)) past.ends within;
 }
 move-grows v past (Read as_read) = as-it-was past past (omega arith) refl refl refl
 move-grows v past (Make turn) = turn-grows v.scene past turn

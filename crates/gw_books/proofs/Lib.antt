@@ -28,6 +28,7 @@ pub mod NumberStepLemmas
 pub mod Numbering
 pub mod PastLawLemmas
 pub mod PaymentTextLemmas
+pub mod QueuedExampleLemmas
 pub mod QuietRowLemmas
 pub mod RecordMoreLemmas
 pub mod RecordNumberLemmas
@@ -55,3 +56,4 @@ pub mod TillLemmas
 pub mod TurnHoldsLemmas
 pub mod TurnNumberLemmas
 pub mod WaitingLemmas
+pub mod WaitingRowLemmas

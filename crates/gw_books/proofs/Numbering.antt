@@ -16,7 +16,7 @@ use Rattle.gw_owes.specs.declared.terminal.Standing.TheVariants.{Unlinked, Regis
 use Rattle.gw_owes.specs.declared.terminal.Terminal.{Terminal}
 use Rattle.gw_owes.specs.Calls.{OwedCall, SendTill, SendPt, LinkPt, WriteBody, WriteGate, WriteFirstGate, Sync, CutTill, CutPt}
 use Rattle.gw_owes.specs.Core.{Core}
-use Rattle.gw_owes.specs.Items.{RoundItem, Crowded, Message, Asked, Unframed, Gone, Greet, Handle, Serve, NextWaiting, Oversized, LinkLost, Late, Overdue, Due}
+use Rattle.gw_owes.specs.Items.{RoundItem, Crowded, Message, Asked, Unframed, Gone, Greet, Handle, Serve, Queue, NextWaiting, Oversized, LinkLost, Late, Overdue, Due}
 use Rattle.gw_owes.specs.ReadAs.{ReadAs}
 use Rattle.gw_owes.specs.RecordLaws.{IsReadItem}
 use Rattle.gw_owes.specs.Row.{Known, Row}
@@ -148,6 +148,7 @@ is_due_item (Gone till) = false
 is_due_item (Greet number apdu) = false
 is_due_item (Handle number apdu) = false
 is_due_item (Serve number till header request) = false
+is_due_item (Queue number till header request) = false
 is_due_item (NextWaiting number) = false
 is_due_item (Oversized number) = false
 is_due_item (LinkLost number) = false

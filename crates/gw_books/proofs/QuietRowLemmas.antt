@@ -2,6 +2,8 @@
 use Rattle.std.proofs.Common.{◌≡◌, ℕ, Bool, true, false, List, [], ◌∷◌, ◌++◌, refl, sym, ◌∙◌, ap, subst, inl, inr, eqb-true, append-nil}
 use Rattle.std.specs.Prelude.{◌⊎◌, ◌==◌, set, slice_get, Option, Some, None, Result, Ok, Err}
 use Rattle.std.specs.List.{list_any}
+use Rattle.gw_base.specs.declared.condition.Condition.{Condition}
+use Rattle.gw_base.specs.declared.condition.Condition.TheVariants.{Aborted}
 use Rattle.gw_base.specs.declared.key.Key.{Key}
 use Rattle.gw_base.specs.declared.setup.Pt.{Pt}
 use Rattle.gw_site.specs.Outside.{is_connected}
@@ -16,10 +18,10 @@ use Rattle.jrn_record.specs.declared.records.Record.{Record}
 use Rattle.gw_owes.specs.declared.terminal.Standing.TheVariants.{Unlinked}
 use Rattle.gw_owes.specs.declared.terminal.Terminal.{Terminal}
 use Rattle.gw_owes.specs.Calls.{OwedCall, LinkPt, CutTill, records_kept}
-use Rattle.gw_owes.specs.Core.{Core}
+use Rattle.gw_owes.specs.Core.{Core, Wait}
 use Rattle.gw_owes.specs.Deadlines.{is_late, is_due}
 use Rattle.gw_owes.specs.Greeting.{greeting, sending_calls, greet_decoded}
-use Rattle.gw_owes.specs.Items.{RoundItem, Crowded, Message, Asked, Unframed, Gone, Greet, NextWaiting, Oversized, LinkLost, Late, Overdue, Due}
+use Rattle.gw_owes.specs.Items.{RoundItem, Crowded, Message, Asked, Unframed, Gone, Greet, Oversized, LinkLost, Late, Due}
 use Rattle.gw_owes.specs.Links.{cutting}
 use Rattle.gw_owes.specs.ReadAs.{ReadAs, Request, Silent, NoMessage, NoJson}
 use Rattle.gw_owes.specs.RecordLaws.{IsReadFromTill}
@@ -30,8 +32,11 @@ use Rattle.gw_owes.specs.Rows.{asked_row, gone_row}
 use Rattle.gw_owes.specs.SessionRows.{session_succeeds}
 use Rattle.gw_owes.specs.Stops.{wishing}
 use Rattle.gw_owes.specs.Terminals.{terminal_becomes, with_terminal, reply_calls_to, reply_to_lost, unlinked_terminal, unlinks, forgets_till, core_without}
+use Rattle.gw_owes.specs.WaitingRows.{overdue_row, queue_row, taken_out, wait_of}
+use Rattle.gw_owes.specs.Waits.{core_with_wait, core_without_wait}
 use Rattle.gw_owes.proofs.HandlingLemmas.{by-where, each-terminal, each-linked}
 use Rattle.gw_owes.proofs.KeepingLemmas.{replies-keep-nothing}
+use Rattle.gw_owes.proofs.NextLemmas.{each-overdue, each-queued}
 use Rattle.gw_owes.proofs.PaymentLemmas.{StopsAt}
 use Rattle.gw_owes.proofs.RecordLemmas.{LedgerLaws}
 use Rattle.gw_owes.proofs.SetLemmas.{new-is-there, others-stay, same-some}
@@ -225,9 +230,9 @@ pub gone-holds : (till : ℕ) → RowHolds (Gone till)
 gone-holds till scene tills known past book core h numbered linked read honest =
     quiet-holds known past book OfNothing (gone_row known till) h (record { calm = gone-calm known.core till; none_kept = refl; no_deed = refl; handles_none = refl }) tt
 
--- what a till's message begins is no more than Serve
+-- what a till's message begins is no message of a terminal
 pub asked-handles-none : (known : Known) (till : ℕ) (as_read : ReadAs) → list_any is_handle (begun_by known till as_read) ≡ false
-asked-handles-none known till as_read = form-begun (λ items. list_any is_handle items ≡ false) known till refl as_read (λ number header request is. refl)
+asked-handles-none known till as_read = form-begun (λ items. list_any is_handle items ≡ false) known till refl as_read (λ number header request is. refl) (λ number header request is. refl)
 
 -- a till's message ends no dialogue
 pub asked-ends-none : (scene : Scene) (past : Past) (as_read : ReadAs) → ends_of scene past (occasion_read as_read) ≡ []
@@ -317,8 +322,30 @@ link-lost-holds number scene tills known past book core h numbered linked read h
     (replies-sound known.kept (unlinks known number terminal).core past.commands OfNothing terminal.asker (reply_to_lost terminal.standing)
     (λ own replies. lost-sound known.kept (waiting_keys (unlinks known number terminal).core) OfNothing terminal.standing own (h.repliable number terminal found) replies)))
 
-pub next-waiting-holds : (number : ℕ) → RowHolds (NextWaiting number)
-next-waiting-holds number scene tills known past book core h numbered linked read honest = nothing-holds known past book OfNothing h
+-- ---- requests that wait
 
-pub overdue-holds : (key : Key) → RowHolds (Overdue key)
-overdue-holds key scene tills known past book core h numbered linked read honest = nothing-holds known past book OfNothing h
+-- a core with other requests that wait has the same terminals
+pub waits-calm : (core : Core) (waits : List Wait) → IsCalm core (record core { waits = waits })
+waits-calm core waits = record {
+  was = λ number terminal found. record { old = terminal; found = found; pt_is = refl; standing_is = inl refl };
+  stays = λ number terminal found. record { new = terminal; found = found; pt_is = refl };
+}
+
+-- one is taken out and refused
+pub taken-quiet : (known : Known) (condition : Condition) (wait : Wait) (items : List RoundItem) → list_any is_handle items ≡ false → IsQuiet known (record (taken_out known condition wait) { items = items })
+taken-quiet known condition wait items none = record { calm = waits-calm known.core (core_without_wait known.core wait.key).waits; none_kept = refl; no_deed = refl; handles_none = none }
+
+-- one joins, or a till takes it out
+pub queue-quiet : (known : Known) (number till : ℕ) (header : Header) (request : SaleRequest) → IsQuiet known (queue_row known number till header request)
+queue-quiet known number till header request = each-queued (IsQuiet known) known number till header request (record {
+  none = record { calm = same-calm known.core; none_kept = refl; no_deed = refl; handles_none = refl };
+  joins = λ terminal key at. record { calm = waits-calm known.core (core_with_wait known.core (wait_of known number till header request key)).waits; none_kept = refl; no_deed = refl; handles_none = refl };
+  taken = λ wait at. taken-quiet known Aborted wait [] refl;
+})
+
+-- its deadline has come
+pub overdue-quiet : (known : Known) (key : Key) → IsQuiet known (overdue_row known key)
+overdue-quiet known key = each-overdue (IsQuiet known) known key (record {
+  none = record { calm = same-calm known.core; none_kept = refl; no_deed = refl; handles_none = refl };
+  taken = λ wait found overdue. taken-quiet known Aborted wait [] refl;
+})

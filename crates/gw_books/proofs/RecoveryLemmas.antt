@@ -30,6 +30,7 @@ use Rattle.gw_owes.specs.RecordLaws.{IsInOrder}
 use Rattle.gw_owes.specs.Reports.{Report, outcome_as_last, outcome_reported}
 use Rattle.gw_owes.specs.Row.{Known}
 use Rattle.gw_owes.specs.Serving.{refused_outcome, reply_to_outcome}
+use Rattle.gw_owes.specs.WaitingLaws.{AreWaitsInOrder}
 use Rattle.gw_owes.proofs.KeepingLemmas.{replies-keep-nothing}
 use Rattle.gw_owes.proofs.RecordLemmas.{LedgerLaws, intent-stays, open-parts, open-without-outcome, same-text-itself, still-there}
 use Rattle.gw_rules.specs.Lawful.{Stands}
@@ -37,7 +38,7 @@ use Rattle.gw_rules.specs.RecordOrder.{records_coming}
 use Rattle.gw_rules.specs.Scene.{known_in}
 use Rattle.gw_rules.specs.Stage.{is_running}
 use Rattle.gw_rules.specs.View.{View, at_first, view_from}
-use Rattle.gw_rules.proofs.RecordOrderLemmas.{between-items, each-log-folds, log-ordered}
+use Rattle.gw_rules.proofs.RecordOrderLemmas.{between-items, each-log-folds, log-ordered, waits-between-items}
 use Rattle.gw_rules.proofs.RecordRowLemmas.{LeavesInOrder, OrderLaws, rows-in-order}
 use Rattle.gw_rules.proofs.SetupLemmas.{HasSetup, setup-within-limits}
 use Rattle.gw_books.specs.Past.{MadeLink, MadePoll, Past, past_of}
@@ -265,9 +266,10 @@ report-is-said orders laws reports log v moves setup number apdu terminal report
     let k : HasSetup v.scene = record { setup = setup; setup_is = next.setup_is; within = setup-within-limits log v setup ends.before next.setup_is } in
     let known : Known = known_in v.scene setup in
     let order : IsInOrder known = between-items log v (log-ordered orders log v ends.before) k (ap is_running next.stage) next.calls in
+    let waits : AreWaitsInOrder known = waits-between-items log v (log-ordered orders log v ends.before) k (ap is_running next.stage) next.calls in
     let outcome : TheOutcome = outcome_reported entry report v.scene.outside.moment in
     let calls : (handle_row known number apdu).calls ≡ outcome_calls known terminal outcome = report-calls reports known number apdu terminal report entry of_open not_below in
-    let row : LeavesInOrder known (handle_row known number apdu) = rows-in-order orders v.scene.outside.tills known (Handle number apdu) order tt in
+    let row : LeavesInOrder known (handle_row known number apdu) = rows-in-order orders v.scene.outside.tills known (Handle number apdu) order waits tt in
     let records : records_kept (handle_row known number apdu).calls ≡ Outcome outcome ∷ [] =
     ap records_kept calls ∙ ap (λ (more : List Record). Outcome outcome ∷ more) (replies-keep-nothing terminal.asker (reply_to_outcome v.scene.kept outcome.slot outcome)).no_records in
     let folded : AreFolded (v.scene.kept ++ Outcome outcome ∷ []) = subst (λ (more : List Record). AreFolded (v.scene.kept ++ more)) records row.folded in

@@ -51,7 +51,7 @@ use Rattle.gw_ledger.proofs.RecordLemmas.{folded_beside}
 use Rattle.xlate.specs.Reply.{deal_category, entry_body, header_of, outcome_body, result_body_of}
 use Rattle.xlate.proofs.LimitLemmas.{numbers_limited}
 use Rattle.gw_owes.specs.Core.{Core}
-use Rattle.gw_owes.specs.Days.{asks_day_served, is_day_served}
+use Rattle.gw_owes.specs.Waits.{asks_pending, is_pending}
 use Rattle.gw_owes.specs.Displays.{display_result, reply_of_display}
 use Rattle.gw_owes.specs.Diagnosis.{NamedTerminal, diagnosis_reply, named_terminal, status_of_standing}
 use Rattle.gw_owes.specs.KeptReplies.{found_by_status, found_for, is_open_key, kept_reply, own_key, repeated_reply, status_reply_at}
@@ -64,7 +64,7 @@ use Rattle.gw_owes.specs.Requests.{abort_reply, reply_at, reply_to}
 use Rattle.gw_owes.specs.Row.{Known}
 use Rattle.gw_owes.specs.Serving.{reply_to_outcome}
 use Rattle.gw_owes.specs.SessionRows.{session_result, success_reply}
-use Rattle.gw_owes.specs.Steps.{StepResult, KeptReply, Fails, Begins, reply_of_result, step_result}
+use Rattle.gw_owes.specs.Steps.{StepResult, KeptReply, Fails, Begins, Waits, reply_of_result, step_result}
 use Rattle.gw_owes.proofs.HeardLemmas.{of-both}
 use Rattle.gw_owes.proofs.LimitLemmas.{ident-at}
 use Rattle.gw_owes.proofs.RecordLemmas.{LedgerLaws, entry-parts, intent-within, there-within}
@@ -236,8 +236,8 @@ module _ (laws : LedgerLaws) (kept : List Record) (folded : AreFolded kept) (few
 
   -- the reply to a status, also where an end of day is served
   status-at-within : (core : Core) (header : Header) (reference : Option Reference) → IsHeaderWithinLimits header
-      → IsReplyWithin (status_reply_at header (found_by_status kept header reference) (asks_day_served core header reference))
-  status-at-within core header reference within = by-found (found_by_status kept header reference) (asks_day_served core header reference) refl
+      → IsReplyWithin (status_reply_at header (found_by_status kept header reference) (asks_pending core header reference))
+  status-at-within core header reference within = by-found (found_by_status kept header reference) (asks_pending core header reference) refl
     where
       by-found : (found : Option Found) (served : Bool) → found_by_status kept header reference ≡ found → IsReplyWithin (status_reply_at header found served)
       by-found None true is = failure-within header InProgress within
@@ -253,6 +253,7 @@ module _ (laws : LedgerLaws) (kept : List Record) (folded : AreFolded kept) (few
       by-found (Some found) is = kept-within found (for-limited (own_key header) found is)
   result-within header (Fails condition) within = failure-within header condition within
   result-within header Begins within = tt
+  result-within header Waits within = tt
 
   -- the reply once an entry has its Outcome
   ended-within : (slot : ℕ) (outcome : TheOutcome) → IsOutcome outcome → IfSome (reply_to_outcome kept slot outcome) IsReplyWithin
@@ -308,6 +309,7 @@ display-within : (body : Tree) (header : Header) (outputs : List Output) (result
 display-within body header outputs KeptReply within has asks = tt
 display-within body header outputs (Fails condition) within has asks = results-within header (refused_results condition outputs) within (refused-within body condition outputs has asks)
 display-within body header outputs Begins within has asks = tt
+display-within body header outputs Waits within has asks = tt
 
 module _ (laws : LedgerLaws) (known : Known) (order : IsInOrder known) where
   service-within : (header : Header) (result : StepResult) → IsHeaderWithinLimits header → IfSome (reply_of_result known.kept header result) IsReplyWithin
@@ -318,7 +320,7 @@ module _ (laws : LedgerLaws) (known : Known) (order : IsInOrder known) where
   request-within message body header named requests.Logout within is = service-within header (session_result known header requests.Logout named) within
   request-within message body header named (requests.Payment ask) within is = service-within header (step_result known header (requests.Payment ask) named) within
   request-within message body header named (requests.Reversal ask) within is = service-within header (step_result known header (requests.Reversal ask) named) within
-  request-within message body header named (requests.Abort reference) within is = reject-within known header (is_open_key known.kept header reference || is_day_served known.core (key_of header reference)) within
+  request-within message body header named (requests.Abort reference) within is = reject-within known header (is_open_key known.kept header reference || is_pending known.core (key_of header reference)) within
   request-within message body header named (requests.Status reference) within is = status-at-within laws known.kept order.folded (few-records known order) known.core header reference within
   request-within message body header named (requests.Reconciliation period) within is = service-within header (step_result known header (requests.Reconciliation period) named) within
   request-within message body header named (requests.Display outputs) within is = display-within body header outputs (display_result outputs named) within is.members is.asks

@@ -2,8 +2,9 @@
 use Rattle.std.proofs.Common.{◌≡◌, ◌∙◌, ℕ, zero, suc, ◌+◌, Bool, true, false, List, [], ◌∷◌, ◌++◌, refl, sym, ap, subst, arith, inl, inr, append-nil}
 use Rattle.std.proofs.lemmas.List.Elements.{All-head, All-tail}
 use Rattle.std.proofs.lemmas.Option.{same_Some}
-use Rattle.std.specs.Prelude.{All, bytes_eq, if◌then◌else◌, not, slice_get, Option, Some, None, option_and_then, option_map}
+use Rattle.std.specs.Prelude.{All, ◌||◌, bytes_eq, if◌then◌else◌, not, slice_get, Option, Some, None, option_and_then, option_map}
 use Rattle.gw_base.specs.declared.condition.Condition.{Condition}
+use Rattle.gw_base.specs.declared.key.Key.{Key}
 use Rattle.gw_base.specs.declared.setup.Setup.{Setup}
 use Rattle.gw_site.specs.Outside.{is_connected}
 use Rattle.gw_site.specs.Sorts.{AreOfRound, is_sort_of_round, sort_of}
@@ -29,17 +30,19 @@ use Rattle.jrn_record.specs.declared.records.Outcome.{Outcome as TheOutcome}
 use Rattle.jrn_record.specs.declared.records.Record.{Record}
 use Rattle.jrn_record.specs.declared.records.Record.TheVariants.{Intent, Outcome, Settled}
 use Rattle.gw_ledger.specs.declared.entry.Entry.{Entry as TheEntry}
+use Rattle.gw_ledger.specs.declared.entry.Found.{Found}
 use Rattle.gw_ledger.specs.declared.entry.Found.TheVariants.{Entry}
 use Rattle.gw_ledger.specs.Accounts.{open_slot}
-use Rattle.gw_ledger.specs.Fold.{AreFolded}
+use Rattle.gw_ledger.specs.Fold.{AreFolded, found_of}
 use Rattle.gw_ledger.specs.Slots.{as_intent, entry_at, intent_at}
 use Rattle.xlate.specs.Reply.{entry_body, header_of, money_of, outcome_body, transaction_mark, with_texts}
 use Rattle.gw_owes.specs.declared.terminal.Standing.TheVariants.{Ready}
 use Rattle.gw_owes.specs.declared.terminal.Terminal.{Terminal}
 use Rattle.gw_owes.specs.AbortLaws.{ServedIsToStop}
 use Rattle.gw_owes.specs.Calls.{OwedCall, SendTill, SendPt, LinkPt, WriteBody, WriteGate, WriteFirstGate, Sync, write_turn, CutTill as OwedCutTill, CutPt as OwedCutPt}
-use Rattle.gw_owes.specs.Core.{Core}
-use Rattle.gw_owes.specs.Diagnosis.{NamedTerminal, named_from}
+use Rattle.gw_owes.specs.Core.{Core, Wait}
+use Rattle.gw_owes.specs.Days.{is_day_served, named_serves_day, serves_day}
+use Rattle.gw_owes.specs.Diagnosis.{NamedTerminal, named_from, named_terminal}
 use Rattle.gw_owes.specs.Handling.{handle_row}
 use Rattle.gw_owes.specs.Items.{RoundItem, Message, Asked, Handle, Serve}
 use Rattle.gw_owes.specs.KeptReplies.{kept_reply}
@@ -54,10 +57,13 @@ use Rattle.gw_owes.specs.Row.{Known, Row, owing_where}
 use Rattle.gw_owes.specs.Rows.{asked_row, row_of}
 use Rattle.gw_owes.specs.Serving.{reply_to_outcome, staying, stops}
 use Rattle.gw_owes.specs.Steps.{StepResult, Begins, is_beginning, step_result}
-use Rattle.gw_owes.specs.Stops.{serves_key, stop_row, stops_key, wishes_stop, wishing}
+use Rattle.gw_owes.specs.WaitingLaws.{AreWaitsInOrder, IsWaitInOrder}
+use Rattle.gw_owes.specs.Waits.{waiting_with}
+use Rattle.gw_owes.specs.Stops.{serves_any, serves_key, stop_row, stops_key, wishes_stop, wishing}
 use Rattle.gw_owes.specs.Terminals.{of_terminal, terminal_at}
 use Rattle.gw_owes.proofs.ReadLemmas.{reads-one}
-use Rattle.gw_owes.proofs.RecordLemmas.{entry-parts, open_entry_of}
+use Rattle.gw_owes.proofs.RecordLemmas.{entry-parts, open_entry_of, same-key-is}
+use Rattle.gw_owes.proofs.WaitingListLemmas.{waits-under}
 use Rattle.gw_owes.proofs.RowEndLemmas.{rows-end}
 use Rattle.gw_rules.specs.Lawful.{MayPoll, AllowedTurn, first_call, first_message, may_begin, IsCourse, turns_of}
 use Rattle.gw_rules.specs.Scene.{known_in, row_in}
@@ -67,7 +73,7 @@ use Rattle.gw_rules.specs.View.{View, Move, Begin, Read, Make, at_item, begin, b
 use Rattle.gw_rules.proofs.CutLemmas.{is_dead, dead-round, dead-running, dead-turn}
 use Rattle.gw_rules.proofs.OwedLemmas.{call-last, calls-end-in-one, turn-ends}
 use Rattle.gw_rules.proofs.OwingLemmas.{IsOwing, first-owing, move-owing}
-use Rattle.gw_rules.proofs.RecordOrderLemmas.{between-items, log-ordered}
+use Rattle.gw_rules.proofs.RecordOrderLemmas.{between-items, log-ordered, waits-between-items}
 use Rattle.gw_rules.proofs.RecordRowLemmas.{OrderLaws}
 use Rattle.gw_rules.proofs.SetupLemmas.{HasSetup, setup-within-limits}
 use Rattle.gw_rules.proofs.StageLemmas.{handling-not-polled, no-call, no-true}
@@ -374,10 +380,28 @@ sent-row known number header reference terminal talk found serves talk_is may =
     ap (of_terminal known (stops_key known number (key_of header reference))) found ∙ ap (λ (test : Bool). owing_where test known (wishes_stop known number terminal terminal.talk)) serves ∙ ap (wishes_stop known number terminal) talk_is
     ∙ ap (λ (test : Bool). if test then stops known number (wishing terminal talk) else staying known number (wishing terminal talk)) may
 
-pub stop-is-sent : ServedIsToStop → StopIsSent
-stop-is-sent stopped log v moves setup till bytes header reference named talk ends next there reads named_is serves talk_is may =
+-- what a terminal serves under a key doesn't wait
+served-waits-not : (known : Known) (key : Key) (named : NamedTerminal) → AreWaitsInOrder known → named_terminal known.core key.poi ≡ Some named → serves_key known.kept key named.terminal ≡ true → waiting_with key known.core.waits ≡ None
+served-waits-not known key named waits named_is serves = by-waiting (waiting_with key known.core.waits) refl
+  where
+    serves-not : (wait : Wait) → IsWaitInOrder known wait → key ≡ wait.key → ⊥
+    serves-not wait one same =
+        let unknown : found_of known.kept key ≡ None = ap (found_of known.kept) same ∙ one.unknown in
+        let no_day : serves_day key named.terminal.standing ≡ false = sym (ap (named_serves_day key) named_is) ∙ (ap (is_day_served known.core) same ∙ one.no_day) in
+        no-true (sym (ap (λ (found : Option Found). serves_any named.terminal.standing found || serves_day key named.terminal.standing) unknown ∙ no_day) ∙ serves)
+
+    by-waiting : (found : Option Wait) → waiting_with key known.core.waits ≡ found → waiting_with key known.core.waits ≡ None
+    by-waiting None is = is
+    by-waiting (Some wait) is =
+        let there = waits-under key known.core.waits wait is in
+        absurd (serves-not wait (waits.each there.place wait there.there) (same-key-is key wait.key there.same))
+
+pub stop-is-sent : OrderLaws → ServedIsToStop → StopIsSent
+stop-is-sent laws stopped log v moves setup till bytes header reference named talk ends next there reads named_is serves talk_is may =
     let known : Known = known_in v.scene setup in
-    let b = stopped v.scene.outside.tills known till header reference named there named_is serves in
+    let k : HasSetup v.scene = record { setup = setup; setup_is = next.setup_is; within = setup-within-limits log v setup ends.before next.setup_is } in
+    let waits : AreWaitsInOrder known = waits-between-items log v (log-ordered laws log v ends.before) k (ap is_running next.stage) next.calls in
+    let b = stopped v.scene.outside.tills known till header reference named there (served-waits-not known (key_of header reference) named waits named_is serves) named_is serves in
     let row = sent-row known named.number header reference named.terminal talk (named-at (key_of header reference).poi v.scene.core.terminals named named_is) serves talk_is may in
     subst (λ (r : Row). BeginWith r.calls (turns_of moves)) row (request-is-served log v moves setup till bytes header (requests.Abort reference) named.number ends next there reads (record { items_are = b.0; no_reply = b.1 }))
 

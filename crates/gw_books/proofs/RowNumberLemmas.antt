@@ -31,7 +31,7 @@ use Rattle.gw_owes.specs.Deadlines.{is_late, is_due, late_row, due_row}
 use Rattle.gw_owes.specs.Displays.{asked_to_show}
 use Rattle.gw_owes.specs.Greeting.{greeting, sending_calls, greet_decoded}
 use Rattle.gw_owes.specs.Handling.{handle_row}
-use Rattle.gw_owes.specs.Items.{RoundItem, Crowded, Message, Asked, Unframed, Gone, Greet, NextWaiting, Oversized, LinkLost, Late, Overdue, Due, Serve, Handle}
+use Rattle.gw_owes.specs.Items.{RoundItem, Crowded, Message, Asked, Unframed, Gone, Greet, Queue, NextWaiting, Oversized, LinkLost, Late, Overdue, Due, Serve, Handle}
 use Rattle.gw_owes.specs.Links.{cutting}
 use Rattle.gw_owes.specs.Payments.{Asking, asked_for, beginning_row, serve_row}
 use Rattle.gw_owes.specs.ReadAs.{ReadAs}
@@ -39,7 +39,10 @@ use Rattle.gw_owes.specs.Reconciliations.{asked_for_day, day_command, reply_to_s
 use Rattle.gw_owes.specs.RecordLaws.{IsReadItem}
 use Rattle.gw_owes.specs.Reply.{ReplyValue}
 use Rattle.gw_owes.specs.Requests.{reply_to, begun_by}
-use Rattle.gw_owes.specs.Row.{Known, Row, owing, owing_where}
+use Rattle.gw_owes.specs.Core.{Wait}
+use Rattle.gw_owes.specs.Row.{Known, Row, owing, owing_nothing, owing_where}
+use Rattle.gw_owes.specs.WaitingRows.{next_waiting_row, taken_out}
+use Rattle.gw_owes.specs.Waits.{core_without_wait}
 use Rattle.gw_owes.specs.Rows.{asked_row, gone_row, row_of}
 use Rattle.gw_owes.specs.Serving.{reply_to_outcome, staying, stops}
 use Rattle.gw_owes.specs.Stops.{wishing}
@@ -47,7 +50,9 @@ use Rattle.gw_owes.specs.Terminals.{with_terminal, reply_calls_to, reply_to_lost
 use Rattle.gw_owes.proofs.BeginLemmas.{IsAskedAnew, begins-anew, begins-keeps}
 use Rattle.gw_owes.proofs.HandlingLemmas.{by-where, each-terminal, each-linked}
 use Rattle.gw_owes.proofs.KeepingLemmas.{replies-keep-nothing}
-use Rattle.gw_owes.proofs.PaymentLemmas.{BeginsAt, each-served, settled_row}
+use Rattle.gw_owes.proofs.NextLemmas.{each-next, each-overdue, each-queued, known_without}
+use Rattle.gw_owes.proofs.NextOrderLemmas.{begun-anew}
+use Rattle.gw_owes.proofs.PaymentLemmas.{day_row, each-served, settled_row}
 use Rattle.gw_owes.proofs.RecordLemmas.{LedgerLaws}
 use Rattle.gw_owes.proofs.SetLemmas.{new-is-there, same-some}
 use Rattle.gw_rules.specs.Lawful.{Begins, may_begin}
@@ -71,7 +76,8 @@ use Rattle.gw_books.proofs.HandledLemmas.{IsItemHandled}
 use Rattle.gw_books.proofs.Holding.{begun_past, charge_owed, charges, charges_terminal, is_deed, sending_charges, HoldsBetween, deed_owed, is_handle}
 use Rattle.gw_books.proofs.Numbering.{AreLinkedBeforeHearing, AreRecordsNumbered, BeginNumbers, IsQuiet as IsQuietAt, IsReadyNumber, IsStandingNumbered, Numbered, NumberedAfterRow, NumberedBetween, RowHolds, RowNumbers, RowOrders, handles_after_due, is_due_item, link_owed}
 use Rattle.gw_books.proofs.NumberStepLemmas.{standings-set}
-use Rattle.gw_books.proofs.QuietRowLemmas.{IsQuiet, asked-handles-none, gone-calm, same-calm, session-quiet, stopped-quiet, unlinks-quiet}
+use Rattle.gw_books.proofs.QuietRowLemmas.{IsQuiet, asked-handles-none, gone-calm, overdue-quiet, queue-quiet, same-calm, session-quiet, stopped-quiet, taken-quiet, unlinks-quiet, waits-calm}
+use Rattle.gw_books.proofs.WaitingRowLemmas.{between-without}
 use Rattle.gw_books.proofs.RecordNumberLemmas.{numbered-with-intent, numbered-with-settled}
 use Rattle.gw_books.proofs.ServeLemmas.{key-unsent, show-free}
 
@@ -161,11 +167,11 @@ lost-quiet known number = each-terminal (IsQuiet known) known number (unlinks kn
 -- ---- a payment or a reversal begins
 
 -- the terminal serves what its last trace number and its quiet allow
-begun-numbers : (laws : LedgerLaws) (known : Known) (past : Past) (book : List BookedEntry) (number till : ℕ) (header : Header) (request : SaleRequest) (terminal : Terminal) (last : ℕ) (asking : Asking) → HoldsBetween known past book → NumberedBetween known past book
-    → BeginsAt known number header request terminal last asking → IsAskedAnew known header terminal last asking → NumberedAfterRow known past book (beginning_row known number till terminal last asking.intent asking.original)
-begun-numbers laws known past book number till header request terminal last asking between n at anew = record {
+begun-numbers : (laws : LedgerLaws) (known : Known) (past : Past) (book : List BookedEntry) (number till : ℕ) (header : Header) (terminal : Terminal) (last : ℕ) (asking : Asking) → HoldsBetween known past book → NumberedBetween known past book
+    → terminal_at known number ≡ Some terminal → terminal.standing ≡ Ready last → IsAskedAnew known header terminal last asking → NumberedAfterRow known past book (beginning_row known number till terminal last asking.intent asking.original)
+begun-numbers laws known past book number till header terminal last asking between n there_is standing_is anew = record {
   records = numbered-with-intent laws known.kept intent folded book past.commands past.place n.records before (key-unsent known past book between (intent_key intent) anew.unknown);
-  standings = standings-set past book known.core number terminal new at.found (λ other one apart found. n.standings other one found) tt;
+  standings = standings-set past book known.core number terminal new there_is (λ other one apart found. n.standings other one found) tt;
   asked = λ other one found owed. by-number other one found owed (eqb other number) refl;
 }
   where
@@ -177,10 +183,10 @@ begun-numbers laws known past book number till header request terminal last aski
 
     -- the records are folded with the Intent
     folded : AreFolded (known.kept ++ Intent intent ∷ [])
-    folded = ((begins-keeps laws known between.in_order number till header terminal last asking at.found at.standing_is anew).uncut refl).folded
+    folded = ((begins-keeps laws known between.in_order number till header terminal last asking there_is standing_is anew).uncut refl).folded
 
     ready : IsReadyNumber book past.commands terminal.pt.poi past.place last
-    ready = subst (IsStandingNumbered past.links past.commands past.place book terminal.pt.poi) at.standing_is (n.standings number terminal at.found)
+    ready = subst (IsStandingNumbered past.links past.commands past.place book terminal.pt.poi) standing_is (n.standings number terminal there_is)
 
     before : IsReadyNumber book past.commands intent.poi past.place intent.before
     before = subst (λ (poi : List ℕ). IsReadyNumber book past.commands poi past.place intent.before) (sym anew.poi_is) (subst (IsReadyNumber book past.commands terminal.pt.poi past.place) (sym anew.before_is) ready)
@@ -189,7 +195,7 @@ begun-numbers laws known past book number till header request terminal last aski
         → charge_owed other (keep_calls (length known.kept) (Intent intent) ++ SendPt number (Ask (ask intent asking.original terminal.pt)) ∷ []) ≡ true → (b : Bool) → eqb other number ≡ b → IsQuietAt book past.commands one.pt.poi past.place
     by-number other one found owed true is =
         let there : slice_get (with_terminal known.core number new).terminals number ≡ Some one = subst (λ (at : ℕ). slice_get (with_terminal known.core number new).terminals at ≡ Some one) (eqb-true other number is) found in
-        subst (λ (t : Terminal). IsQuietAt book past.commands t.pt.poi past.place) (same-some new one (sym (new-is-there known.core.terminals number terminal new at.found) ∙ there)) ready.quiet
+        subst (λ (t : Terminal). IsQuietAt book past.commands t.pt.poi past.place) (same-some new one (sym (new-is-there known.core.terminals number terminal new there_is) ∙ there)) ready.quiet
     by-number other one found owed false is =
         let apart : (number == other) ≡ false = ne_eqb number other (λ same. eqb-false other number is (sym same)) in
         no-true (sym (ap (λ (b : Bool). (b && sending_charges (Ask (ask intent asking.original terminal.pt))) || false) apart) ∙ owed)
@@ -235,7 +241,7 @@ serve-numbers : (laws : LedgerLaws) (number till : ℕ) (header : Header) (reque
 serve-numbers laws number till header request scene tills known past book same between n linked read honest =
     each-served (NumberedAfterRow known past book) known number till header request (record {
       none = quiet-numbers known past book (owing known []) n (nothing-quiet known);
-      begins = λ terminal last asking at. begun-numbers laws known past book number till header request terminal last asking between n at (begins-anew laws known between.in_order number till header request terminal last asking read at);
+      begins = λ terminal last asking at. begun-numbers laws known past book number till header terminal last asking between n at.found at.standing_is (begins-anew laws known between.in_order number till header request terminal last asking read at);
       sent = λ terminal talk at may.
           quiet-numbers known past book (stops known number (wishing terminal talk)) n (stopped-quiet known number header request terminal talk (one_more_awaited terminal.awaited) (SendPt number (Ask commands.Stop) ∷ []) at refl refl);
       wished = λ terminal talk at may. quiet-numbers known past book (staying known number (wishing terminal talk)) n (stopped-quiet known number header request terminal talk terminal.awaited [] at refl refl);
@@ -244,6 +250,26 @@ serve-numbers laws number till header request scene tills known past book same b
       day = λ terminal last at. beside-numbers known past book number terminal (asked_for_day known till terminal last header) last (day_command terminal.pt) n at.found at.standing_is refl refl (λ ready. ready);
       displays = λ terminal last outputs command at.
           beside-numbers known past book number terminal (asked_to_show known till terminal last header outputs command) last command n at.found at.standing_is refl (show-free outputs command at.shown_is) (λ ready. ready);
+    })
+
+-- what a row leaves of numbers is so whatever waited before it
+numbers-without : (known : Known) (past : Past) (book : List BookedEntry) (wait : Wait) (row : Row) → NumberedAfterRow (known_without known wait) past book row → NumberedAfterRow known past book row
+numbers-without known past book wait row r = record { records = r.records; standings = r.standings; asked = r.asked }
+
+-- a request that has waited
+next-numbers : (laws : LedgerLaws) (known : Known) (past : Past) (book : List BookedEntry) (number : ℕ) → HoldsBetween known past book → NumberedBetween known past book → NumberedAfterRow known past book (next_waiting_row known number)
+next-numbers laws known past book number between n =
+    each-next (NumberedAfterRow known past book) known number (record {
+      none = quiet-numbers known past book (owing known []) n (nothing-quiet known);
+      refused = λ terminal last wait condition at refuses. quiet-numbers known past book (record (taken_out known condition wait) { items = NextWaiting number ∷ [] }) n (taken-quiet known condition wait (NextWaiting number ∷ []) refl);
+      begins = λ terminal last wait asking at. numbers-without known past book wait (beginning_row (known_without known wait) number wait.till terminal last asking.intent asking.original)
+          (begun-numbers laws (known_without known wait) past book number wait.till wait.header terminal last asking (between-without known past book wait between) (record { records = n.records; standings = n.standings })
+          at.first.found at.first.standing_is (begun-anew laws known between.in_order between.waits number terminal last wait asking at));
+      day = λ terminal last wait at. numbers-without known past book wait (day_row (known_without known wait) number wait.till wait.header terminal last)
+          (beside-numbers (known_without known wait) past book number terminal (asked_for_day (known_without known wait) wait.till terminal last wait.header) last (day_command terminal.pt) (record { records = n.records; standings = n.standings })
+          at.first.found at.first.standing_is refl refl (λ ready. ready));
+      left = λ terminal last wait at.
+          quiet-numbers known past book (owing_nothing (known_without known wait)) n (record { calm = waits-calm known.core (core_without_wait known.core wait.key).waits; none_kept = refl; no_deed = refl; handles_none = refl });
     })
 
 -- each item but a message of a terminal's dialogue
@@ -262,12 +288,13 @@ row-leaves laws (Greet number apdu) other scene tills known past book same betwe
 row-leaves laws (Handle number apdu) other scene tills known past book same between n linked read honest = no-true (sym other)
 row-leaves laws (Serve number till header request) other scene tills known past book same between n linked read honest =
     serve-numbers laws number till header request scene tills known past book same between n linked read honest
-row-leaves laws (NextWaiting number) other scene tills known past book same between n linked read honest = quiet-numbers known past book _ n (nothing-quiet known)
+row-leaves laws (Queue number till header request) other scene tills known past book same between n linked read honest = quiet-numbers known past book _ n (queue-quiet known number till header request)
+row-leaves laws (NextWaiting number) other scene tills known past book same between n linked read honest = next-numbers laws known past book number between n
 row-leaves laws (Oversized number) other scene tills known past book same between n linked read honest =
     quiet-numbers known past book _ n (each-linked (IsQuiet known) known number (λ terminal. cutting known number) (nothing-quiet known) (λ terminal found is_linked. cut-quiet known number))
 row-leaves laws (LinkLost number) other scene tills known past book same between n linked read honest = quiet-numbers known past book _ n (lost-quiet known number)
 row-leaves laws (Late number) other scene tills known past book same between n linked read honest = quiet-numbers known past book _ n (late-quiet known number)
-row-leaves laws (Overdue key) other scene tills known past book same between n linked read honest = quiet-numbers known past book _ n (nothing-quiet known)
+row-leaves laws (Overdue key) other scene tills known past book same between n linked read honest = quiet-numbers known past book _ n (overdue-quiet known key)
 row-leaves laws (Due number) other scene tills known past book same between n linked read honest = quiet-numbers known past book _ n (due-quiet known number)
 
 -- and with the past as its item has begun
@@ -354,7 +381,7 @@ row-orders tills known (Message till bytes) = of-orderly tills known (Message ti
 row-orders tills known (Asked till as_read) = record {
   links = λ owed. no-true (sym (by-where (λ (row : Row). link_owed row.calls ≡ false) known (asked_row known till as_read) (is_connected tills till) refl (λ there. replies-unlinked (Some till) (reply_to known as_read))) ∙ owed);
   items = by-where (λ (row : Row). list_any is_due_item row.items ≡ false) known (asked_row known till as_read) (is_connected tills till) refl
-      (λ there. form-begun (λ (items : List RoundItem). list_any is_due_item items ≡ false) known till refl as_read (λ number header request is. refl));
+      (λ there. form-begun (λ (items : List RoundItem). list_any is_due_item items ≡ false) known till refl as_read (λ number header request is. refl) (λ number header request is. refl));
   none = λ due. no-true due;
 }
 row-orders tills known (Unframed till) = of-orderly tills known (Unframed till)
@@ -363,12 +390,35 @@ row-orders tills known (Gone till) = of-orderly tills known (Gone till) (record 
 row-orders tills known (Greet number apdu) = of-orderly tills known (Greet number apdu) (greet-orderly known number (decode_pt_message apdu))
 row-orders tills known (Handle number apdu) = of-orderly tills known (Handle number apdu) (handle-orderly known number apdu)
 row-orders tills known (Serve number till header request) = of-orderly tills known (Serve number till header request) (serve-orderly known number till header request)
-row-orders tills known (NextWaiting number) = of-orderly tills known (NextWaiting number) (record { unlinked = refl; no_items = refl })
+row-orders tills known (Queue number till header request) = of-orderly tills known (Queue number till header request)
+    (each-queued IsOrderly known number till header request (record {
+      none = record { unlinked = refl; no_items = refl };
+      joins = λ terminal key at. record { unlinked = refl; no_items = refl };
+      taken = λ wait at. record { unlinked = refl; no_items = refl };
+    }))
+row-orders tills known (NextWaiting number) = record {
+  links = λ owed. no-true (sym (each-next (λ (row : Row). link_owed row.calls ≡ false) known number (record {
+    none = refl;
+    refused = λ terminal last wait condition at refuses. refl;
+    begins = λ terminal last wait asking at. refl;
+    day = λ terminal last wait at. refl;
+    left = λ terminal last wait at. refl;
+  })) ∙ owed);
+  items = each-next (λ (row : Row). list_any is_due_item row.items ≡ false) known number (record {
+    none = refl;
+    refused = λ terminal last wait condition at refuses. refl;
+    begins = λ terminal last wait asking at. refl;
+    day = λ terminal last wait at. refl;
+    left = λ terminal last wait at. refl;
+  });
+  none = λ due. no-true due;
+}
 row-orders tills known (Oversized number) = of-orderly tills known (Oversized number)
     (each-linked IsOrderly known number (λ terminal. cutting known number) (record { unlinked = refl; no_items = refl }) (λ terminal found is_linked. record { unlinked = refl; no_items = refl }))
 row-orders tills known (LinkLost number) = of-orderly tills known (LinkLost number) (lost-orderly known number)
 row-orders tills known (Late number) = of-orderly tills known (Late number) (late-orderly known number)
-row-orders tills known (Overdue key) = of-orderly tills known (Overdue key) (record { unlinked = refl; no_items = refl })
+row-orders tills known (Overdue key) = of-orderly tills known (Overdue key)
+    (each-overdue IsOrderly known key (record { none = record { unlinked = refl; no_items = refl }; taken = λ wait found overdue. record { unlinked = refl; no_items = refl } }))
 row-orders tills known (Due number) = record { links = λ owed. refl; items = ap (list_any is_due_item) (due-brings-none known number); none = λ due. due-brings-none known number }
 
 -- ---- an item begins

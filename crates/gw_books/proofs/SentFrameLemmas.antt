@@ -2,6 +2,7 @@
 use Rattle.std.proofs.Common.{◌≡◌, ◌<◌, ◌^◌, ℕ, Bool, true, false, List, [], ◌∷◌, ◌++◌, length, refl, sym, ◌∙◌, ◌+◌, ap, subst, arith}
 use Rattle.std.proofs.lemmas.List.{length-append}
 use Rattle.std.specs.Prelude.{if◌then◌else◌, option_map, nat_lt, nat_le, slice_get, Option, Some, None, Result, Ok, Err}
+use Rattle.gw_base.specs.declared.condition.Condition.TheVariants.{Aborted}
 use Rattle.gw_base.specs.declared.condition.Condition.{Condition}
 use Rattle.gw_base.specs.declared.figures.Figures.{Figures}
 use Rattle.gw_base.specs.declared.setup.Setup.{Setup}
@@ -13,6 +14,7 @@ use Rattle.sale_values.specs.declared.names.Period.{Period}
 use Rattle.sale_values.specs.declared.names.Period.TheVariants.{AcquirerReconciliation, SaleReconciliation}
 use Rattle.sale_values.specs.declared.request.SaleRequest.{SaleRequest}
 use Rattle.sale_values.specs.declared.request.SaleRequest.TheVariants as requests
+use Rattle.sale_values.specs.Key.{key_of}
 use Rattle.sale_reply.specs.Limits.{IsVerdictWithinLimits}
 use Rattle.sale_reply.specs.declared.reply.Shown.{Shown}
 use Rattle.sale_reply.specs.declared.reply.Verdict.{Verdict}
@@ -44,10 +46,11 @@ use Rattle.gw_owes.specs.Displays.{display_ends, serving_display, with_customer_
 use Rattle.gw_owes.specs.Greeting.{greeting, sending_calls, greet_decoded}
 use Rattle.gw_owes.specs.Handling.{consequence, enquiring, handle_decoded, handle_message, meaning_at, registering, serving, taken_as, taken_row, taking}
 use Rattle.gw_owes.specs.HeardLaws.{FitsRecord, IsReportFit}
-use Rattle.gw_owes.specs.Items.{RoundItem, Crowded, Message, Asked, Unframed, Gone, Greet, Handle, Serve, NextWaiting, Oversized, LinkLost, Late, Overdue, Due}
+use Rattle.gw_owes.specs.Items.{RoundItem, Crowded, Message, Asked, Unframed, Gone, Greet, Handle, Serve, Queue, NextWaiting, Oversized, LinkLost, Late, Overdue, Due}
 use Rattle.gw_owes.specs.Links.{cutting}
 use Rattle.gw_owes.specs.Reconciliations.{day_done, reply_to_settled, serving_day, settled_of}
-use Rattle.gw_owes.specs.RecordLaws.{AreRecordsOf, IsDayServed, IsInOrder, IsReadItem, IsReadRequest, IsServedOpen, IsServiceOnRecord, KeepsInOrder}
+use Rattle.gw_owes.specs.ReadAs.{Request}
+use Rattle.gw_owes.specs.RecordLaws.{AreRecordsOf, IsDayServed, IsInOrder, IsReadItem, IsReadRequest, IsServedOpen, IsServiceOnRecord, KeepsInOrder, IsReadFromTill}
 use Rattle.gw_owes.specs.Replies.{display_reply, failure, failure_reply, success}
 use Rattle.gw_owes.specs.Reply.{ReplyValue, reply_value_tree}
 use Rattle.gw_owes.specs.Reports.{Report, on_record, outcome_reported, report_against, report_row, standing_reported}
@@ -56,6 +59,10 @@ use Rattle.gw_owes.specs.Row.{Known, Row, owing, owing_nothing, owing_where}
 use Rattle.gw_owes.specs.Rows.{asked_row, row_of}
 use Rattle.gw_owes.specs.Serving.{at_rest, approved_outcome, approved_row, declined_outcome, reply_to_outcome, done_with, resolves, serving_transaction, staying, was_stopped}
 use Rattle.gw_owes.specs.Terminals.{core_without, forgets_till, link_lost, link_made, registers, reply_calls_to, reply_to_lost, terminal_at, terminal_becomes, unlinks}
+use Rattle.gw_owes.specs.WaitingLaws.{AreWaitsInOrder}
+use Rattle.gw_owes.proofs.NextLemmas.{each-next, each-overdue, each-queued, known_without}
+use Rattle.gw_owes.proofs.NextOrderLemmas.{first-there}
+use Rattle.gw_owes.proofs.WaitingListLemmas.{waits-under}
 use Rattle.gw_owes.proofs.BeginLemmas.{serve-keeps}
 use Rattle.gw_owes.proofs.DayLemmas.{days-set, days_in}
 use Rattle.gw_owes.proofs.HandlingLemmas.{RequestsDevice, by-where, each-linked, each-terminal, taken-cases}
@@ -73,12 +80,13 @@ use Rattle.gw_rules.specs.View.{View, Move, Begin, Read, Make, after, after_turn
 use Rattle.gw_rules.proofs.CourseLemmas.{stands-more}
 use Rattle.gw_rules.proofs.KeptPhaseLemmas.{round-runs}
 use Rattle.gw_rules.proofs.LinkedLemmas.{round-setup}
-use Rattle.gw_rules.proofs.RecordOrderLemmas.{Ordered, begin-ordered, between-items, first-ordered, first-was-read, read-ordered, row-is, turn-ordered}
+use Rattle.gw_rules.proofs.RecordOrderLemmas.{Ordered, begin-ordered, between-items, first-ordered, first-was-read, read-ordered, row-is, turn-ordered, waits-between-items}
 use Rattle.gw_rules.proofs.RecordRowLemmas.{OrderLaws}
 use Rattle.gw_rules.proofs.TranscriptLogLemmas.{image-there, there-image}
 use Rattle.gw_books.specs.Past.{OfNothing}
 use Rattle.gw_books.specs.Said.{IsFramed}
 use Rattle.gw_books.specs.SaidLaws.{EachSentIsFramed}
+use Rattle.gw_books.proofs.WaitingRowLemmas.{waiting-within}
 use Rattle.gw_books.proofs.FrameRowLemmas.{repliable-stay}
 use Rattle.gw_books.proofs.HandledLemmas.{IsItemHandled, IsMessageSmall, first-handled, first-stands, message-small, stands-begun, stands-read}
 use Rattle.gw_books.proofs.Holding.{AreRepliable, IsRepliable, IsReplyWithin, IsServiceRepliable}
@@ -376,18 +384,18 @@ settled-kept laws known order serve number till header request terminal read at 
     }
 
 -- each item's row
-row-within : (laws : LedgerLaws) (tills : List Connection) (known : Known) (item : RoundItem) → IsInOrder known → AreRepliable known.core → IsReadItem known.setup item → IsItemHandled item → LeavesWithin (row_of tills known item)
-row-within laws tills known (Crowded till) order serve read handled = owing-within known serve (OwedCutTill till ∷ []) (tt, tt)
-row-within laws tills known (Message till bytes) order serve read handled = nothing-within known serve
-row-within laws tills known (Asked till as_read) order serve read handled =
+row-within : (laws : LedgerLaws) (tills : List Connection) (known : Known) (item : RoundItem) → IsInOrder known → AreWaitsInOrder known → AreRepliable known.core → IsReadItem known.setup item → IsItemHandled item → LeavesWithin (row_of tills known item)
+row-within laws tills known (Crowded till) order waits serve read handled = owing-within known serve (OwedCutTill till ∷ []) (tt, tt)
+row-within laws tills known (Message till bytes) order waits serve read handled = nothing-within known serve
+row-within laws tills known (Asked till as_read) order waits serve read handled =
     by-where LeavesWithin known (asked_row known till as_read) (is_connected tills till) (nothing-within known serve)
     (λ there. record { repliable = serve; calls = reply-within (Some till) (reply_to known as_read) (λ own replies. asked-within laws known as_read own order read replies) })
-row-within laws tills known (Unframed till) order serve read handled =
+row-within laws tills known (Unframed till) order waits serve read handled =
     by-where LeavesWithin known (owing known (OwedCutTill till ∷ [])) (is_connected tills till) (nothing-within known serve) (λ there. owing-within known serve (OwedCutTill till ∷ []) (tt, tt))
-row-within laws tills known (Gone till) order serve read handled = record { repliable = without-serve known.core till serve; calls = tt }
-row-within laws tills known (Greet number apdu) order serve read handled = greet-within known serve number (decode_pt_message apdu)
-row-within laws tills known (Handle number apdu) order serve read handled = handled-within laws known order serve number (decode_pt_message apdu) (λ message is. message-small apdu message handled is)
-row-within laws tills known (Serve number till header request) order serve read handled =
+row-within laws tills known (Gone till) order waits serve read handled = record { repliable = without-serve known.core till serve; calls = tt }
+row-within laws tills known (Greet number apdu) order waits serve read handled = greet-within known serve number (decode_pt_message apdu)
+row-within laws tills known (Handle number apdu) order waits serve read handled = handled-within laws known order serve number (decode_pt_message apdu) (λ message is. message-small apdu message handled is)
+row-within laws tills known (Serve number till header request) order waits serve read handled =
     each-served (λ (row : Row). RowKeeps known number row → LeavesWithin row) known number till header request (record {
       none = λ keeps. nothing-within known serve;
       begins = λ terminal last asking at keeps. becomes-within known serve number _ _ tt (tt, (tt, (tt, (tt, (tt, tt)))));
@@ -402,15 +410,41 @@ row-within laws tills known (Serve number till header request) order serve read 
           let read-as : IsReadRequest known.setup number header (requests.Display outputs) = subst (IsReadRequest known.setup number header) at.request_is read in
           becomes-within known serve number _ _ (display-beside header outputs read-as.read) (tt, tt);
     }) (serve-keeps laws known order number till header request read)
-row-within laws tills known (NextWaiting number) order serve read handled = nothing-within known serve
-row-within laws tills known (Oversized number) order serve read handled =
+row-within laws tills known (Queue number till header request) order waits serve read handled =
+    each-queued LeavesWithin known number till header request (record {
+      none = nothing-within known serve;
+      joins = λ terminal key at. record { repliable = serve; calls = tt };
+      taken = λ wait at.
+          let there = waits-under (key_of header at.reference) known.core.waits wait at.waits_is in
+          record { repliable = serve; calls = (waiting-within known wait Aborted (waits.each there.place wait there.there), tt) };
+    })
+row-within laws tills known (NextWaiting number) order waits serve read handled =
+    each-next LeavesWithin known number (record {
+      none = nothing-within known serve;
+      refused = λ terminal last wait condition at refuses.
+          let there = first-there number known.core.waits wait at.first_is in
+          record { repliable = serve; calls = (waiting-within known wait condition (waits.each there.at wait there.there), tt) };
+      begins = λ terminal last wait asking at. becomes-within (known_without known wait) serve number _ _ tt (tt, (tt, (tt, (tt, (tt, tt)))));
+      day = λ terminal last wait at.
+          let there = first-there number known.core.waits wait at.first.first_is in
+          let one = waits.each there.at wait there.there in
+          becomes-within (known_without known wait) serve number _ _ (day-beside wait.header at.period (subst (λ (r : SaleRequest). IsReadFromTill (Request wait.header r)) at.request_is one.read.read)) (tt, tt);
+      left = λ terminal last wait at. record { repliable = serve; calls = tt };
+    })
+row-within laws tills known (Oversized number) order waits serve read handled =
     each-linked LeavesWithin known number (λ terminal. cutting known number) (nothing-within known serve) (λ terminal found linked. cut-within known serve number)
-row-within laws tills known (LinkLost number) order serve read handled = lost-within known serve number
-row-within laws tills known (Late number) order serve read handled =
+row-within laws tills known (LinkLost number) order waits serve read handled = lost-within known serve number
+row-within laws tills known (Late number) order waits serve read handled =
     each-terminal LeavesWithin known number (λ terminal. owing_where (is_late known.moment terminal.talk) known (cutting known number)) (nothing-within known serve)
     (λ terminal found. by-where LeavesWithin known (cutting known number) (is_late known.moment terminal.talk) (nothing-within known serve) (λ late. cut-within known serve number))
-row-within laws tills known (Overdue key) order serve read handled = nothing-within known serve
-row-within laws tills known (Due number) order serve read handled =
+row-within laws tills known (Overdue key) order waits serve read handled =
+    each-overdue LeavesWithin known key (record {
+      none = nothing-within known serve;
+      taken = λ wait found overdue.
+          let there = waits-under key known.core.waits wait found in
+          record { repliable = serve; calls = (waiting-within known wait Aborted (waits.each there.place wait there.there), tt) };
+    })
+row-within laws tills known (Due number) order waits serve read handled =
     each-terminal LeavesWithin known number (λ terminal. owing_where (is_due known.moment terminal.standing) known (owing known (LinkPt number ∷ []))) (nothing-within known serve)
     (λ terminal found. by-where LeavesWithin known (owing known (LinkPt number ∷ [])) (is_due known.moment terminal.standing) (nothing-within known serve) (λ due. owing-within known serve (LinkPt number ∷ []) (tt, tt)))
 
@@ -430,7 +464,7 @@ begin-framed laws log v s o b f = by-items v.items refl
         let k = round-setup v o.agrees.run b.idle.round in
         let known : Known = known_in v.scene k.setup in
         let order : IsInOrder known = between-items log v o k (round-runs v.scene.stage b.idle.round) b.idle.calls in
-        let row = row-within laws v.scene.outside.tills known item order f.repliable (first-was-read log v item rest o k e) (first-handled log v item rest s e) in
+        let row = row-within laws v.scene.outside.tills known item order (waits-between-items log v o k (round-runs v.scene.stage b.idle.round) b.idle.calls) f.repliable (first-was-read log v item rest o k e) (first-handled log v item rest s e) in
         let own : LeavesWithin (row_at v.scene item) = subst LeavesWithin (sym (row-is v.scene k item)) row in
         subst (λ (items : List RoundItem). Framed (after (record v { items = items }) Begin)) (sym e) (record { repliable = own.repliable; calls = own.calls })
 

@@ -49,11 +49,10 @@ use Rattle.gw_owes.specs.Terminals.{terminal_at, terminal_becomes, with_terminal
 use Rattle.gw_owes.proofs.BeginLemmas.{IsAskedAnew, begins-anew, refused-within, serve-keeps}
 use Rattle.gw_owes.proofs.KeepingLemmas.{RowKeeps}
 use Rattle.gw_owes.proofs.LimitLemmas.{reconciliation-within, settled-within}
-use Rattle.gw_owes.proofs.PaymentLemmas.{BeginsAt, SettlesAt, each-served, settled_row}
+use Rattle.gw_owes.proofs.PaymentLemmas.{SettlesAt, each-served, settled_row}
 use Rattle.gw_owes.proofs.ReadLimitLemmas.{header-read}
 use Rattle.gw_owes.proofs.RecordLemmas.{LedgerLaws, last-there}
 use Rattle.gw_owes.proofs.SetLemmas.{new-is-there}
-use Rattle.gw_rules.specs.Scene.{Scene}
 use Rattle.gw_books.specs.Agrees.{is_accepted}
 use Rattle.gw_books.specs.Books.{BookedEntry}
 use Rattle.gw_books.specs.Past.{OfRequest, MadeLink, Past, SentCommand, waiting_keys}
@@ -94,11 +93,11 @@ key-unsent known past book between key unknown command sent key_is =
 
 -- ---- the beginning
 
-module _ (laws : LedgerLaws) (scene : Scene) (known : Known) (past : Past) (book : List BookedEntry) (between : HoldsBetween known past book) (number till : ℕ) (header : Header) (request : SaleRequest) (terminal : Terminal) (last : ℕ) (asking : Asking)
-    (at : BeginsAt known number header request terminal last asking) (anew : IsAskedAnew known header terminal last asking) where
+module _ (laws : LedgerLaws) (known : Known) (past : Past) (book : List BookedEntry) (between : HoldsBetween known past book) (number till : ℕ) (header : Header) (request : SaleRequest) (terminal : Terminal) (last : ℕ) (asking : Asking)
+    (found : terminal_at known number ≡ Some terminal) (anew : IsAskedAnew known header terminal last asking) where
   -- the past as the item has begun
   abbrev begun : Past
-  begun = begun_past scene past (Serve number till header request)
+  begun = record past { occasion = OfRequest header request }
 
   abbrev intent : TheIntent
   intent = asking.intent
@@ -116,7 +115,7 @@ module _ (laws : LedgerLaws) (scene : Scene) (known : Known) (past : Past) (book
   abbrev to-be-asked : IsToBeAsked records row.core past.commands number
   to-be-asked = record {
     terminal = new;
-    found = new-is-there known.core.terminals number terminal new at.found;
+    found = new-is-there known.core.terminals number terminal new found;
     slot = length known.kept;
     last = last;
     standing_is = refl;
@@ -140,13 +139,13 @@ module _ (laws : LedgerLaws) (scene : Scene) (known : Known) (past : Past) (book
       let before = rest.records_before in
       let more : length records ≡ length known.kept + 1 = length-append known.kept (Intent intent ∷ []) in
       record {
-        of_terminal = link-stays known.core number terminal new at.found refl link rest.of_terminal;
+        of_terminal = link-stays known.core number terminal new found refl link rest.of_terminal;
         before = rest.before;
         records_before = omega (arith, before, more);
         resolved = λ reported. inr (resolved-more laws known.kept (Intent intent) link rest.records_before (rest.resolved reported));
       }
 
-  begins-holds : HoldsAfterRow known begun book row
+  pub begins-holds : HoldsAfterRow known begun book row
   begins-holds = record {
     outcomes = outcomes-and-intent past.commands book past.place known.kept intent between.in_order.folded between.outcomes;
     calls = (tt, (tt, (tt, (tt, (asked-sound records row.core past.commands number intent.what intent asking.original terminal.pt.password (to-be-asked, refl), tt)))));
@@ -193,13 +192,13 @@ display-beside header outputs read =
       refused-within is.0 UnavailableDevice outputs is.1.members is.1.asks,
     )
 
-module _ (laws : LedgerLaws) (scene : Scene) (known : Known) (past : Past) (book : List BookedEntry) (between : HoldsBetween known past book) (number till : ℕ) (header : Header) (request : SaleRequest) where
+module _ (laws : LedgerLaws) (known : Known) (past : Past) (book : List BookedEntry) (between : HoldsBetween known past book) (number till : ℕ) (header : Header) (request : SaleRequest) where
   -- the row leaves what holds, with the past as the item has begun
   abbrev Leaves : Row → Type 0
-  Leaves row = HoldsAfterRow known (begun_past scene past (Serve number till header request)) book row
+  Leaves row = HoldsAfterRow known (record past { occasion = OfRequest header request }) book row
 
   -- the terminal serves what is no payment and no reversal
-  beside-leaves : (terminal new : Terminal) (command : Command) → terminal_at known number ≡ Some terminal → new.pt ≡ terminal.pt → charges command ≡ false → IsRepliable new.standing
+  pub beside-leaves : (terminal new : Terminal) (command : Command) → terminal_at known number ≡ Some terminal → new.pt ≡ terminal.pt → charges command ≡ false → IsRepliable new.standing
       → IsServingSound known.kept past.commands new.pt.poi new.standing → Leaves (terminal_becomes known number new (SendPt number (Ask command) ∷ []))
   beside-leaves terminal new command found same free repliable serves = parts-hold known past book (OfRequest header request) [] (terminal_becomes known number new (SendPt number (Ask command) ∷ [])) known.kept between (record {
     records_are = append-nil known.kept;
@@ -263,7 +262,7 @@ serve-holds laws number till header request scene tills known past book same bet
     each-served (λ (row : Row). RowKeeps known number row → HoldsAfterRow known (begun_past scene past (Serve number till header request)) book row) known number till header request (record {
       none = λ keeps. nothing-holds known past book (OfRequest header request) between;
       begins = λ terminal last asking at keeps.
-          begins-holds laws scene known past book between number till header request terminal last asking at (begins-anew laws known between.in_order number till header request terminal last asking read at);
+          begins-holds laws known past book between number till header request terminal last asking at.found (begins-anew laws known between.in_order number till header request terminal last asking read at);
       sent = λ terminal talk at may keeps.
           quiet-holds known past book (OfRequest header request) (stops known number (wishing terminal talk)) between
           (stopped-quiet known number header request terminal talk (one_more_awaited terminal.awaited) (SendPt number (Ask commands.Stop) ∷ []) at refl refl) (tt, tt);
@@ -276,13 +275,13 @@ serve-holds laws number till header request scene tills known past book same bet
         },
         tt,
       );
-      settles = λ terminal at keeps. settles-leaves laws scene known past book between number till header request terminal read at keeps;
+      settles = λ terminal at keeps. settles-leaves laws known past book between number till header request terminal read at keeps;
       day = λ terminal last at keeps.
           let read-as : IsReadRequest known.setup number header (requests.Reconciliation AcquirerReconciliation) = subst (IsReadRequest known.setup number header) at.request_is read in
-          beside-leaves laws scene known past book between number till header request terminal (asked_for_day known till terminal last header) (day_command terminal.pt) at.found refl refl
+          beside-leaves laws known past book between number till header request terminal (asked_for_day known till terminal last header) (day_command terminal.pt) at.found refl refl
           (day-beside header AcquirerReconciliation read-as.read) tt;
       displays = λ terminal last outputs command at keeps.
           let read-as : IsReadRequest known.setup number header (requests.Display outputs) = subst (IsReadRequest known.setup number header) at.request_is read in
-          beside-leaves laws scene known past book between number till header request terminal (asked_to_show known till terminal last header outputs command) command at.found refl (show-free outputs command at.shown_is)
+          beside-leaves laws known past book between number till header request terminal (asked_to_show known till terminal last header outputs command) command at.found refl (show-free outputs command at.shown_is)
           (display-beside header outputs read-as.read) tt;
     }) (serve-keeps laws known between.in_order number till header request read)

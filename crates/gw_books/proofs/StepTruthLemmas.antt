@@ -31,8 +31,8 @@ use Rattle.gw_ledger.specs.Fold.{AreFolded, found_of, last_entry}
 use Rattle.gw_ledger.specs.Keys.{intent_key, same_key}
 use Rattle.xlate.specs.Reply.{header_of, result_body_of}
 use Rattle.gw_owes.specs.Content.{has_same_content}
-use Rattle.gw_owes.specs.Core.{Core}
-use Rattle.gw_owes.specs.Days.{asks_day, asks_day_served, is_day_again, is_day_key, is_day_served, is_key_of_day, named_serves_day}
+use Rattle.gw_owes.specs.Core.{Core, Wait}
+use Rattle.gw_owes.specs.Days.{asks_day, is_day_again, is_day_key, is_key_of_day, named_serves_day}
 use Rattle.gw_owes.specs.Displays.{display_result, reply_of_display}
 use Rattle.gw_owes.specs.Diagnosis.{NamedTerminal, diagnosis_reply, named_terminal}
 use Rattle.gw_owes.specs.KeptReplies.{found_by_status, found_for, is_open_key, own_key, repeated_reply, status_reply, status_reply_at}
@@ -44,7 +44,8 @@ use Rattle.gw_owes.specs.Requests.{abort_reply, reply_at, reply_to}
 use Rattle.gw_owes.specs.Row.{Known}
 use Rattle.gw_owes.specs.Sessions.{is_one_too_many, is_session}
 use Rattle.gw_owes.specs.SessionRows.{success_reply}
-use Rattle.gw_owes.specs.Steps.{StepResult, KeptReply, Fails, Begins, RequestStep, first_result, reply_of_result, service_reply, steps}
+use Rattle.gw_owes.specs.Steps.{StepResult, KeptReply, Fails, Begins, Waits, RequestStep, first_result, reply_of_result, result_at_queue, service_reply, steps}
+use Rattle.gw_owes.specs.Waits.{asks_pending, is_pending, is_pending_again, is_queue_full, repeats_waiting, waiting_for, waiting_with}
 use Rattle.gw_owes.proofs.HeardLemmas.{of-both}
 use Rattle.gw_owes.proofs.LimitLemmas.{service-there}
 use Rattle.gw_owes.proofs.RecordLemmas.{LedgerLaws}
@@ -57,7 +58,7 @@ use Rattle.gw_books.proofs.Holding.{IsNoTransaction, IsReplyTrue, IsSaidTrue}
 use Rattle.gw_books.proofs.ListLemmas.{In, bytes-are}
 use Rattle.gw_books.proofs.RecordMoreLemmas.{unknown-accepted}
 use Rattle.gw_books.proofs.ReplyTruthLemmas.{IsFoundUnder, IsIdle, alone-true, both-true, display-true, finished-true, found-under, kind-is, last-under, malformed-true, not-found-true, open-key, open-true, other-content-true, other-kind-true, reply-true-more, succeeded-true, unknown-true, waits-true}
-use Rattle.gw_books.proofs.WaitingLemmas.{day-waits, single-true}
+use Rattle.gw_books.proofs.WaitingLemmas.{day-waits, pending-waits, single-true, waiting-waits}
 
 -- ---- replies by their kinds
 
@@ -110,6 +111,7 @@ abbrev IsIdleResult : StepResult → Type 0
 IsIdleResult KeptReply = ⊥
 IsIdleResult (Fails condition) = bytes_eq (name_of condition) (codes "InProgress") ≡ false
 IsIdleResult Begins = Unit {0}
+IsIdleResult Waits = Unit {0}
 
 -- each step that applies has such a result
 abbrev AreIdle : List RequestStep → Type 0
@@ -125,9 +127,17 @@ first-idle otherwise (step ∷ steps) last idle = by-test step.applies refl (fir
     by-test true is later = idle.0 is
     by-test false is later = later
 
--- where the key isn't on record, and isn't that of an end of day that is asked for again
-none-idle : (known : Known) (header : Header) (request : SaleRequest) (named : Option NamedTerminal) → is_day_again header request named ≡ false → IsIdleResult (first_result (Fails Busy) (steps known header request None named))
-none-idle known header request named new = first-idle (Fails Busy) (steps known header request None named) refl (
+-- nor has what there is for a terminal that serves another request
+queue-idle : (known : Known) (named : Option NamedTerminal) → IsIdleResult (result_at_queue known named)
+queue-idle known named = by-full (is_queue_full known named)
+  where
+    by-full : (full : Bool) → IsIdleResult (if full then Fails Busy else Waits)
+    by-full true = refl
+    by-full false = tt
+
+-- where the key isn't on record, and nothing that waits or is served is asked for again
+none-idle : (known : Known) (header : Header) (request : SaleRequest) (named : Option NamedTerminal) → is_pending_again known header request named ≡ false → IsIdleResult (first_result (result_at_queue known named) (steps known header request None named))
+none-idle known header request named new = first-idle (result_at_queue known named) (steps known header request None named) (queue-idle known named) (
   λ applies. absurd cc,
   (
     λ applies. absurd cc,
@@ -145,7 +155,7 @@ none-idle known header request named new = first-idle (Fails Busy) (steps known 
 )
 
 -- where it is, that is in progress
-again-fails : (known : Known) (header : Header) (request : SaleRequest) (named : Option NamedTerminal) → is_day_again header request named ≡ true → first_result (Fails Busy) (steps known header request None named) ≡ Fails InProgress
+again-fails : (known : Known) (header : Header) (request : SaleRequest) (named : Option NamedTerminal) → is_pending_again known header request named ≡ true → first_result (result_at_queue known named) (steps known header request None named) ≡ Fails InProgress
 again-fails known header request named is = rw is refl
 
 -- the key of a header with a ServiceID
@@ -158,18 +168,29 @@ own-key-is header service = by-service header.service
     by-service None is = absurd cc
     by-service (Some text) is = refl
 
+-- what is repeated is there
+repeats-there : (kept : List Record) (poi : List ℕ) (request : SaleRequest) (found : Option Wait) → repeats_waiting kept poi request found ≡ true → is_some found ≡ true
+repeats-there kept poi request None is = absurd cc
+repeats-there kept poi request (Some wait) is = refl
+
 module _ (laws : LedgerLaws) (known : Known) (folded : AreFolded known.kept) (header : Header) (request : SaleRequest) (about : (own : Key) → key_about known.kept own header request ≡ Some own)
     (service : List ℕ) (service_is : header.service ≡ Some service) (named : Option NamedTerminal) (named_is : named_terminal known.core header.poi ≡ named) (reply : ReplyValue)
   where
     abbrev waiting : List Key
     waiting = waiting_keys known.core
 
-    -- the end of day that is asked for again is served, and so its key waits
-    again-waits : is_day_again header request named ≡ true → list_any (same_key (header_key header)) waiting ≡ true
-    again-waits is =
-        let day : is_key_of_day (own_key header) named ≡ true = (and_parts (is_day_key header named) (asks_day request) is).0 in
-        let serves : is_key_of_day (Some (header_key header)) named ≡ true = subst (λ (key : Option Key). is_key_of_day key named ≡ true) (own-key-is header service service_is) day in
-        day-waits known.core (header_key header) (ap (named_serves_day (header_key header)) named_is ∙ serves)
+    -- what is asked for again waits, or is the end of day that is served
+    again-waits : is_pending_again known header request named ≡ true → list_any (same_key (header_key header)) waiting ≡ true
+    again-waits is = by-day (is_day_again header request named) refl is
+      where
+        by-day : (day : Bool) → is_day_again header request named ≡ day → (day || repeats_waiting known.kept header.poi request (waiting_for known.core header)) ≡ true → list_any (same_key (header_key header)) waiting ≡ true
+        by-day true again e =
+            let day : is_key_of_day (own_key header) named ≡ true = (and_parts (is_day_key header named) (asks_day request) again).0 in
+            let serves : is_key_of_day (Some (header_key header)) named ≡ true = subst (λ (key : Option Key). is_key_of_day key named ≡ true) (own-key-is header service service_is) day in
+            day-waits known.core (header_key header) (ap (named_serves_day (header_key header)) named_is ∙ serves)
+        by-day false again e = waiting-waits known.core (header_key header)
+            (repeats-there known.kept header.poi request (waiting_with (header_key header) known.core.waits)
+            (subst (λ (key : Option Key). repeats_waiting known.kept header.poi request (option_and_then (λ (one : Key). waiting_with one known.core.waits) key) ≡ true) (own-key-is header service service_is) e))
 
     found-is : found_for known.kept header ≡ found_of known.kept (header_key header)
     found-is = ap (option_and_then (found_of known.kept)) (own-key-is header service service_is)
@@ -182,6 +203,7 @@ module _ (laws : LedgerLaws) (known : Known) (folded : AreFolded known.kept) (he
         (failure-true known.kept (OfRequest header request) header condition
         (unknown-true known.kept (OfRequest header request) (header_of_reply header) condition idle (about (header_key header)) (unknown-accepted known.kept (header_key header) none))) is
     idle-reply none Begins idle is = absurd cc
+    idle-reply none Waits idle is = absurd cc
 
     -- the key is on record
     on-record : (found : Found) → found_of known.kept (header_key header) ≡ Some found → service_reply known header request named ≡ Some reply → IsReplyTrue known.kept [] (OfRequest header request) reply
@@ -205,11 +227,11 @@ module _ (laws : LedgerLaws) (known : Known) (folded : AreFolded known.kept) (he
             (sym ((each-on-record-is-replied known header request named found (found-is ∙ there)).other_content content) ∙ is)
 
     -- the key isn't on record
-    off-record : found_of known.kept (header_key header) ≡ None → reply_of_result known.kept header (first_result (Fails Busy) (steps known header request None named)) ≡ Some reply
+    off-record : found_of known.kept (header_key header) ≡ None → reply_of_result known.kept header (first_result (result_at_queue known named) (steps known header request None named)) ≡ Some reply
         → IsReplyTrue known.kept waiting (OfRequest header request) reply
-    off-record none is = by-again (is_day_again header request named) refl
+    off-record none is = by-again (is_pending_again known header request named) refl
       where
-        by-again : (again : Bool) → is_day_again header request named ≡ again → IsReplyTrue known.kept waiting (OfRequest header request) reply
+        by-again : (again : Bool) → is_pending_again known header request named ≡ again → IsReplyTrue known.kept waiting (OfRequest header request) reply
         by-again true same =
             subst (IsReplyTrue known.kept waiting (OfRequest header request))
             (same_Some (failure_reply header InProgress) reply (sym (ap (reply_of_result known.kept header) (again-fails known header request named same)) ∙ is))
@@ -217,7 +239,7 @@ module _ (laws : LedgerLaws) (known : Known) (folded : AreFolded known.kept) (he
             (waits-true known.kept waiting (OfRequest header request) (header_of_reply header) (header_key header) (about (header_key header)) (again-waits same)) there)
         by-again false other =
             reply-true-more known.kept waiting (OfRequest header request) reply
-            (idle-reply none (first_result (Fails Busy) (steps known header request None named)) (none-idle known header request named other) is)
+            (idle-reply none (first_result (result_at_queue known named) (steps known header request None named)) (none-idle known header request named other) is)
 
     -- a Payment, a Reversal or a Reconciliation
     service-true : service_reply known header request named ≡ Some reply → IsReplyTrue known.kept waiting (OfRequest header request) reply
@@ -225,7 +247,7 @@ module _ (laws : LedgerLaws) (known : Known) (folded : AreFolded known.kept) (he
       where
         by-found : (there : Option Found) → found_of known.kept (header_key header) ≡ there → IsReplyTrue known.kept waiting (OfRequest header request) reply
         by-found None none = off-record none
-            (sym (ap (λ (there : Option Found). reply_of_result known.kept header (first_result (Fails Busy) (steps known header request there named))) (found-is ∙ none)) ∙ is)
+            (sym (ap (λ (there : Option Found). reply_of_result known.kept header (first_result (result_at_queue known named) (steps known header request there named))) (found-is ∙ none)) ∙ is)
         by-found (Some found) there = reply-true-more known.kept waiting (OfRequest header request) reply (on-record found there is)
 
 -- ---- a TransactionStatus
@@ -275,18 +297,18 @@ module _ (laws : LedgerLaws) (kept : List Record) (folded : AreFolded kept) (hea
           (not-found-true kept (OfRequest header (requests.Status reference)) (header_of_reply header) apart (none-asked reference none))
       by-found (Some found) is = found-true reference found (asked-under reference found is) (result_body_of found) refl
 
-  -- the same where an end of day may be served
+  -- the same where a request may wait, or an end of day may be served
   status-at-true : (core : Core) (reference : Option Reference)
-      → IsReplyTrue kept (waiting_keys core) (OfRequest header (requests.Status reference)) (status_reply_at header (found_by_status kept header reference) (asks_day_served core header reference))
+      → IsReplyTrue kept (waiting_keys core) (OfRequest header (requests.Status reference)) (status_reply_at header (found_by_status kept header reference) (asks_pending core header reference))
   status-at-true core reference = by-found (found_by_status kept header reference) refl
     where
-      served : (asked : Option Reference) → asks_day_served core header asked ≡ true → IsReplyTrue kept (waiting_keys core) (OfRequest header (requests.Status asked)) (failure_reply header InProgress)
+      served : (asked : Option Reference) → asks_pending core header asked ≡ true → IsReplyTrue kept (waiting_keys core) (OfRequest header (requests.Status asked)) (failure_reply header InProgress)
       served None serves = absurd cc
       served (Some one) serves =
           λ said there. single-true kept (waiting_keys core) (OfRequest header (requests.Status (Some one))) (plain_said (header_of_reply header) (Some InProgress)) said
-          (waits-true kept (waiting_keys core) (OfRequest header (requests.Status (Some one))) (header_of_reply header) (key_of header one) refl (day-waits core (key_of header one) serves)) there
+          (waits-true kept (waiting_keys core) (OfRequest header (requests.Status (Some one))) (header_of_reply header) (key_of header one) refl (pending-waits core (key_of header one) serves)) there
 
-      by-served : (b : Bool) → asks_day_served core header reference ≡ b → found_by_status kept header reference ≡ None
+      by-served : (b : Bool) → asks_pending core header reference ≡ b → found_by_status kept header reference ≡ None
           → IsReplyTrue kept (waiting_keys core) (OfRequest header (requests.Status reference)) (status_reply_at header None b)
       by-served true serves none = served reference serves
       by-served false apart_from none =
@@ -294,8 +316,8 @@ module _ (laws : LedgerLaws) (kept : List Record) (folded : AreFolded kept) (hea
           (subst (λ (there : Option Found). IsReplyTrue kept [] (OfRequest header (requests.Status reference)) (status_reply header there)) none (status-true reference))
 
       by-found : (there : Option Found) → found_by_status kept header reference ≡ there
-          → IsReplyTrue kept (waiting_keys core) (OfRequest header (requests.Status reference)) (status_reply_at header there (asks_day_served core header reference))
-      by-found None none = by-served (asks_day_served core header reference) refl none
+          → IsReplyTrue kept (waiting_keys core) (OfRequest header (requests.Status reference)) (status_reply_at header there (asks_pending core header reference))
+      by-found None none = by-served (asks_pending core header reference) refl none
       by-found (Some found) is =
           reply-true-more kept (waiting_keys core) (OfRequest header (requests.Status reference)) (status_reply header (Some found))
           (subst (λ (there : Option Found). IsReplyTrue kept [] (OfRequest header (requests.Status reference)) (status_reply header there)) is (status-true reference))
@@ -338,6 +360,7 @@ display-reply-true : (records : List Record) (occasion : Occasion) (header : Hea
 display-reply-true records occasion header outputs KeptReply reply apart is = absurd cc
 display-reply-true records occasion header outputs (Fails condition) reply apart is = display-results-true records occasion header (refused_results condition outputs) reply apart is
 display-reply-true records occasion header outputs Begins reply apart is = absurd cc
+display-reply-true records occasion header outputs Waits reply apart is = absurd cc
 
 abort-true : (records : List Record) (occasion : Occasion) (opened : Bool) (known : Known) (header : Header) (reply : ReplyValue) → abort_reply opened known header ≡ Some reply → IsReplyTrue records [] occasion reply
 abort-true records occasion true known header reply is = absurd cc
@@ -363,10 +386,10 @@ request-true laws known message body header (requests.Reversal ask) named reply 
     service-true laws known folded header (requests.Reversal ask) (λ own. refl) service.text (sym asks.request_of.header_is.values.service ∙ service.is) named named_is reply is
 request-true laws known message body header (requests.Abort reference) named reply named_is folded asks is =
     reply-true-more known.kept (waiting_keys known.core) (OfRequest header (requests.Abort reference)) reply
-    (abort-true known.kept (OfRequest header (requests.Abort reference)) (is_open_key known.kept header reference || is_day_served known.core (key_of header reference)) known header reply is)
+    (abort-true known.kept (OfRequest header (requests.Abort reference)) (is_open_key known.kept header reference || is_pending known.core (key_of header reference)) known header reply is)
 request-true laws known message body header (requests.Status reference) named reply named_is folded asks is =
     subst (IsReplyTrue known.kept (waiting_keys known.core) (OfRequest header (requests.Status reference)))
-    (same_Some (status_reply_at header (found_by_status known.kept header reference) (asks_day_served known.core header reference)) reply is)
+    (same_Some (status_reply_at header (found_by_status known.kept header reference) (asks_pending known.core header reference)) reply is)
     (status-at-true laws known.kept folded header (kind-is header (codes "TransactionStatus") (sym asks.category) refl) known.core reference)
 request-true laws known message body header (requests.Reconciliation period) named reply named_is folded asks is =
     let service = service-there body asks.members.members.0 in

@@ -15,7 +15,7 @@ use Rattle.gw_owes.specs.declared.terminal.Terminal.{Terminal}
 use Rattle.gw_owes.specs.Calls.{OwedCall, Sync, records_kept}
 use Rattle.gw_owes.specs.Core.{Core, new_core, new_terminal}
 use Rattle.gw_owes.specs.Events.{till_opened_items, decoded_items, decoded_apdu_items}
-use Rattle.gw_owes.specs.Items.{RoundItem, Crowded, Message, Asked, Unframed, Gone, Greet, Handle, Serve, NextWaiting, Oversized, LinkLost, Late, Overdue, Due}
+use Rattle.gw_owes.specs.Items.{RoundItem, Crowded, Message, Asked, Unframed, Gone, Greet, Handle, Serve, Queue, NextWaiting, Oversized, LinkLost, Late, Overdue, Due}
 use Rattle.gw_owes.specs.ReadAs.{ReadAs}
 use Rattle.gw_owes.proofs.RecordLemmas.{LedgerLaws}
 use Rattle.gw_owes.proofs.SetLemmas.{same-some}
@@ -223,6 +223,7 @@ read-handles as_read (Gone till ∷ items) = refl
 read-handles as_read (Greet number apdu ∷ items) = refl
 read-handles as_read (Handle number apdu ∷ items) = refl
 read-handles as_read (Serve number till header request ∷ items) = refl
+read-handles as_read (Queue number till header request ∷ items) = refl
 read-handles as_read (NextWaiting number ∷ items) = refl
 read-handles as_read (Oversized number ∷ items) = refl
 read-handles as_read (LinkLost number ∷ items) = refl
@@ -240,6 +241,7 @@ read-orders as_read (Gone till ∷ items) = refl
 read-orders as_read (Greet number apdu ∷ items) = refl
 read-orders as_read (Handle number apdu ∷ items) = refl
 read-orders as_read (Serve number till header request ∷ items) = refl
+read-orders as_read (Queue number till header request ∷ items) = refl
 read-orders as_read (NextWaiting number ∷ items) = refl
 read-orders as_read (Oversized number ∷ items) = refl
 read-orders as_read (LinkLost number ∷ items) = refl

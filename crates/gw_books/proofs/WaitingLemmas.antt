@@ -1,6 +1,6 @@
--- The key of an end of day that is served is one of those that wait.
+-- The key of a request that waits, or of an end of day that is served, is one of those that wait.
 use Rattle.std.proofs.Common.{◌≡◌, ℕ, ◌+◌, Bool, true, false, List, [], ◌∷◌, ◌++◌, refl, sym, subst, inl, inr}
-use Rattle.std.specs.Prelude.{map, bytes_eq, if◌then◌else◌, Option, Some, None}
+use Rattle.std.specs.Prelude.{◌||◌, map, bytes_eq, is_some, if◌then◌else◌, Option, Some, None}
 use Rattle.std.specs.List.{flat_map, list_any}
 use Rattle.std.specs.Option.{option_and_then, option_to_list}
 use Rattle.gw_base.specs.declared.key.Key.{Key}
@@ -12,6 +12,7 @@ use Rattle.gw_owes.specs.Core.{Core, Wait}
 use Rattle.gw_owes.specs.Days.{day_served, has_key, is_day_served, named_serves_day}
 use Rattle.gw_owes.specs.Diagnosis.{named_from}
 use Rattle.gw_owes.specs.KeptReplies.{own_key}
+use Rattle.gw_owes.specs.Waits.{is_pending, waiting_with}
 use Rattle.gw_books.specs.Past.{Occasion, day_key_of, waiting_keys}
 use Rattle.gw_books.specs.Said.{Said}
 use Rattle.gw_books.proofs.Holding.{IsSaidTrue}
@@ -48,6 +49,27 @@ named-waits key number poi (terminal ∷ terminals) serves = by-test (bytes_eq t
 -- so the key of an end of day that is served waits
 pub day-waits : (core : Core) (key : Key) → is_day_served core key ≡ true → list_any (same_key key) (waiting_keys core) ≡ true
 day-waits core key serves = second-passes key (map (λ (wait : Wait). wait.key) core.waits) (flat_map (λ (terminal : Terminal). option_to_list (day_key_of terminal)) core.terminals) (named-waits key 0 key.poi core.terminals serves)
+
+-- a key under which something waits is that of one that does
+any-waiting : (key : Key) (waits : List Wait) → is_some (waiting_with key waits) ≡ true → list_any (same_key key) (map (λ (wait : Wait). wait.key) waits) ≡ true
+any-waiting key [] is = absurd cc
+any-waiting key (wait ∷ waits) is = by-first (same_key key wait.key) (any-waiting key waits) is
+  where
+    by-first : (first : Bool) → (is_some (waiting_with key waits) ≡ true → list_any (same_key key) (map (λ (one : Wait). one.key) waits) ≡ true) → is_some (if first then Some wait else waiting_with key waits) ≡ true
+        → (first || list_any (same_key key) (map (λ (one : Wait). one.key) waits)) ≡ true
+    by-first true later found = refl
+    by-first false later found = later found
+
+pub waiting-waits : (core : Core) (key : Key) → is_some (waiting_with key core.waits) ≡ true → list_any (same_key key) (waiting_keys core) ≡ true
+waiting-waits core key is = first-passes key (map (λ (wait : Wait). wait.key) core.waits) (flat_map (λ (terminal : Terminal). option_to_list (day_key_of terminal)) core.terminals) (any-waiting key core.waits is)
+
+-- so is a key that is pending
+pub pending-waits : (core : Core) (key : Key) → is_pending core key ≡ true → list_any (same_key key) (waiting_keys core) ≡ true
+pending-waits core key is = by-day (is_day_served core key) refl is
+  where
+    by-day : (day : Bool) → is_day_served core key ≡ day → (day || is_some (waiting_with key core.waits)) ≡ true → list_any (same_key key) (waiting_keys core) ≡ true
+    by-day true serves e = day-waits core key serves
+    by-day false serves e = waiting-waits core key e
 
 -- what alone is said is true
 pub single-true : (records : List Record) (waiting : List Key) (occasion : Occasion) (one said : Said) → IsSaidTrue records waiting occasion one → In said (one ∷ []) → IsSaidTrue records waiting occasion said

@@ -7,6 +7,7 @@ pub mod Example
 pub mod Headline
 pub mod Past
 pub mod PastLaws
+pub mod QueuedExample
 pub mod RecoveryExample
 pub mod RecoveryLaws
 pub mod RepeatLaws

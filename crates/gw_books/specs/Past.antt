@@ -26,9 +26,10 @@ use Rattle.gw_owes.specs.declared.terminal.Terminal.{Terminal}
 use Rattle.gw_owes.specs.Days.{day_served}
 use Rattle.gw_owes.specs.Core.{Wait, Core}
 use Rattle.gw_owes.specs.Handling.{meaning_at}
-use Rattle.gw_owes.specs.Items.{RoundItem, Crowded, Message, Asked, Unframed, Gone, Greet, Handle, Serve, NextWaiting, Oversized, LinkLost, Late, Overdue, Due}
+use Rattle.gw_owes.specs.Items.{RoundItem, Crowded, Message, Asked, Unframed, Gone, Greet, Handle, Serve, Queue, NextWaiting, Oversized, LinkLost, Late, Overdue, Due}
 use Rattle.gw_owes.specs.KeptReplies.{own_key}
 use Rattle.gw_owes.specs.ReadAs.{ReadAs, Request, Silent, NoMessage, NoJson}
+use Rattle.gw_owes.specs.Waits.{waiting_with, queue_of, first_waiting}
 use Rattle.gw_rules.specs.Scene.{Scene}
 use Rattle.gw_rules.specs.Stage.{is_round}
 use Rattle.gw_rules.specs.View.{View, Move, Begin, Read, Make, after, at_first}
@@ -125,27 +126,33 @@ abbrev pub occasion_decoded : ℕ → Result MessageValue PtFault → Occasion
 occasion_decoded number (Ok message) = OfMessage number message
 occasion_decoded number (Err fault) = OfNothing
 
--- what an item is about
-abbrev pub occasion_of : RoundItem → Occasion
-occasion_of (Crowded till) = OfNothing
-occasion_of (Message till bytes) = OfNothing
-occasion_of (Asked till as_read) = occasion_read as_read
-occasion_of (Unframed till) = OfNothing
-occasion_of (Gone till) = OfNothing
-occasion_of (Greet number apdu) = OfNothing
-occasion_of (Handle number apdu) = occasion_decoded number (decode_pt_message apdu)
-occasion_of (Serve number till header request) = OfRequest header request
-occasion_of (NextWaiting number) = OfNothing
-occasion_of (Oversized number) = OfNothing
-occasion_of (LinkLost number) = OfNothing
-occasion_of (Late number) = OfNothing
-occasion_of (Overdue key) = OfNothing
-occasion_of (Due number) = OfNothing
+-- what is about a request that waits, where there is one
+abbrev pub occasion_waiting : Option Wait → Occasion
+occasion_waiting None = OfNothing
+occasion_waiting (Some wait) = OfRequest wait.header wait.request
+
+-- what an item is about; that of a request that has waited is about this request
+abbrev pub occasion_of : Core → RoundItem → Occasion
+occasion_of core (Crowded till) = OfNothing
+occasion_of core (Message till bytes) = OfNothing
+occasion_of core (Asked till as_read) = occasion_read as_read
+occasion_of core (Unframed till) = OfNothing
+occasion_of core (Gone till) = OfNothing
+occasion_of core (Greet number apdu) = OfNothing
+occasion_of core (Handle number apdu) = occasion_decoded number (decode_pt_message apdu)
+occasion_of core (Serve number till header request) = OfRequest header request
+occasion_of core (Queue number till header request) = OfRequest header request
+occasion_of core (NextWaiting number) = occasion_waiting (first_waiting (queue_of number core.waits))
+occasion_of core (Oversized number) = OfNothing
+occasion_of core (LinkLost number) = OfNothing
+occasion_of core (Late number) = OfNothing
+occasion_of core (Overdue key) = occasion_waiting (waiting_with key core.waits)
+occasion_of core (Due number) = OfNothing
 
 -- what the first item is about
-abbrev pub first_occasion : List RoundItem → Occasion
-first_occasion [] = OfNothing
-first_occasion (item ∷ items) = occasion_of item
+abbrev pub first_occasion : Core → List RoundItem → Occasion
+first_occasion core [] = OfNothing
+first_occasion core (item ∷ items) = occasion_of core item
 
 -- ---- a dialogue ends
 
@@ -278,7 +285,7 @@ with_turn scene past (Crash file) = past_between_runs past
 
 -- the past after one more move, by the view before it
 abbrev pub past_after : View → Past → Move → Past
-past_after v past Begin = record past { occasion = first_occasion v.items; ends = ends_of v.scene past (first_occasion v.items) ++ past.ends }
+past_after v past Begin = record past { occasion = first_occasion v.scene.core v.items; ends = ends_of v.scene past (first_occasion v.scene.core v.items) ++ past.ends }
 past_after v past (Read as_read) = past
 past_after v past (Make turn) = record (with_turn v.scene past turn) { place = past.place + 1 }
 

@@ -1,5 +1,5 @@
 -- A request that begins: its terminal has what it needs, its Intent may be kept next, and what is wanted is what its row says.
-use Rattle.std.proofs.Common.{◌≡◌, ◌<◌, ◌≤◌, ◌+◌, append-nil, ℕ, zero, suc, Bool, true, false, ◌&&◌, List, [], ◌∷◌, ◌++◌, append_assoc, length, is_some, not, refl, sym, ◌∙◌, ap, subst, arith}
+use Rattle.std.proofs.Common.{◌≡◌, ◌<◌, ◌≤◌, ◌+◌, ◌*◌, append-nil, ℕ, zero, suc, Bool, true, false, ◌&&◌, ◌||◌, List, [], ◌∷◌, ◌++◌, append_assoc, length, is_some, not, refl, sym, ◌∙◌, ap, subst, arith}
 use Rattle.std.specs.Prelude.{All, IfSome, IsTrue, slice_get, pos, Option, Some, None, option_map, option_and_then, if◌then◌else◌}
 use Rattle.std.proofs.lemmas.Bool.{le-ltb, ltb-false}
 use Rattle.std.proofs.lemmas.List.Elements.{All-nil, All-cons}
@@ -47,15 +47,16 @@ use Rattle.gw_owes.specs.Payments.{Asking, asking_of, beginning_row, begins_aski
 use Rattle.gw_owes.specs.ReadAs.{Request}
 use Rattle.gw_owes.specs.RecordLaws.{AreTerminalsInOrder, EachRowKeepsInOrder, IsInOrder, IsReadFromTill, IsTerminalInOrder, poi_asked}
 use Rattle.gw_owes.specs.Reconciliations.{begins_period, reconciliation_row, settled_of}
-use Rattle.gw_owes.specs.Requests.{begun_by}
+use Rattle.gw_owes.specs.Requests.{abort_items, begun_by}
 use Rattle.gw_owes.specs.Reversals.{is_irreversible, is_whole_of, may_be_reversed, original_of, reversal_intent}
 use Rattle.gw_owes.specs.Row.{Known, Row, owing_where}
 use Rattle.gw_owes.specs.SessionRows.{session_items, session_result}
 use Rattle.gw_owes.specs.Sessions.{is_session}
 use Rattle.gw_owes.specs.Steps.{StepResult, Begins, Fails, is_out_of_service, is_ready_standing, lacks_room, service_items, is_beginning, step_result}
-use Rattle.gw_owes.specs.Stops.{serves_key, stop_items, stops_key, wishes_stop}
+use Rattle.gw_owes.specs.Stops.{serves_key, stops_key, wishes_stop}
 use Rattle.gw_owes.specs.TerminalLaws.{owes_cut}
 use Rattle.gw_owes.specs.Terminals.{of_terminal, with_terminal}
+use Rattle.gw_owes.specs.Waits.{slots_reserved, waiting_for, waiting_with}
 use Rattle.gw_owes.specs.declared.terminal.LoggedOut.{LoggedOut}
 use Rattle.gw_owes.specs.declared.terminal.Standing.{Standing}
 use Rattle.gw_owes.specs.declared.terminal.Standing.TheVariants.{Unlinked, Registering, Enquiring, Ready, Serving, Aside}
@@ -67,7 +68,7 @@ use Rattle.gw_core.specs.IsRow.{IsRow, MayBeKept, known_with}
 use Rattle.gw_core.specs.ReplyOf.{BeginsAt, IsKnownAt}
 use Rattle.gw_core.specs.declared.act.Acts.{Acts}
 use Rattle.gw_core.specs.declared.gateway.Gateway.{Gateway}
-use Rattle.gw_core.proofs.BegunLemmas.{ServesNamed, StopsNamed, serves-named, stops-named}
+use Rattle.gw_core.proofs.BegunLemmas.{ServesNamed, StopsNamed, serves-named, stop-of-abort, stops-named}
 use Rattle.gw_core.proofs.CoreLemmas.{zero-least}
 use Rattle.gw_core.proofs.NamedLemmas.{named-poi, named-there, there-within}
 
@@ -128,11 +129,11 @@ ready-last (Aside before reported) is = absurd cc
 -- ---- the original of a reversal
 
 -- there is an entry
-record IsThere (found : Option TheEntry) : Type 0 where
-  entry : TheEntry
-  is : found ≡ Some entry
+pub record IsThere (found : Option TheEntry) : Type 0 where
+  pub entry : TheEntry
+  pub is : found ≡ Some entry
 
-some-there : (found : Option TheEntry) → not (is_some found) ≡ false → IsThere found
+pub some-there : (found : Option TheEntry) → not (is_some found) ≡ false → IsThere found
 some-there None none = absurd cc
 some-there (Some entry) none = record { entry = entry; is = refl }
 
@@ -159,7 +160,7 @@ named-within records poi text entry names within folded named = λ outcome resul
     subst (λ (o : Option TheOutcome). IfSome o IsOutcome) result of_entry.result
 
 -- one that may be reversed is approved
-reversible-approved : (kept : List Record) (reversal : ReversalAsk) (entry : TheEntry) → is_irreversible kept reversal (Some entry) ≡ false → IsApproval entry.result
+pub reversible-approved : (kept : List Record) (reversal : ReversalAsk) (entry : TheEntry) → is_irreversible kept reversal (Some entry) ≡ false → IsApproval entry.result
 reversible-approved kept reversal entry reversible =
     let may = not-false (may_be_reversed kept reversal entry) reversible in
     whole-approved reversal.amount entry.result
@@ -206,6 +207,22 @@ same-day-key : (own : Option Key) (number other : ℕ) (terminal : Terminal)
 same-day-key None number other terminal = refl
 same-day-key (Some key) number other terminal = refl
 
+-- no more is reserved where one terminal is alone
+fewer-reserved : (slots kept unresolved days one waits : ℕ) → one ≤ days → kept + (unresolved + ((days + 2 * waits) + 2)) ≤ slots → kept + (unresolved + ((one + 2 * 0) + 2)) ≤ slots
+fewer-reserved slots kept unresolved days one waits fewer room = omega (arith, fewer, room)
+
+least-room : (slots kept unresolved reserved : ℕ) → kept + (unresolved + (reserved + 2)) ≤ slots → kept + (unresolved + 2) ≤ slots
+least-room slots kept unresolved reserved room = omega (arith, room)
+
+first-fails : (a b : Bool) → (a || b) ≡ false → a ≡ false
+first-fails true b is = absurd cc
+first-fails false b is = refl
+
+-- where none waits none waits under a key
+none-of-none : (own : Option Key) → option_and_then (λ (key : Key). waiting_with key []) own ≡ None
+none-of-none None = refl
+none-of-none (Some key) = refl
+
 -- the steps of a payment or a reversal that begins let it begin where the terminal is alone
 module _ (setup : Setup) (kept : List Record) (core : CoreValue) (moment number : ℕ) (header : Header) (terminal : Terminal) (found : slice_get core.terminals number ≡ Some terminal) where
   abbrev alone : Known
@@ -217,30 +234,34 @@ module _ (setup : Setup) (kept : List Record) (core : CoreValue) (moment number 
   abbrev first : Option NamedTerminal
   first = Some (record { number = 0; terminal = terminal })
 
-  room-alone : (request : SaleRequest) → PassesSteps (known_with setup kept core moment) header request named → lacks_room setup.slots kept (terminal ∷ []) ≡ false
+  room-alone : (request : SaleRequest) → PassesSteps (known_with setup kept core moment) header request named → lacks_room setup.slots kept alone.core ≡ false
   room-alone request passes =
-      let room = ltb-false setup.slots (length kept + (open_count_of kept + (days_served core.terminals + 2))) passes.room in
+      let room = ltb-false setup.slots (length kept + (open_count_of kept + (slots_reserved core + 2))) passes.room in
       let fewer = one-of-days core.terminals number terminal found in
-      le-ltb setup.slots (length kept + (open_count_of kept + (days_served (terminal ∷ []) + 2))) (omega (arith, room, fewer))
+      le-ltb setup.slots (length kept + (open_count_of kept + (slots_reserved alone.core + 2)))
+      (fewer-reserved setup.slots (length kept) (open_count_of kept) (days_served core.terminals) (days_served (terminal ∷ [])) (length core.waits) fewer room)
 
-  no-day-alone : (request : SaleRequest) → PassesSteps (known_with setup kept core moment) header request named → is_day_key header first ≡ false
-  no-day-alone request passes = same-day-key (own_key header) 0 number terminal ∙ passes.no_day
+  day-alone : (request : SaleRequest) → PassesSteps (known_with setup kept core moment) header request named → is_day_key header first ≡ false
+  day-alone request passes = same-day-key (own_key header) 0 number terminal ∙ first-fails (is_day_key header named) (is_some (waiting_for core header)) passes.not_pending
+
+  none-alone : waiting_for alone.core header ≡ None
+  none-alone = none-of-none (own_key header)
 
   payment-alone : (payment : PaymentAsk) (last : ℕ) → terminal.standing ≡ Ready last → PassesSteps (known_with setup kept core moment) header (requests.Payment payment) named
       → step_result alone header (requests.Payment payment) first ≡ Begins
   payment-alone payment last ready passes =
-      rw (passes.unknown, no-day-alone (requests.Payment payment) passes, passes.logged_in, passes.served, passes.currency, passes.number_left, room-alone (requests.Payment payment) passes, ready) refl
+      rw (passes.unknown, day-alone (requests.Payment payment) passes, none-alone, passes.logged_in, passes.served, passes.currency, passes.number_left, room-alone (requests.Payment payment) passes, ready) refl
 
   reversal-alone : (reversal : ReversalAsk) (last : ℕ) → terminal.standing ≡ Ready last → PassesSteps (known_with setup kept core moment) header (requests.Reversal reversal) named
       → step_result alone header (requests.Reversal reversal) first ≡ Begins
   reversal-alone reversal last ready passes =
-      rw (passes.unknown, no-day-alone (requests.Reversal reversal) passes, passes.logged_in, passes.original, passes.reversible, passes.number_left, room-alone (requests.Reversal reversal) passes, ready) refl
+      rw (passes.unknown, day-alone (requests.Reversal reversal) passes, none-alone, passes.logged_in, passes.original, passes.reversible, passes.number_left, room-alone (requests.Reversal reversal) passes, ready) refl
 
   -- room is left for both of its records
   room-left : (request : SaleRequest) → PassesSteps (known_with setup kept core moment) header request named → length kept + (open_count_of kept + 2) ≤ setup.slots
   room-left request passes =
-      let room = ltb-false setup.slots (length kept + (open_count_of kept + (days_served core.terminals + 2))) passes.room in
-      omega (arith, room)
+      let room = ltb-false setup.slots (length kept + (open_count_of kept + (slots_reserved core + 2))) passes.room in
+      least-room setup.slots (length kept) (open_count_of kept) (slots_reserved core) room
 
 module _ (kept : List Record) (pairs : List LoggedOut) (terminal : Terminal) (slots moment : ℕ) (is : IsAlone kept terminal slots moment) where
   one-setup : 2 ≤ slots → IsSetup (with_one kept pairs terminal slots moment).setup
@@ -274,7 +295,7 @@ module _ (kept : List Record) (pairs : List LoggedOut) (terminal : Terminal) (sl
       → serve_row (with_one kept pairs terminal slots moment) 0 0 header request ≡ beginning_row (with_one kept pairs terminal slots moment) 0 0 terminal last asking.intent asking.original → MayBeKept kept (Intent asking.intent)
   asking-kept header request last asking room read names row =
       let rows = is.rows in
-      let keeps = rows (with_one kept pairs terminal slots moment) (Serve 0 0 header request) (one-known room)
+      let keeps = rows (with_one kept pairs terminal slots moment) (Serve 0 0 header request) (λ number same. absurd cc) (one-known room)
       (record { read = read; names = λ pt found. ap (λ (p : Pt). p.poi) (sym (same_Some terminal.pt pt found)) ∙ names }) (ap (λ (r : Row). owes_cut r.calls) row) in
       may-be-kept kept (Intent asking.intent) (subst (λ (r : Row). AreFolded (kept ++ records_kept r.calls)) row keeps.folded)
 
@@ -391,9 +412,10 @@ display-begins known pt header outputs terminal found begun =
 
 -- what is known says that the terminal of this number serves the key that an Abort names
 key-served : (known : Known) (pt : ℕ) (header : Header) (reference : Reference) (terminal : Terminal) → slice_get known.core.terminals pt ≡ Some terminal
-    → stop_items known 0 header reference ≡ Serve pt 0 header (requests.Abort reference) ∷ [] → serves_key known.kept (key_of header reference) terminal ≡ true
-key-served known pt header reference terminal found begun =
+    → abort_items known 0 header reference (waiting_with (key_of header reference) known.core.waits) ≡ Serve pt 0 header (requests.Abort reference) ∷ [] → serves_key known.kept (key_of header reference) terminal ≡ true
+key-served known pt header reference terminal found aborts =
     let key = key_of header reference in
+    let begun = stop-of-abort known 0 pt header header reference (requests.Abort reference) (waiting_with key known.core.waits) aborts in
     let stops : StopsNamed known.kept header header reference (requests.Abort reference) pt (named_terminal known.core key.poi) =
     stops-named known 0 pt header header reference (requests.Abort reference) (named_terminal known.core key.poi) begun in
     let same : stops.terminal ≡ terminal = same_Some stops.terminal terminal (sym (named-there known.core key.poi pt stops.terminal stops.named_is) ∙ found) in
@@ -423,8 +445,9 @@ begun-there known pt header requests.Login begun = session-there known pt header
 begun-there known pt header requests.Logout begun = session-there known pt header requests.Logout begun
 begun-there known pt header (requests.Payment payment) begun = service-there known pt header (requests.Payment payment) begun
 begun-there known pt header (requests.Reversal reversal) begun = service-there known pt header (requests.Reversal reversal) begun
-begun-there known pt header (requests.Abort reference) begun =
+begun-there known pt header (requests.Abort reference) aborts =
     let key = key_of header reference in
+    let begun = stop-of-abort known 0 pt header header reference (requests.Abort reference) (waiting_with key known.core.waits) aborts in
     let stops = stops-named known 0 pt header header reference (requests.Abort reference) (named_terminal known.core key.poi) begun in
     there-within known.core.terminals pt stops.terminal (named-there known.core key.poi pt stops.terminal stops.named_is)
 begun-there known pt header (requests.Status reference) begun = absurd cc
@@ -436,11 +459,11 @@ begun-there known pt header requests.Diagnosis begun = absurd cc
 -- a gateway that remembers and keeps this
 abbrev pub known_kept : Gateway → List Record → CoreValue → ℕ → Known
 known_kept gateway kept core moment =
-    known_with (record { name = gateway.name; listen = []; journal = []; line = 0; wait = 0; slots = gateway.slots; terminals = [] }) kept core moment
+    known_with (record { name = gateway.name; listen = []; journal = []; line = gateway.line; wait = gateway.wait; slots = gateway.slots; terminals = [] }) kept core moment
 
 module _ (gateway : Gateway) (kept : List Record) (core : CoreValue) (moment pt : ℕ) (header : Header) where
   pub begins-own : (request : SaleRequest) → BeginsAt gateway kept core moment pt header request → begun_by (known_kept gateway kept core moment) 0 (Request header request) ≡ Serve pt 0 header request ∷ []
-  begins-own request at = at.begins (known_kept gateway kept core moment) (record { name_is = refl; slots_is = refl; kept_is = refl; core_is = refl; moment_is = refl }) 0
+  begins-own request at = at.begins (known_kept gateway kept core moment) (record { name_is = refl; slots_is = refl; line_is = refl; wait_is = refl; kept_is = refl; core_is = refl; moment_is = refl }) 0
 
   -- the terminal is there
   pub begins-within : (request : SaleRequest) → BeginsAt gateway kept core moment pt header request → pt < length core.terminals
@@ -511,6 +534,6 @@ module _ (gateway : Gateway) (kept : List Record) (core : CoreValue) (moment pt 
       → (known : Known) → IsKnownAt gateway kept core moment known → IsRow kept (serve_row known pt till header request) (with_terminal core pt new) acts
   begins-row request other at till terminal new acts found begun known is =
       let own : Known = known_with known.setup kept core moment in
-      let row = begun-is own till request terminal other found (at.begins own (record { name_is = is.name_is; slots_is = is.slots_is; kept_is = refl; core_is = refl; moment_is = refl }) 0) in
+      let row = begun-is own till request terminal other found (at.begins own (record { name_is = is.name_is; slots_is = is.slots_is; line_is = is.line_is; wait_is = is.wait_is; kept_is = refl; core_is = refl; moment_is = refl }) 0) in
       subst (λ (k : Known). IsRow kept (serve_row k pt till header request) (with_terminal core pt new) acts) (known-is known is)
       (subst (λ (r : Row). IsRow kept r (with_terminal core pt new) acts) (sym row) (begun known.setup))

@@ -4,10 +4,13 @@ pub mod BegunLemmas
 pub mod CoreLemmas
 pub mod DeviceLemmas
 pub mod DisplayLemmas
+pub mod FirstInQueueLemmas
 pub mod HandlingLemmas
+pub mod JoinLemmas
 pub mod KeptLemmas
 pub mod NamedLemmas
 pub mod OutputLemmas
+pub mod QueueLemmas
 pub mod ReconciliationLemmas
 pub mod ReplyLemmas
 pub mod ReportLemmas

@@ -8,7 +8,7 @@ use Rattle.sale_values.specs.declared.request.SaleRequest.{SaleRequest}
 use Rattle.sale_reply.specs.declared.reply.SaleReply.{SaleReply}
 use Rattle.sale_reply.specs.Limits.{HasUnlimitedParts, IsWithinLimits}
 use Rattle.gw_owes.specs.Core.{Core as CoreValue}
-use Rattle.gw_owes.specs.Items.{Serve}
+use Rattle.gw_owes.specs.Items.{Serve, Queue}
 use Rattle.gw_owes.specs.Reply.{ReplyValue}
 use Rattle.gw_owes.specs.Requests.{begun_by, reply_to}
 use Rattle.gw_owes.specs.Terminals.{reply_calls_to}
@@ -17,13 +17,13 @@ use Rattle.gw_owes.specs.ReadAs.{ReadAs, IsReadAs, Request, Silent, NoMessage, N
 use Rattle.gw_core.specs.declared.gateway.Gateway.{Gateway}
 use Rattle.gw_core.specs.declared.till.Given.{Given}
 use Rattle.gw_core.specs.declared.till.Given.TheVariants as given
-use Rattle.gw_core.specs.ReplyOf.{AreSameReplies, AreSendOf, BeginsAt, IsAskedRow, IsGivenFor, IsGivenToBegin, IsKnownAt, IsReplyTo, reply_given}
-use Rattle.gw_core.proofs.BegunLemmas.{same-begun}
+use Rattle.gw_core.specs.ReplyOf.{AreSameReplies, AreSendOf, BeginsAt, IsAskedRow, IsGivenFor, IsGivenToBegin, IsKnownAt, IsReplyTo, QueuesAt, reply_given}
+use Rattle.gw_core.proofs.BegunLemmas.{same-begun, same-queued}
 
 -- a gateway with this setup of its own, without terminals
 abbrev known_alone : Gateway → List Record → CoreValue → ℕ → Known
 known_alone gateway kept core moment = record {
-  setup = record { name = gateway.name; listen = []; journal = []; line = 0; wait = 0; slots = gateway.slots; terminals = [] };
+  setup = record { name = gateway.name; listen = []; journal = []; line = gateway.line; wait = gateway.wait; slots = gateway.slots; terminals = [] };
   core = core;
   kept = kept;
   moment = moment;
@@ -31,7 +31,7 @@ known_alone gateway kept core moment = record {
 
 -- such a gateway is known
 known-alone : (gateway : Gateway) (kept : List Record) (core : CoreValue) (moment : ℕ) → IsKnownAt gateway kept core moment (known_alone gateway kept core moment)
-known-alone gateway kept core moment = record { name_is = refl; slots_is = refl; kept_is = refl; core_is = refl; moment_is = refl }
+known-alone gateway kept core moment = record { name_is = refl; slots_is = refl; line_is = refl; wait_is = refl; kept_is = refl; core_is = refl; moment_is = refl }
 
 -- a reply lies within the limits where its types don't see to it
 pub all-limited : (gateway : Gateway) (kept : List Record) (core : CoreValue) (moment : ℕ) (message : List ℕ) (reply : SaleReply) → IsReplyTo gateway kept core moment message (given.Reply reply)
@@ -96,3 +96,26 @@ begins-there gateway kept core moment message (given.Begins pt header request re
     by_read Silent read each = let none : [] ≡ Serve pt 0 header request ∷ [] = each alone at_alone 0 in absurd cc
     by_read (NoMessage fault) read each = let none : [] ≡ Serve pt 0 header request ∷ [] = each alone at_alone 0 in absurd cc
     by_read (NoJson fault) read each = let none : [] ≡ Serve pt 0 header request ∷ [] = each alone at_alone 0 in absurd cc
+begins-there gateway kept core moment message (given.Queues pt header request) is = by_read is.as_read is.read (λ known at till. (is.replied known at).begun till)
+  where
+    alone : Known
+    alone = known_alone gateway kept core moment
+
+    at_alone : IsKnownAt gateway kept core moment alone
+    at_alone = known-alone gateway kept core moment
+
+    by_request : (own : Header) (own_request : SaleRequest) → IsReadAs message (Request own own_request)
+        → ((known : Known) → IsKnownAt gateway kept core moment known → (till : ℕ) → begun_by known till (Request own own_request) ≡ Queue pt till header request ∷ []) → QueuesAt gateway kept core moment pt header request
+    by_request own own_request read each =
+        let same = same-queued alone 0 pt header own own_request request (each alone at_alone 0) in
+        record {
+          read = (message, subst (λ (h : Header). IsReadAs message (Request h request)) same.header_is (subst (λ (r : SaleRequest). IsReadAs message (Request own r)) same.request_is read));
+          queues = λ known at till. subst (λ (h : Header). begun_by known till (Request h request) ≡ Queue pt till header request ∷ []) same.header_is
+              (subst (λ (r : SaleRequest). begun_by known till (Request own r) ≡ Queue pt till header request ∷ []) same.request_is (each known at till));
+        }
+
+    by_read : (as_read : ReadAs) → IsReadAs message as_read → ((known : Known) → IsKnownAt gateway kept core moment known → (till : ℕ) → begun_by known till as_read ≡ Queue pt till header request ∷ []) → QueuesAt gateway kept core moment pt header request
+    by_read (Request own own_request) read each = by_request own own_request read each
+    by_read Silent read each = let none : [] ≡ Queue pt 0 header request ∷ [] = each alone at_alone 0 in absurd cc
+    by_read (NoMessage fault) read each = let none : [] ≡ Queue pt 0 header request ∷ [] = each alone at_alone 0 in absurd cc
+    by_read (NoJson fault) read each = let none : [] ≡ Queue pt 0 header request ∷ [] = each alone at_alone 0 in absurd cc

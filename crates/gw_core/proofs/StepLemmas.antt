@@ -1,8 +1,8 @@
 -- The steps of a request whose key is on record, and of one whose key is new.
 use Rattle.std.proofs.Common.{◌≡◌, ℕ, Bool, ◌&&◌, [], refl, sym, ◌∙◌, ap, subst}
-use Rattle.std.specs.Prelude.{Option, Some, None, option_map, true, false, if◌then◌else◌, Ok}
+use Rattle.std.specs.Prelude.{Option, Some, None, option_map, true, false, if◌then◌else◌}
 use Rattle.gw_base.specs.declared.condition.Condition.{Condition}
-use Rattle.gw_base.specs.declared.condition.Condition.TheVariants.{InProgress, NotAllowed, UnavailableDevice}
+use Rattle.gw_base.specs.declared.condition.Condition.TheVariants.{InProgress, NotAllowed}
 use Rattle.gw_base.specs.declared.key.Key.{Key}
 use Rattle.gw_ledger.specs.declared.entry.Found.{Found}
 use Rattle.sale_values.specs.declared.header.Header.{Header}
@@ -15,18 +15,19 @@ use Rattle.sale_reply.specs.declared.reply.SaleReply.{SaleReply}
 use Rattle.sale_reply.specs.declared.reply.Told.{Told as ResultBody}
 use Rattle.xlate.specs.Reply.{header_of, result_body_of}
 use Rattle.gw_owes.specs.Content.{has_same_content}
-use Rattle.gw_owes.specs.Days.{asks_day, is_key_of_day}
+use Rattle.gw_owes.specs.Days.{is_key_of_day}
 use Rattle.gw_owes.specs.Diagnosis.{NamedTerminal, named_terminal}
-use Rattle.gw_owes.specs.KeptReplies.{found_for, is_finished, kept_reply, own_key}
+use Rattle.gw_owes.specs.KeptReplies.{found_for, is_finished, kept_reply}
 use Rattle.gw_owes.specs.Replies.{failure_reply}
 use Rattle.gw_owes.specs.Reply.{Finished}
 use Rattle.gw_owes.specs.ReadAs.{Request}
 use Rattle.gw_owes.specs.Row.{Known}
-use Rattle.gw_owes.specs.Steps.{StepResult, Begins, Fails, KeptReply, is_beginning, is_unserved, items_of_result, reply_of_result, service_reply, step_result}
+use Rattle.gw_owes.specs.Steps.{StepResult, Begins, Fails, KeptReply, Waits, is_beginning, is_unserved, items_of_result, reply_of_result, service_reply, step_result}
+use Rattle.gw_owes.specs.declared.terminal.Terminal.{Terminal}
 use Rattle.gw_owes.proofs.PaymentLemmas.{passes-steps}
 use Rattle.gw_core.specs.declared.till.Given.{Given}
 use Rattle.gw_core.specs.declared.till.Given.TheVariants as given
-use Rattle.gw_core.specs.ReplyOf.{ArePrepared, AreSameReplies, IsBegunOrRefused, IsGivenByService, IsGivenFor, IsSameReply, result_by}
+use Rattle.gw_core.specs.ReplyOf.{ArePrepared, AreSameReplies, IsGivenByService, IsGivenFor, IsSameReply, result_by}
 
 -- ---- a key on record
 
@@ -78,14 +79,9 @@ by-found known header request found named reply is alike =
 -- ---- a new key
 
 -- none serves the end of day of a key where no terminal is named
-unnamed-day : (own : Option Key) → is_key_of_day own None ≡ false
+pub unnamed-day : (own : Option Key) → is_key_of_day own None ≡ false
 unnamed-day None = refl
 unnamed-day (Some key) = refl
-
--- there is no device where none is named
-pub unnamed-fails : (known : Known) (header : Header) (request : SaleRequest) → result_by known header request None None ≡ Fails UnavailableDevice
-unnamed-fails known header request =
-    ap (λ (b : Bool). if b && asks_day request then Fails InProgress else (if b then Fails NotAllowed else Fails UnavailableDevice)) (unnamed-day (own_key header))
 
 -- what begins is no Display
 begun-prepared : (request : SaleRequest) → is_unserved request ≡ false → ArePrepared request None
@@ -101,14 +97,25 @@ begun-prepared (requests.Print qualifier) served = tt
 begun-prepared requests.Diagnosis served = tt
 
 -- so where a request begins whose key is new, that is given
-pub begins-given : (known : Known) (header : Header) (request : SaleRequest) (named : Option NamedTerminal) (pt : ℕ) → found_for known.kept header ≡ None
-    → IsBegunOrRefused named (result_by known header request None named) (Ok pt) → IsGivenByService known header request named (given.Begins pt header request None)
-begins-given known header request named pt none begun =
-    let result_is : step_result known header request named ≡ Begins = ap (λ (found : Option Found). result_by known header request found named) none ∙ begun.1 in
+pub begins-given : (known : Known) (header : Header) (request : SaleRequest) (named : Option NamedTerminal) (pt : ℕ) (terminal : Terminal) → found_for known.kept header ≡ None → named ≡ Some (record { number = pt; terminal = terminal })
+    → result_by known header request None (Some (record { number = pt; terminal = terminal })) ≡ Begins → IsGivenByService known header request named (given.Begins pt header request None)
+begins-given known header request named pt terminal none named_is begun =
+    let result_is : step_result known header request named ≡ Begins = ap (λ (found : Option Found). result_by known header request found named) none ∙ ap (result_by known header request None) named_is ∙ begun in
     record {
       reply = subst (λ (result : StepResult). AreSameReplies None (reply_of_result known.kept header result)) (sym result_is) tt;
-      begun = λ till. ap (items_of_result till header request named) result_is ∙ ap (λ (n : Option NamedTerminal). items_of_result till header request n Begins) begun.0.1;
+      begun = λ till. ap (items_of_result till header request named) result_is ∙ ap (λ (n : Option NamedTerminal). items_of_result till header request n Begins) named_is;
       prepared = begun-prepared request (passes-steps known header request named (ap is_beginning result_is)).served;
+    }
+
+-- where it waits, that is
+pub waits-given : (known : Known) (header : Header) (request : SaleRequest) (named : Option NamedTerminal) (pt : ℕ) (terminal : Terminal) → found_for known.kept header ≡ None → named ≡ Some (record { number = pt; terminal = terminal })
+    → result_by known header request None (Some (record { number = pt; terminal = terminal })) ≡ Waits → IsGivenByService known header request named (given.Queues pt header request)
+waits-given known header request named pt terminal none named_is waits =
+    let result_is : step_result known header request named ≡ Waits = ap (λ (found : Option Found). result_by known header request found named) none ∙ ap (result_by known header request None) named_is ∙ waits in
+    record {
+      reply = subst (λ (result : StepResult). AreSameReplies None (reply_of_result known.kept header result)) (sym result_is) tt;
+      begun = λ till. ap (items_of_result till header request named) result_is ∙ ap (λ (n : Option NamedTerminal). items_of_result till header request n Waits) named_is;
+      prepared = tt;
     }
 
 -- and where it is refused, its refusal

@@ -12,14 +12,16 @@ use Rattle.sale_values.specs.declared.header.Header.{Header}
 use Rattle.sale_values.specs.declared.request.Reference.{Reference}
 use Rattle.sale_values.specs.declared.request.SaleRequest.TheVariants as requests
 use Rattle.xlate.specs.Reply.{result_body_of}
-use Rattle.gw_owes.specs.Core.{Core as CoreValue}
-use Rattle.gw_owes.specs.Days.{named_serves_day, serves_day}
+use Rattle.std.proofs.lemmas.Option.{same_Some}
+use Rattle.gw_owes.specs.Core.{Core as CoreValue, Wait}
+use Rattle.gw_owes.specs.Days.{is_day_served, named_serves_day, serves_day}
 use Rattle.gw_owes.specs.Diagnosis.{NamedTerminal, named_terminal}
-use Rattle.gw_owes.specs.Items.{Serve}
+use Rattle.gw_owes.specs.Items.{Serve, Queue}
 use Rattle.gw_owes.specs.KeptReplies.{is_open_found}
 use Rattle.gw_owes.specs.declared.terminal.Standing.{Standing}
 use Rattle.gw_owes.specs.ReadAs.{Request}
-use Rattle.gw_owes.specs.Requests.{abort_reply}
+use Rattle.gw_owes.specs.Requests.{abort_items, abort_reply}
+use Rattle.gw_owes.specs.Waits.{waiting_with}
 use Rattle.gw_core.specs.ReplyOf.{AreSameReplies, IsGivenFor, IsServedBy}
 use Rattle.gw_core.specs.declared.till.Given.TheVariants as given
 use Rattle.zvt_talk.specs.Talk.{TalkFacts}
@@ -96,21 +98,64 @@ no-day-served kept key None served = refl
 no-day-served kept key (Some named) served = no-day (serves_any named.terminal.standing (found_of kept key)) (serves_day key named.terminal.standing) served
 
 -- so that the reply to an Abort of it is that of an open key or of another
-pub open-alone : (is_open is_day : Bool) → is_day ≡ false → (is_open || is_day) ≡ is_open
+pub open-alone : (is_open is_day : Bool) → is_day ≡ false → (is_open || (is_day || false)) ≡ is_open
 open-alone true is_day none = refl
-open-alone false is_day none = none
+open-alone false is_day none = ap (λ (b : Bool). b || false) none
 
--- so an Abort of a key that a terminal serves is given to that
+-- where nothing waits under the key as the code has it, nothing does as it is known
+pub none-known : (known : Known) (core : CoreValue) (header : Header) (reference : Reference) (key : Key) → known.core ≡ core → key ≡ key_of header reference → waiting_with key core.waits ≡ None → waiting_with (key_of header reference) known.core.waits ≡ None
+none-known known core header reference key core_is key_is none =
+    subst (λ (k : Key). waiting_with k known.core.waits ≡ None) key_is (subst (λ (c : CoreValue). waiting_with key c.waits ≡ None) (sym core_is) none)
+
+-- there is nothing where nothing of it is
+pub none-mapped : (waiting : Option Wait) → None ≡ option_map (λ (wait : Wait). wait.pt) waiting → waiting ≡ None
+none-mapped None is = refl
+none-mapped (Some wait) is = absurd cc
+
+-- so an Abort of a key that a terminal serves is given to that, where the key doesn't wait
 pub given-stop : (known : Known) (kept : List Record) (core : CoreValue) (header : Header) (reference : Reference) (key : Key) (pt : ℕ) → known.kept ≡ kept → known.core ≡ core → key ≡ key_of header reference
-    → IsServedBy kept key (named_terminal core key.poi) (Some pt) → IsGivenFor known (Request header (requests.Abort reference)) (given.Begins pt header (requests.Abort reference) None)
-given-stop known kept core header reference key pt kept_is core_is key_is served =
+    → waiting_with key core.waits ≡ None → IsServedBy kept key (named_terminal core key.poi) (Some pt) → IsGivenFor known (Request header (requests.Abort reference)) (given.Begins pt header (requests.Abort reference) None)
+given-stop known kept core header reference key pt kept_is core_is key_is none served =
     let own : IsServedBy known.kept (key_of header reference) (named_terminal known.core (key_of header reference).poi) (Some pt) =
     served-of known kept core header reference key (Some pt) kept_is core_is key_is served in
     record {
-      reply = subst (λ (test : Bool). AreSameReplies None (abort_reply test known header)) (sym (served-open known.kept (key_of header reference) (named_terminal known.core (key_of header reference).poi) pt own)) tt;
-      begun = λ till. stop-begun known till header reference (named_terminal known.core (key_of header reference).poi) pt own;
+      reply = subst (λ (test : Bool). AreSameReplies None (abort_reply test known header))
+          (sym (still-true (is_open_found (found_of known.kept (key_of header reference))) (named_serves_day (key_of header reference) (named_terminal known.core (key_of header reference).poi)) (is_some (waiting_with (key_of header reference) known.core.waits))
+          (served-open known.kept (key_of header reference) (named_terminal known.core (key_of header reference).poi) pt own))) tt;
+      begun = λ till. ap (abort_items known till header reference) (none-known known core header reference key core_is key_is none) ∙ stop-begun known till header reference (named_terminal known.core (key_of header reference).poi) pt own;
       prepared = tt;
     }
+  where
+    still-true : (a b c : Bool) → (a || b) ≡ true → (a || (b || c)) ≡ true
+    still-true true b c is = refl
+    still-true false true c is = refl
+    still-true false false c is = absurd cc
+
+-- one of a key that waits is given to those that wait
+pub given-queue : (known : Known) (core : CoreValue) (header : Header) (reference : Reference) (key : Key) (pt : ℕ) → known.core ≡ core → key ≡ key_of header reference
+    → Some pt ≡ option_map (λ (wait : Wait). wait.pt) (waiting_with key core.waits) → IsGivenFor known (Request header (requests.Abort reference)) (given.Queues pt header (requests.Abort reference))
+given-queue known core header reference key pt core_is key_is there =
+    let own : Some pt ≡ option_map (λ (wait : Wait). wait.pt) (waiting_with (key_of header reference) known.core.waits) =
+    subst (λ (k : Key). Some pt ≡ option_map (λ (wait : Wait). wait.pt) (waiting_with k known.core.waits)) key_is
+    (subst (λ (c : CoreValue). Some pt ≡ option_map (λ (wait : Wait). wait.pt) (waiting_with key c.waits)) (sym core_is) there) in
+    by-wait (waiting_with (key_of header reference) known.core.waits) refl own
+  where
+    last-true : (a b : Bool) → (a || (b || true)) ≡ true
+    last-true true b = refl
+    last-true false true = refl
+    last-true false false = refl
+
+    by-wait : (waiting : Option Wait) → waiting_with (key_of header reference) known.core.waits ≡ waiting → Some pt ≡ option_map (λ (wait : Wait). wait.pt) waiting
+        → IsGivenFor known (Request header (requests.Abort reference)) (given.Queues pt header (requests.Abort reference))
+    by-wait None is own = absurd cc
+    by-wait (Some wait) is own =
+        let pt_is : pt ≡ wait.pt = same_Some pt wait.pt own in
+        record {
+          reply = subst (λ (waiting : Option Wait). AreSameReplies None (abort_reply (is_open_found (found_of known.kept (key_of header reference)) || (is_day_served known.core (key_of header reference) || is_some waiting)) known header)) (sym is)
+              (subst (λ (test : Bool). AreSameReplies None (abort_reply test known header)) (sym (last-true (is_open_found (found_of known.kept (key_of header reference))) (is_day_served known.core (key_of header reference)))) tt);
+          begun = λ till. ap (abort_items known till header reference) is ∙ ap (λ (n : ℕ). Queue n till header (requests.Abort reference) ∷ []) (sym pt_is);
+          prepared = tt;
+        }
 
 -- ---- the wish
 

@@ -1,5 +1,5 @@
 -- What a terminal needs for what begins there, and the row of it at this terminal.
-use Rattle.std.specs.Prelude.{◌≡◌, ℕ, Bool, true, false, is_some, List, Option, Some, None}
+use Rattle.std.specs.Prelude.{◌≡◌, ℕ, Bool, true, false, is_some, List, [], ◌∷◌, Option, Some, None}
 use Rattle.jrn_record.specs.declared.records.Record.{Record}
 use Rattle.jrn_record.specs.declared.records.Record.TheVariants.{Intent, Settled}
 use Rattle.jrn_record.specs.declared.records.How.{How}
@@ -12,7 +12,10 @@ use Rattle.sale_values.specs.declared.request.PaymentAsk.{PaymentAsk}
 use Rattle.sale_values.specs.declared.request.ReversalAsk.{ReversalAsk}
 use Rattle.sale_values.specs.declared.request.SaleRequest.{SaleRequest}
 use Rattle.sale_values.specs.declared.request.SaleRequest.TheVariants.{Login, Logout, Payment, Reversal, Abort, Status, Reconciliation, Display, Print, Diagnosis}
+use Rattle.gw_base.specs.declared.condition.Condition.{Condition}
 use Rattle.gw_base.specs.declared.key.Key.{Key}
+use Rattle.gw_base.specs.declared.setup.Setup.{Setup}
+use Rattle.sale_values.specs.Key.{key_of}
 use Rattle.gw_ledger.specs.Fold.{found_of}
 use Rattle.gw_ledger.specs.declared.entry.Entry.{Entry}
 use Rattle.sale_reply.specs.Limits.{IsHeaderWithinLimits}
@@ -30,10 +33,14 @@ use Rattle.gw_owes.specs.KeptReplies.{own_key}
 use Rattle.gw_owes.specs.Payments.{begins_in, payment_intent}
 use Rattle.gw_owes.specs.Reconciliations.{begins_period, settled_of}
 use Rattle.gw_owes.specs.Reversals.{original_of, reversal_intent}
-use Rattle.gw_owes.specs.Row.{Known, Row, owing_nothing}
-use Rattle.gw_owes.specs.Steps.{is_ready_standing}
+use Rattle.gw_owes.specs.Core.{Core as CoreValue, Wait}
+use Rattle.gw_owes.specs.Items.{NextWaiting}
+use Rattle.gw_owes.specs.Row.{Known, Row, owing_nothing, becoming}
+use Rattle.gw_owes.specs.Steps.{is_ready_standing, refused_again}
+use Rattle.gw_owes.specs.WaitingLaws.{may_wait}
+use Rattle.gw_owes.specs.WaitingRows.{begins_from_queue, refusal_calls}
 use Rattle.gw_owes.specs.Stops.{wishes_stop}
-use Rattle.gw_core.specs.IsRow.{MayBeKept}
+use Rattle.gw_core.specs.IsRow.{MayBeKept, known_with}
 
 -- Inner: the terminal is ready, and the Intent of this payment may be kept next
 pub record MayPay (kept : List Record) (moment : ℕ) (header : Header) (payment : PaymentAsk) (terminal : Terminal) : Type 0 where
@@ -118,3 +125,30 @@ begun_row known number till header terminal Diagnosis = owing_nothing known
 abbrev pub sends_stop : Option TalkFacts → Bool
 sends_stop None = false
 sends_stop (Some talk) = may_send_stop talk.phase
+
+-- Inner: an Abort names this key, and no other request names one
+abbrev pub key_aborted : Header → SaleRequest → Option Key
+key_aborted header Login = None
+key_aborted header Logout = None
+key_aborted header (Payment payment) = None
+key_aborted header (Reversal reversal) = None
+key_aborted header (Abort reference) = Some (key_of header reference)
+key_aborted header (Status reference) = None
+key_aborted header (Reconciliation period) = None
+key_aborted header (Display outputs) = None
+key_aborted header (Print qualifier) = None
+key_aborted header Diagnosis = None
+
+-- Inner: what a request that waits no longer leaves and owes: it is refused, and then the next one is looked at, or else it is begun
+abbrev pub first_left_row : Known → ℕ → Terminal → Wait → Option Condition → Row
+first_left_row known number terminal wait (Some condition) = record (becoming known.core (refusal_calls wait condition)) { items = NextWaiting number ∷ [] }
+first_left_row known number terminal wait None = begins_from_queue known number wait.till wait.header wait.request terminal
+
+-- Inner: by what its steps say that are asked again
+abbrev pub leaves_queue : Known → ℕ → Wait → Terminal → Row
+leaves_queue known number wait terminal = first_left_row known number terminal wait (refused_again known wait.header wait.request (Some (record { number = number; terminal = terminal })))
+
+-- Inner: where it isn't refused, it may begin at the terminal of this number, and is a payment, a reversal or an end of day
+pub record MayBeNext (kept : List Record) (moment number : ℕ) (wait : Wait) (terminal : Terminal) : Type 0 where
+  pub begins : (setup : Setup) (core : CoreValue) → refused_again (known_with setup kept core moment) wait.header wait.request (Some (record { number = number; terminal = terminal })) ≡ None → MayBegin kept moment wait.header wait.request terminal
+  pub may : may_wait wait.request

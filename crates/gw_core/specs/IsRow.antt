@@ -13,10 +13,13 @@ use Rattle.gw_owes.specs.declared.terminal.Terminal.{Terminal}
 use Rattle.gw_owes.specs.Calls.{Ask, Acknowledge, Refuse, OwedCall, SendTill, SendPt, CutPt, LinkPt, keep_calls}
 use Rattle.gw_owes.specs.Core.{Core as CoreValue}
 use Rattle.gw_owes.specs.Deadlines.{due_row, late_row}
+use Rattle.gw_owes.specs.Items.{RoundItem, NextWaiting}
 use Rattle.gw_owes.specs.Links.{LinkEvent, LinkIsMade, LinkIsLost}
+use Rattle.gw_owes.specs.RecordLaws.{IsInOrder}
 use Rattle.gw_owes.specs.Reply.{ReplyValue, PrintRequest}
 use Rattle.gw_owes.specs.Row.{Known, Row}
 use Rattle.gw_owes.specs.Terminals.{with_terminal}
+use Rattle.gw_owes.specs.WaitingLaws.{AreWaitsInOrder}
 use Rattle.gw_core.specs.declared.act.Act.{Act}
 use Rattle.gw_core.specs.declared.act.Act.TheVariants as act
 use Rattle.gw_core.specs.declared.act.Acts.{Acts}
@@ -74,6 +77,23 @@ pub record IsRow (kept : List Record) (row : Row) (core : CoreValue) (acts : Act
   pub core_is : core ≡ row.core
   pub calls_are : IsActs (length kept) acts row.calls
   pub items_are : row.items ≡ []
+
+-- after these records: what is remembered has become what the row says, its calls are wanted, and this is to be handled next
+pub record IsRowThen (kept : List Record) (row : Row) (core : CoreValue) (acts : Acts) (items : List RoundItem) : Type 0 where
+  pub core_is : core ≡ row.core
+  pub calls_are : IsActs (length kept) acts row.calls
+  pub items_are : row.items ≡ items
+
+-- the next request that waits for this terminal is to be looked at, or none is
+abbrev pub next_items : ℕ → Bool → List RoundItem
+next_items number true = NextWaiting number ∷ []
+next_items number false = []
+
+-- with some setup, what is known is in order, and so are the requests that wait
+pub record KnowsWaits (kept : List Record) (core : CoreValue) (moment : ℕ) : Type 0 where
+  pub setup : Setup
+  pub in_order : IsInOrder (known_with setup kept core moment)
+  pub waits : AreWaitsInOrder (known_with setup kept core moment)
 
 -- Inner: the terminal of this number becomes this one, and the next device request has this number
 abbrev pub with_numbered : CoreValue → ℕ → Terminal → ℕ → CoreValue

@@ -2,4 +2,5 @@
 pub mod Beginning
 pub mod DeviceActs
 pub mod IsRow
+pub mod Queues
 pub mod ReplyOf

@@ -1,7 +1,7 @@
 -- What the code gives to a till's message, beside what is owed: its reply, or a request that begins.
 use Rattle.std.specs.Prelude.{◌≡◌, ◌≤◌, ℕ, true, false, List, [], ◌∷◌, length, Option, Some, None, IfSome, Result, Ok, Err}
 use Rattle.gw_base.specs.declared.condition.Condition.{Condition}
-use Rattle.gw_base.specs.declared.condition.Condition.TheVariants.{Busy, UnavailableDevice}
+use Rattle.gw_base.specs.declared.condition.Condition.TheVariants.{UnavailableDevice}
 use Rattle.gw_base.specs.declared.key.Key.{Key}
 use Rattle.jrn_record.specs.declared.records.Record.{Record}
 use Rattle.gw_ledger.specs.declared.entry.Found.{Found}
@@ -20,16 +20,18 @@ use Rattle.gw_owes.specs.Core.{Core as CoreValue}
 use Rattle.gw_owes.specs.declared.terminal.Terminal.{Terminal}
 use Rattle.gw_owes.specs.Diagnosis.{NamedTerminal}
 use Rattle.gw_owes.specs.Displays.{display_items, display_reply_at}
-use Rattle.gw_owes.specs.Items.{RoundItem, Serve}
+use Rattle.gw_owes.specs.Items.{RoundItem, Serve, Queue}
 use Rattle.gw_owes.specs.RecordLaws.{IsReadFromTill}
 use Rattle.gw_owes.specs.Row.{Known, Row}
 use Rattle.gw_owes.specs.Rows.{asked_row}
 use Rattle.gw_owes.specs.Replies.{refused_results}
 use Rattle.gw_owes.specs.Requests.{reply_to, begun_by}
 use Rattle.gw_owes.specs.SessionRows.{session_items, session_reply}
-use Rattle.gw_owes.specs.Steps.{StepResult, Fails, Begins, first_result, service_items, service_reply, steps}
+use Rattle.gw_owes.specs.Steps.{StepResult, Fails, Begins, Waits, first_result, result_at_queue, service_items, service_reply, steps}
 use Rattle.gw_owes.specs.Stops.{serves_key}
 use Rattle.gw_core.specs.declared.gateway.Gateway.{Gateway}
+use Rattle.gw_core.specs.declared.steps.NewRequest.{NewRequest}
+use Rattle.gw_core.specs.declared.steps.NewRequest.TheVariants as becomes
 use Rattle.gw_core.specs.declared.till.Given.{Given}
 use Rattle.gw_core.specs.declared.till.Given.TheVariants as given
 
@@ -50,6 +52,8 @@ AreSameReplies (Some given) (Some reply) = IsSameReply given reply
 pub record IsKnownAt (gateway : Gateway) (kept : List Record) (core : CoreValue) (moment : ℕ) (known : Known) : Type 0 where
   pub name_is : known.setup.name ≡ gateway.name
   pub slots_is : known.setup.slots ≡ gateway.slots
+  pub line_is : known.setup.line ≡ gateway.line
+  pub wait_is : known.setup.wait ≡ gateway.wait
   pub kept_is : known.kept ≡ kept
   pub core_is : known.core ≡ core
   pub moment_is : known.moment ≡ moment
@@ -61,12 +65,14 @@ abbrev pub reply_given : Given → Option SaleReply
 reply_given given.Nothing = None
 reply_given (given.Reply reply) = Some reply
 reply_given (given.Begins pt header request results) = None
+reply_given (given.Queues pt header request) = None
 
--- what a round handles next for what is given to this till: where a request begins, its terminal begins to serve it
+-- what a round handles next for what is given to this till: where a request begins, its terminal begins to serve it, and else it joins those that wait, or takes one of them out
 abbrev pub items_given : ℕ → Given → List RoundItem
 items_given till given.Nothing = []
 items_given till (given.Reply reply) = []
 items_given till (given.Begins pt header request results) = Serve pt till header request ∷ []
+items_given till (given.Queues pt header request) = Queue pt till header request ∷ []
 
 -- the results of a Display are prepared: no output is shown yet
 abbrev pub ArePrepared : SaleRequest → Option (List Shown) → Type 0
@@ -86,6 +92,7 @@ abbrev pub IsGivenPrepared : Given → Type 0
 IsGivenPrepared given.Nothing = Unit {0}
 IsGivenPrepared (given.Reply reply) = Unit {0}
 IsGivenPrepared (given.Begins pt header request results) = ArePrepared request results
+IsGivenPrepared (given.Queues pt header request) = Unit {0}
 
 -- what is given is the reply to what was read, or else what that begins
 pub record IsGivenFor (known : Known) (as_read : ReadAs) (wanted : Given) : Type 0 where
@@ -129,17 +136,30 @@ pub record BeginsAt (gateway : Gateway) (kept : List Record) (core : CoreValue) 
   pub read : IsReadFromTill (Request header request)
   pub begins : (known : Known) → IsKnownAt gateway kept core moment known → (till : ℕ) → begun_by known till (Request header request) ≡ Serve pt till header request ∷ []
 
--- where it is given that a request begins, it does, and its results are prepared
+-- a request joins those that wait for the terminal of this number, or takes one of them out: it was read from a till's bytes, and it brings just this, whatever else is in the setup of such a gateway
+pub record QueuesAt (gateway : Gateway) (kept : List Record) (core : CoreValue) (moment pt : ℕ) (header : Header) (request : SaleRequest) : Type 0 where
+  pub read : IsReadFromTill (Request header request)
+  pub queues : (known : Known) → IsKnownAt gateway kept core moment known → (till : ℕ) → begun_by known till (Request header request) ≡ Queue pt till header request ∷ []
+
+-- where it is given that a request begins, it does, and its results are prepared; where it is given that it waits or takes one out, it does
 abbrev pub IsGivenToBegin : Gateway → List Record → CoreValue → ℕ → Given → Type 0
 IsGivenToBegin gateway kept core moment given.Nothing = Unit {0}
 IsGivenToBegin gateway kept core moment (given.Reply reply) = Unit {0}
 IsGivenToBegin gateway kept core moment (given.Begins pt header request results) = BeginsAt gateway kept core moment pt header request × ArePrepared request results
+IsGivenToBegin gateway kept core moment (given.Queues pt header request) = QueuesAt gateway kept core moment pt header request
 
 -- ---- inner
 
 -- Inner: the result of the steps of a request, by what the records have under its key and the terminal that its POIID names
 abbrev pub result_by : Known → Header → SaleRequest → Option Found → Option NamedTerminal → StepResult
-result_by known header request found named = first_result (Fails Busy) (steps known header request found named)
+result_by known header request found named = first_result (result_at_queue known named) (steps known header request found named)
+
+-- Inner: a gateway with this setup of its own that keeps these records and remembers this knows what the steps ask about
+pub record IsKnownToSteps (gateway : Gateway) (kept : List Record) (core : CoreValue) (known : Known) : Type 0 where
+  pub slots_is : known.setup.slots ≡ gateway.slots
+  pub line_is : known.setup.line ≡ gateway.line
+  pub kept_is : known.kept ≡ kept
+  pub core_is : known.core ≡ core
 
 -- Inner: it is refused for this reason, or else it begins
 abbrev pub refused_or_begun : Option Condition → StepResult
@@ -150,6 +170,12 @@ refused_or_begun (Some condition) = Fails condition
 abbrev pub IsBegunOrRefused : Option NamedTerminal → StepResult → Result ℕ Condition → Type 0
 IsBegunOrRefused named result (Ok pt) = ((terminal : Terminal) × (named ≡ Some (record { number = pt; terminal = terminal }))) × (result ≡ Begins)
 IsBegunOrRefused named result (Err condition) = result ≡ Fails condition
+
+-- Inner: what becomes of a request whose key is new is this result of its steps
+abbrev pub result_of_new : NewRequest → StepResult
+result_of_new (becomes.Refused condition) = Fails condition
+result_of_new becomes.Begins = Begins
+result_of_new becomes.Waits = Waits
 
 -- Inner: the terminal of this number is the one that is named, and serves the payment, the reversal or the end of day of this key; or none that is named does
 abbrev pub IsServedBy : List Record → Key → Option NamedTerminal → Option ℕ → Type 0

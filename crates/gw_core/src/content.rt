@@ -1,10 +1,14 @@
-//! Whether a request asks for the same as what the records have under its key.
+//! Whether a request asks for the same as what the records have under its key, or as what waits under it.
 ghost use Rattle.std.specs.Prelude.{◌≡◌};
 ghost use Rattle.gw_ledger.specs.History.{same_text};
 ghost use Rattle.gw_ledger.specs.Transaction.{is_text, text_of};
+ghost use Rattle.gw_owes.specs.Waits.{amount_meant, amount_of_original, asks_the_same, pay_the_same, payment_in, reversal_in, reverse_the_same};
+ghost use Rattle.gw_owes.specs.Reversals.{original_of};
 ghost use Rattle.gw_owes.specs.Content.{has_same_content, is_normal, is_payment_found, is_period_found, is_reversal_found, is_same_amount, is_same_payment, is_same_period, is_same_reversal, names_original, original_at};
 
-use gw_base::{Text, transaction_text};
+use crate::days::asks_day;
+use crate::reversals::{amount_in, original_of};
+use gw_base::{Ident, Text, transaction_text};
 use gw_ledger::{Entry, Found, Ledger};
 use jrn_record::{Deal, How, Intent};
 use sale_msg::{PaymentAsk, Period, ReversalAsk, SaleRequest};
@@ -144,4 +148,107 @@ pub(crate) fn has_same_content(ledger: &Ledger, request: &SaleRequest, found: &F
         | SaleRequest::Print(_)
         | SaleRequest::Diagnosis => false,
     }
+}
+
+/// Whether both are payments: of the type `Normal`, and of the same amount and currency.
+fn pay_the_same(request: &SaleRequest, waiting: &SaleRequest) -> bool
+    ensures { result ≡ pay_the_same (payment_in request.now) (payment_in waiting.now) }
+{
+    match request {
+        SaleRequest::Payment(ask) => match waiting {
+            SaleRequest::Payment(waiting) => {
+                is_normal(&ask.kind)
+                    && (ask.amount == waiting.amount && ask.currency == waiting.currency)
+            }
+            SaleRequest::Login
+            | SaleRequest::Logout
+            | SaleRequest::Reversal(_)
+            | SaleRequest::Abort(_)
+            | SaleRequest::Status(_)
+            | SaleRequest::Reconciliation(_)
+            | SaleRequest::Display(_)
+            | SaleRequest::Print(_)
+            | SaleRequest::Diagnosis => false,
+        },
+        SaleRequest::Login
+        | SaleRequest::Logout
+        | SaleRequest::Reversal(_)
+        | SaleRequest::Abort(_)
+        | SaleRequest::Status(_)
+        | SaleRequest::Reconciliation(_)
+        | SaleRequest::Display(_)
+        | SaleRequest::Print(_)
+        | SaleRequest::Diagnosis => false,
+    }
+}
+
+/// The amount of an original, where there is one.
+fn amount_of_original(original: &Option<Entry>) -> u64
+    ensures { result ≡ amount_of_original original.now }
+{
+    match original {
+        None => 0,
+        Some(original) => amount_in(&original.result),
+    }
+}
+
+/// The amount that a reversal is to reverse; an absent one means its original's.
+fn amount_meant(ledger: &Ledger, poi: &Ident<40>, ask: &ReversalAsk) -> u64
+    ensures { result ≡ amount_meant ask.now.amount (amount_of_original (original_of ledger.now.records poi.now ask.now)) }
+{
+    match ask.amount {
+        None => amount_of_original(&original_of(ledger, poi, ask)),
+        Some(amount) => amount,
+    }
+}
+
+/// Whether both are reversals: of the original with the same text, and of the same amount.
+fn reverse_the_same(
+    ledger: &Ledger,
+    poi: &Ident<40>,
+    request: &SaleRequest,
+    waiting: &SaleRequest,
+) -> bool
+    ensures { result ≡ reverse_the_same ledger.now.records poi.now (reversal_in request.now) (reversal_in waiting.now) }
+{
+    match request {
+        SaleRequest::Reversal(ask) => match waiting {
+            SaleRequest::Reversal(waiting) => {
+                ask.transaction == waiting.transaction
+                    && amount_meant(ledger, poi, ask) == amount_meant(ledger, poi, waiting)
+            }
+            SaleRequest::Login
+            | SaleRequest::Logout
+            | SaleRequest::Payment(_)
+            | SaleRequest::Abort(_)
+            | SaleRequest::Status(_)
+            | SaleRequest::Reconciliation(_)
+            | SaleRequest::Display(_)
+            | SaleRequest::Print(_)
+            | SaleRequest::Diagnosis => false,
+        },
+        SaleRequest::Login
+        | SaleRequest::Logout
+        | SaleRequest::Payment(_)
+        | SaleRequest::Abort(_)
+        | SaleRequest::Status(_)
+        | SaleRequest::Reconciliation(_)
+        | SaleRequest::Display(_)
+        | SaleRequest::Print(_)
+        | SaleRequest::Diagnosis => false,
+    }
+}
+
+/// Whether a request at this POIID asks for the same as one that waits.
+pub(crate) fn asks_the_same(
+    ledger: &Ledger,
+    poi: &Ident<40>,
+    request: &SaleRequest,
+    waiting: &SaleRequest,
+) -> bool
+    ensures { result ≡ asks_the_same ledger.now.records poi.now request.now waiting.now }
+{
+    pay_the_same(request, waiting)
+        || (reverse_the_same(ledger, poi, request, waiting)
+            || (asks_day(request) && asks_day(waiting)))
 }

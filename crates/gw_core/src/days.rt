@@ -1,12 +1,12 @@
 //! Ends of day: which one a terminal serves, by its key, and how many are served.
 ghost use Rattle.std.specs.Prelude.{◌≡◌, ◌≤◌, ℕ, Some, length};
-ghost use Rattle.gw_owes.specs.Days.{asks_day, asks_day_served, day_served, days_served, has_key, is_day, is_day_again, is_day_key, is_day_period, is_day_served, serves_day};
+ghost use Rattle.gw_owes.specs.Days.{asks_day, day_served, days_served, has_key, is_day, is_day_again, is_day_key, is_day_period, is_day_served, serves_day};
 
 use crate::kept_replies::own_key;
 use crate::terminals::Core;
 use gw_base::Key;
 use gw_owes::{Service, Standing, Terminal};
-use sale_msg::{Header, Period, Reference, SaleRequest};
+use sale_msg::{Header, Period, SaleRequest};
 
 /// Whether a request with this header has this key.
 fn has_key(key: &Key, header: &Header) -> bool
@@ -58,7 +58,7 @@ fn is_day_period(period: Period) -> bool
 }
 
 /// Whether an end of day is asked for.
-fn asks_day(request: &SaleRequest) -> bool
+pub(crate) fn asks_day(request: &SaleRequest) -> bool
     ensures { result ≡ asks_day request.now }
 {
     match request {
@@ -115,22 +115,12 @@ pub(crate) fn days_served(terminals: &[Terminal]) -> usize
 
 impl Core {
     /// Whether the key is that of an end of day that is served.
-    fn is_day_served(&self, key: &Key) -> bool
+    pub(crate) fn is_day_served(&self, key: &Key) -> bool
         ensures { result ≡ is_day_served self.now key.now }
     {
         match self.named(&key.poi) {
             None => false,
             Some(pt) => serves_day(key, &self.terminal(pt).standing),
-        }
-    }
-
-    /// Whether a TransactionStatus asks about an end of day that is served, by the key that its reference names.
-    pub(crate) fn asks_day_served(&self, header: &Header, reference: &Option<Reference>) -> bool
-        ensures { result ≡ asks_day_served self.now header.now reference.now }
-    {
-        match reference {
-            None => false,
-            Some(reference) => self.is_day_served(&reference.key(header)),
         }
     }
 }

@@ -8,4 +8,8 @@ pub struct Gateway {
     pub name: Ident<40>,
     /// How many records its journal may have.
     pub slots: u32,
+    /// How many requests may wait for one terminal.
+    pub line: u8,
+    /// For how many seconds a request may wait.
+    pub wait: u32,
 }

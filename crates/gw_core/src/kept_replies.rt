@@ -138,28 +138,28 @@ fn repeated_reply(header: &Header, found: &Found) -> SaleReply<'static>
     }
 }
 
-/// Why there is nothing to repeat where nothing was found: the end of day of the key may be served.
-fn missing(day_served: bool) -> Condition
-    ensures { (header : Header) → status_reply_at header None day_served ≡ failure_reply header result }
+/// Why there is nothing to repeat where nothing was found: the key may wait, or its end of day be served.
+fn missing(is_pending: bool) -> Condition
+    ensures { (header : Header) → status_reply_at header None is_pending ≡ failure_reply header result }
 {
-    if day_served {
+    if is_pending {
         Condition::InProgress
     } else {
         Condition::NotFound
     }
 }
 
-/// The reply to a TransactionStatus, by what was found, and whether the end of day of its key is served.
+/// The reply to a TransactionStatus, by what was found, and whether its key waits or its end of day is served.
 pub(crate) fn status_reply(
     header: &Header,
     found: &Option<Found>,
-    day_served: bool,
+    is_pending: bool,
 ) -> SaleReply<'static>
     requires { IfSome found.now IsFoundWithin }
-    ensures { IsSameReply result (status_reply_at header.now found.now day_served) }
+    ensures { IsSameReply result (status_reply_at header.now found.now is_pending) }
 {
     match found {
-        None => refused(header, missing(day_served)),
+        None => refused(header, missing(is_pending)),
         Some(found) => repeated_reply(header, found),
     }
 }

@@ -12,6 +12,7 @@ mod gateway;
 mod handling;
 mod kept_replies;
 mod links;
+mod queues;
 mod reconciliations;
 mod refusal;
 mod reports;
@@ -22,6 +23,7 @@ mod steps;
 mod stops;
 mod terminals;
 mod till;
+mod waiting;
 
 pub use act::{Act, Acts, Printed};
 pub use gateway::Gateway;

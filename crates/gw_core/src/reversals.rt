@@ -96,7 +96,7 @@ pub(crate) fn names_irreversible(ledger: &Ledger, poi: &Ident<40>, request: &Sal
 }
 
 /// The amount of an Outcome; 0 where there is none.
-fn amount_in(outcome: &Option<Outcome>) -> u64
+pub(crate) fn amount_in(outcome: &Option<Outcome>) -> u64
     ensures { result ≡ amount_in outcome.now }
 {
     match outcome {

@@ -1,11 +1,12 @@
 //! The steps of a Payment, a Reversal and a Reconciliation: the first that applies replies.
-ghost use Rattle.std.specs.Prelude.{◌≡◌, ◌&&◌, ℕ, None, Option};
+ghost use Rattle.std.specs.Prelude.{◌≡◌, ◌&&◌, ℕ, None, Some, Option};
 ghost use Rattle.gw_ledger.specs.Laws.{IsFoundWithin};
 ghost use Rattle.gw_owes.specs.Diagnosis.{NamedTerminal, named_terminal};
 ghost use Rattle.gw_owes.specs.KeptReplies.{found_for};
 ghost use Rattle.gw_owes.specs.Row.{Known};
-ghost use Rattle.gw_owes.specs.Steps.{asks_other_currency, asks_settling, asks_transaction, is_last_of, is_out_of_service, is_ready_standing, is_sale_period, is_unserved, is_unserved_period, is_used_up, lacks_room, reply_of_result};
-ghost use Rattle.gw_core.specs.ReplyOf.{AreSameReplies, IsBegunOrRefused, IsGivenByService, refused_or_begun, result_by};
+ghost use Rattle.gw_owes.specs.Waits.{is_pending_again, is_pending_key};
+ghost use Rattle.gw_owes.specs.Steps.{Fails, asks_other_currency, asks_settling, asks_transaction, is_last_of, is_out_of_service, is_ready_standing, is_sale_period, is_unserved, is_unserved_period, is_used_up, lacks_room, refused_again, reply_of_result};
+ghost use Rattle.gw_core.specs.ReplyOf.{AreSameReplies, IsGivenByService, IsKnownToSteps, result_by, result_of_new};
 
 use crate::content::{has_same_content, is_normal};
 use crate::days::{is_day_again, is_day_key};
@@ -118,12 +119,12 @@ fn lacks_number(
     asks_transaction(request) && is_used_up(ledger, poi, terminal)
 }
 
-/// Whether fewer slots are free than two for the Intent and its Outcome, one for each key that is open, and one for each end of
-/// day that is served.
+/// Whether fewer slots are free than two for the Intent and its Outcome, one for each key that is open, and those that are reserved
+/// for what is served or waits.
 fn lacks_room(slots: u32, ledger: &Ledger, core: &Core) -> bool
-    ensures { result ≡ lacks_room slots ledger.now.records core.now.terminals }
+    ensures { result ≡ lacks_room slots ledger.now.records core.now }
 {
-    let owed = u64::from(ledger.open_count()) + (u64::from(core.days_served()) + 2);
+    let owed = u64::from(ledger.open_count()) + (core.slots_reserved() as u64 + 2);
     u64::from(slots) < u64::from(ledger.records()) + owed
 }
 
@@ -184,33 +185,37 @@ pub(crate) fn is_ready(standing: &Standing) -> bool
     }
 }
 
-/// Why a request is refused whose key is new, at the terminal that its POIID names; `None` where it begins.
-fn refused_at(
+/// Whether the request asks again for the end of day that the terminal serves, or for what waits.
+fn is_pending_again(
     core: &Core,
-    gateway: &Gateway,
+    ledger: &Ledger,
+    header: &Header,
+    request: &SaleRequest,
+    terminal: &Terminal,
+) -> bool
+    ensures { (known : Known) → known.core ≡ core.now → known.kept ≡ ledger.now.records → (number : ℕ)
+        → result ≡ is_pending_again known header.now request.now (Some (record { number = number; terminal = terminal.now })) }
+{
+    is_day_again(header, request, terminal) || core.repeats_waiting(ledger, header, request)
+}
+
+/// Whether the key of a request with this header is that of the end of day that the terminal serves, or waits.
+fn is_pending_key(core: &Core, header: &Header, terminal: &Terminal) -> bool
+    ensures { (number : ℕ) → result ≡ is_pending_key core.now header.now (Some (record { number = number; terminal = terminal.now })) }
+{
+    is_day_key(header, terminal) || core.is_waiting(header)
+}
+
+/// Why a request that has waited isn't begun at its terminal; `None` where it is.
+pub(crate) fn refused_again(
     ledger: &Ledger,
     header: &Header,
     request: &SaleRequest,
     terminal: &Terminal,
 ) -> Option<Condition>
-    ensures { (known : Known) → known.core ≡ core.now → known.kept ≡ ledger.now.records → known.setup.slots ≡ gateway.now.slots → (number : ℕ)
-        → result_by known header.now request.now None (Some (record { number = number; terminal = terminal.now })) ≡ refused_or_begun result }
+    ensures { (known : Known) → known.kept ≡ ledger.now.records → (number : ℕ)
+        → result ≡ refused_again known header.now request.now (Some (record { number = number; terminal = terminal.now })) }
 {
-    if is_day_again(header, request, terminal) {
-        return Some(Condition::InProgress);
-    }
-    if is_day_key(header, terminal) {
-        return Some(Condition::NotAllowed);
-    }
-    if core.is_logged_out(header) {
-        return Some(Condition::LoggedOut);
-    }
-    if is_unserved(request) {
-        return Some(Condition::UnavailableService);
-    }
-    if asks_other_currency(request, terminal) {
-        return Some(Condition::NotAllowed);
-    }
     if names_none(ledger, &header.poi, request) {
         return Some(Condition::NotFound);
     }
@@ -220,40 +225,90 @@ fn refused_at(
     if lacks_number(ledger, &header.poi, request, terminal) {
         return Some(Condition::UnavailableService);
     }
-    if lacks_room(gateway.slots, ledger, core) {
-        return Some(Condition::UnavailableService);
-    }
-    if asks_settling(request) {
-        return None;
-    }
-    if is_out_of_service(&terminal.standing) {
-        return Some(Condition::UnavailableDevice);
-    }
-    if is_ready(&terminal.standing) {
-        return None;
-    }
-    // No request waits for a terminal that serves another.
-    Some(Condition::Busy)
+    None
 }
 
-/// The terminal at which a request begins whose key is new, or why it is refused.
-fn begun_or_refused(
+/// What becomes of a request whose key is new.
+#[derive(Clone, Copy)]
+enum NewRequest {
+    Refused(Condition),
+    Begins,
+    Waits,
+}
+
+/// What becomes of a request whose key is new, at the terminal that its POIID names.
+fn at_terminal(
     core: &Core,
     gateway: &Gateway,
     ledger: &Ledger,
     header: &Header,
     request: &SaleRequest,
-) -> Result<u16, Condition>
-    ensures { (known : Known) → known.core ≡ core.now → known.kept ≡ ledger.now.records → known.setup.slots ≡ gateway.now.slots
-        → IsBegunOrRefused (named_terminal core.now header.now.poi) (result_by known header.now request.now None (named_terminal core.now header.now.poi)) result }
+    pt: u16,
+    terminal: &Terminal,
+) -> NewRequest
+    ensures { (known : Known) → IsKnownToSteps gateway.now ledger.now.records core.now known
+        → result_by known header.now request.now None (Some (record { number = pt; terminal = terminal.now })) ≡ result_of_new result }
 {
-    match core.named(&header.poi) {
-        None => Err(Condition::UnavailableDevice),
-        Some(pt) => match refused_at(core, gateway, ledger, header, request, core.terminal(pt)) {
-            None => Ok(pt),
-            Some(condition) => Err(condition),
-        },
+    let poi = &header.poi;
+    if is_pending_again(core, ledger, header, request, terminal) {
+        return NewRequest::Refused(Condition::InProgress);
     }
+    if is_pending_key(core, header, terminal) {
+        return NewRequest::Refused(Condition::NotAllowed);
+    }
+    if core.is_logged_out(header) {
+        return NewRequest::Refused(Condition::LoggedOut);
+    }
+    if is_unserved(request) {
+        return NewRequest::Refused(Condition::UnavailableService);
+    }
+    if asks_other_currency(request, terminal) {
+        return NewRequest::Refused(Condition::NotAllowed);
+    }
+    if names_none(ledger, poi, request) {
+        return NewRequest::Refused(Condition::NotFound);
+    }
+    if names_irreversible(ledger, poi, request) {
+        return NewRequest::Refused(Condition::NotAllowed);
+    }
+    if lacks_number(ledger, poi, request, terminal) {
+        return NewRequest::Refused(Condition::UnavailableService);
+    }
+    if lacks_room(gateway.slots, ledger, core) {
+        return NewRequest::Refused(Condition::UnavailableService);
+    }
+    if asks_settling(request) {
+        return NewRequest::Begins;
+    }
+    if is_out_of_service(&terminal.standing) {
+        return NewRequest::Refused(Condition::UnavailableDevice);
+    }
+    if is_ready(&terminal.standing) {
+        return NewRequest::Begins;
+    }
+    if core.is_queue_full(gateway.line, pt) {
+        return NewRequest::Refused(Condition::Busy);
+    }
+    NewRequest::Waits
+}
+
+/// Why a request is refused whose key is new, and whose POIID names no terminal.
+fn refused_unnamed(
+    core: &Core,
+    ledger: &Ledger,
+    header: &Header,
+    request: &SaleRequest,
+) -> Condition
+    ensures { (known : Known) → known.core ≡ core.now → known.kept ≡ ledger.now.records
+        → result_by known header.now request.now None None ≡ Fails result }
+{
+    if core.repeats_waiting(ledger, header, request) {
+        return Condition::InProgress;
+    }
+    if core.is_waiting(header) {
+        return Condition::NotAllowed;
+    }
+    Condition::UnavailableDevice
 }
 
 /// The reply to a request whose key is on record.
@@ -276,7 +331,7 @@ fn recorded_reply(
     }
 }
 
-/// What a Payment, a Reversal or a Reconciliation gets: its reply, or that it begins.
+/// What a Payment, a Reversal or a Reconciliation gets: its reply, or that it begins or waits.
 pub(crate) fn service(
     core: &Core,
     gateway: &Gateway,
@@ -284,20 +339,33 @@ pub(crate) fn service(
     header: Header,
     request: SaleRequest,
 ) -> Given
-    ensures { (known : Known) → known.core ≡ core.now → known.kept ≡ ledger.now.records → known.setup.slots ≡ gateway.now.slots
+    ensures { (known : Known) → IsKnownToSteps gateway.now ledger.now.records core.now known
         → IsGivenByService known header request (named_terminal core.now header.poi) result }
 {
     law_on_record();
     if let Some(found) = found_for(ledger, &header) {
         return Given::Reply(recorded_reply(ledger, &header, &request, &found));
     }
-    match begun_or_refused(core, gateway, ledger, &header, &request) {
-        Ok(pt) => Given::Begins {
+    let pt = match core.named(&header.poi) {
+        Some(pt) => pt,
+        None => {
+            let condition = refused_unnamed(core, ledger, &header, &request);
+            return Given::Reply(refused(&header, condition));
+        }
+    };
+    let terminal = core.terminal(pt);
+    match at_terminal(core, gateway, ledger, &header, &request, pt, terminal) {
+        NewRequest::Begins => Given::Begins {
             pt,
             header,
             request,
             results: None,
         },
-        Err(condition) => Given::Reply(refused(&header, condition)),
+        NewRequest::Waits => Given::Queues {
+            pt,
+            header,
+            request,
+        },
+        NewRequest::Refused(condition) => Given::Reply(refused(&header, condition)),
     }
 }

@@ -29,6 +29,7 @@ use crate::days::days_served;
 use crate::gateway::Gateway;
 use crate::handling::{ask, handle, is_linked};
 use crate::links::unlink;
+use crate::queues::Queues;
 use crate::sessions::{Sessions, is_session, success};
 use gw_base::{Ident, Pt, Setup, to_moment};
 use gw_ledger::{Ledger, law_fits};
@@ -43,20 +44,21 @@ use zvt_talk::Talk;
 /// What the gateway remembers of a run.
 #[derive(Drop)]
 pub struct Core {
-    terminals: Vec<Terminal>,
+    pub(crate) terminals: Vec<Terminal>,
+    pub(crate) queues: Queues,
     sessions: Sessions,
     /// The number of the next device request.
     device_requests: u64,
 }
 
 impl Model for Core {
-    ghost use Rattle.std.specs.Prelude.{[], ◌≤◌, length};
+    ghost use Rattle.std.specs.Prelude.{◌≤◌, length};
     ghost use Rattle.gw_owes.specs.Core.{Core as CoreValue};
     ghost use Rattle.gw_owes.specs.DeviceRequests.{greatest_device_number};
 
     ghost Value = { CoreValue };
 
-    ghost view = { λ core. record { terminals = core.terminals.items; waits = []; logged_out = core.sessions; device_requests = core.device_requests } };
+    ghost view = { λ core. record { terminals = core.terminals.items; waits = core.queues; logged_out = core.sessions; device_requests = core.device_requests } };
 
     ghost use Rattle.gw_core.specs.IsRow.{HaveSettings};
 
@@ -154,6 +156,7 @@ impl Core {
         let sessions = Sessions::new(alloc)?;
         Ok(Core {
             terminals,
+            queues: Queues::new(alloc),
             sessions,
             device_requests: 0,
         })
@@ -186,9 +189,17 @@ impl Core {
         &self.sessions
     }
 
+    /// The requests that wait.
+    pub(crate) fn queues(&self) -> &Queues
+        ensures { result.now ≡ self.now.waits }
+    {
+        &self.queues
+    }
+
     /// How many terminals serve an end of day.
     pub fn days_served(&self) -> u16
-        ensures { result ≡ days_served self.now.terminals }
+        ensures count { result ≡ days_served self.now.terminals }
+        ensures few { result ≤ 32 }
     {
         days_served(&self.terminals) as u16
     }
@@ -225,13 +236,14 @@ impl Core {
         is_linked(&self.terminals[usize::from(pt)].standing)
     }
 
-    /// A till is gone: replies to it aren't sent later.
+    /// A till is gone: its requests wait no longer, and replies to it aren't sent later.
     pub fn forget(&mut self, till: u64)
         ensures { self.new ≡ core_without self.old till }
     {
         for terminal in self.terminals.iter_mut() {
             terminal.asker = asker_but(till, terminal.asker);
         }
+        self.queues.forget(till);
     }
 
     /// The acknowledgement or refusal of a message; `None` for an Ack or a Nack, and where the terminal isn't linked.

@@ -46,6 +46,13 @@ pub enum Given {
         request: SaleRequest,
         results: Option<OutputResults>,
     },
+    /// The request joins those that wait for the terminal of this number, or is the Abort of one that waits for it; there is no reply
+    /// yet.
+    Queues {
+        pt: u16,
+        header: Header,
+        request: SaleRequest,
+    },
 }
 
 /// The reply is given, where there is one.
@@ -73,7 +80,8 @@ fn diagnosed(core: &Core, header: &Header) -> SaleReply<'static>
     }
 }
 
-/// The reply to an Abort, where no terminal serves the key that it names: one of a key that is open gets none, and another is rejected.
+/// The reply to an Abort, where no terminal serves the key that it names, and it doesn't wait: one of a key that is open gets none, and
+/// another is rejected.
 fn abort_reply(
     ledger: &Ledger,
     now: i64,
@@ -88,7 +96,7 @@ fn abort_reply(
     Some(reject(&header.sale, &header.poi, now, Detail::Abort))
 }
 
-/// What an Abort gets: where a terminal serves the key that it names, that is to stop; else its reply.
+/// What an Abort gets: where the key that it names waits, that is taken out; where a terminal serves it, that is to stop; else its reply.
 fn given_to_abort(
     core: &Core,
     ledger: &Ledger,
@@ -98,7 +106,15 @@ fn given_to_abort(
 ) -> Given
     ensures { (known : Known) → known.kept ≡ ledger.now.records → known.core ≡ core.now → known.moment ≡ moment_of now → IsGivenFor known (Request header (Abort reference)) result }
 {
-    match serving_terminal(core, ledger, &reference.key(&header)) {
+    let key = reference.key(&header);
+    if let Some(pt) = core.waiting_at(&key) {
+        return Given::Queues {
+            pt,
+            header,
+            request: SaleRequest::Abort(reference),
+        };
+    }
+    match serving_terminal(core, ledger, &key) {
         Some(pt) => Given::Begins {
             pt,
             header,
@@ -109,7 +125,7 @@ fn given_to_abort(
     }
 }
 
-/// What a request gets: its reply, or else it begins at a terminal. No request waits.
+/// What a request gets: its reply, or else it begins at a terminal or waits for it.
 fn asked(
     alloc: Global,
     core: &Core,
@@ -128,8 +144,8 @@ fn asked(
         }
         SaleRequest::Status(reference) => {
             let found = found_by_status(ledger, &header, &reference);
-            let day_served = core.asks_day_served(&header, &reference);
-            Ok(Given::Reply(status_reply(&header, &found, day_served)))
+            let is_pending = core.asks_pending(&header, &reference);
+            Ok(Given::Reply(status_reply(&header, &found, is_pending)))
         }
         SaleRequest::Abort(reference) => Ok(given_to_abort(core, ledger, now, header, reference)),
         SaleRequest::Diagnosis => Ok(Given::Reply(diagnosed(core, &header))),
@@ -215,7 +231,7 @@ fn given_to_message(
 
 impl Core {
     /// What a message of a till wants done, by what the records have: its reply, where there is one, or the request begins at a
-    /// terminal. A reply is to be sent to that till, whichever it is.
+    /// terminal or waits for it. A reply is to be sent to that till, whichever it is.
     ///
     /// The message is that of a frame, without its length.
     pub fn on_till(

@@ -13,7 +13,6 @@ use Rattle.sale_values.specs.declared.request.SaleRequest.{SaleRequest}
 use Rattle.gw_ledger.specs.Fold.{AreFolded}
 use Rattle.gw_owes.specs.Calls.{OwedCall, records_kept}
 use Rattle.gw_owes.specs.Core.{Core}
-use Rattle.gw_owes.specs.Days.{days_served}
 use Rattle.gw_owes.specs.Dialogues.{AllHaveDialogues, OthersHaveDialogues}
 use Rattle.gw_owes.specs.Items.{RoundItem, Asked, Serve}
 use Rattle.gw_owes.specs.Payments.{serve_row}
@@ -23,16 +22,19 @@ use Rattle.gw_owes.specs.Reconciliations.{reply_to_settled, settled_of}
 use Rattle.gw_owes.specs.Requests.{begun_by}
 use Rattle.gw_owes.specs.Row.{Known, Row, becoming}
 use Rattle.gw_owes.specs.TerminalLaws.{ChangesTerminalAlone, owes_cut}
+use Rattle.gw_owes.specs.WaitingLaws.{AreWaitsInOrder, EachRowKeepsWaits}
+use Rattle.gw_owes.specs.Waits.{memory_reserved}
 use Rattle.gw_owes.specs.Links.{is_linked}
 use Rattle.gw_owes.proofs.BeginLemmas.{serve-never-cuts}
 use Rattle.gw_owes.proofs.DialogueLemmas.{rows-keep}
 use Rattle.gw_owes.proofs.PaymentLemmas.{each-served}
 use Rattle.gw_owes.proofs.TerminalLemmas.{serve-alone}
+use Rattle.gw_owes.proofs.WaitingFrameLemmas.{moments-keep-waits}
 use Rattle.gw_rules.specs.Stage.{Broken}
 use Rattle.gw_rules.specs.Triple.{Triple}
 use Rattle.gw_rules.specs.View.{View}
 use Rattle.gw_rules.proofs.TripleLemmas.{triple-then}
-use Rattle.gw_core.specs.IsRow.{AreCallsWith, IsRow, MayBeKept, keeping_calls}
+use Rattle.gw_core.specs.IsRow.{AreCallsWith, IsRow, MayBeKept, keeping_calls, known_with}
 use Rattle.gw_core.specs.ReplyOf.{BeginsAt, IsKnownAt}
 use Rattle.gw_core.specs.declared.act.Acts.{Acts}
 use Rattle.gw_core.specs.declared.gateway.Gateway.{Gateway}
@@ -42,7 +44,7 @@ use Rattle.gw_dispatch.specs.Round.{known_at}
 use Rattle.gw_dispatch.specs.Wanted.{calls_wanted, owes_link}
 use Rattle.gw_dispatch.specs.declared.records.Records.{Records}
 use Rattle.gw_dispatch.specs.declared.tills.Till.{Till}
-use Rattle.gw_dispatch.proofs.HandleLemmas.{KeepsWanted, StaysWith, after-split, disk-done, disk-failed, kept-cut, kept-kept, kept-link, moment-within, rest-cut, rest-kept, slots-for}
+use Rattle.gw_dispatch.proofs.HandleLemmas.{KeepsWanted, StaysWith, WaitsWith, after-split, disk-done, disk-failed, kept-cut, kept-kept, kept-link, moment-within, rest-cut, rest-kept, slots-for}
 use Rattle.gw_dispatch.proofs.LinkLemmas.{KeepsLinks, LinksStay, becomes-keeps, owing-keeps, reply-none}
 use Rattle.gw_dispatch.proofs.PerformLemmas.{rest-link}
 use Rattle.gw_dispatch.proofs.StepLemmas.{begin-held}
@@ -71,7 +73,7 @@ module _ (gateway : Gateway) (kept : List Record) (old mid : Core) (now : ℤ) (
   row-at setup = serve_row (known_at setup old kept now) pt till header request
 
   is-known : (setup : Setup) → gateway_of setup ≡ gateway → IsKnownAt gateway kept old (moment_of now) (known_at setup old kept now)
-  is-known setup same = record { name_is = ap (λ (g : Gateway). g.name) same; slots_is = ap (λ (g : Gateway). g.slots) same; kept_is = refl; core_is = refl; moment_is = refl }
+  is-known setup same = record { name_is = ap (λ (g : Gateway). g.name) same; slots_is = ap (λ (g : Gateway). g.slots) same; line_is = ap (λ (g : Gateway). g.line) same; wait_is = ap (λ (g : Gateway). g.wait) same; kept_is = refl; core_is = refl; moment_is = refl }
 
   row-is : (setup : Setup) → gateway_of setup ≡ gateway → IsRow kept (row-at setup) mid acts
   row-is setup same = is (known_at setup old kept now) (is-known setup same)
@@ -128,7 +130,7 @@ module _ (gateway : Gateway) (kept : List Record) (old mid : Core) (now : ℤ) (
     terminals = order.terminals;
   }
 
-  module _ (begins : BeginsAt gateway kept old (moment_of now) pt header request) (rows : EachRowKeepsInOrder) (brings : EachRowBringsReadItems) (takes : EachRequestTakesOne) where
+  module _ (begins : BeginsAt gateway kept old (moment_of now) pt header request) (rows : EachRowKeepsInOrder) (brings : EachRowBringsReadItems) (takes : EachRequestTakesOne) (waiting : EachRowKeepsWaits) where
     -- the request was read, and is about the terminal: what a message that was read begins is so
     is-read : IsReadRequest order.setup pt header request
     is-read =
@@ -138,10 +140,10 @@ module _ (gateway : Gateway) (kept : List Record) (old mid : Core) (now : ℤ) (
         one 0 (Serve pt 0 header request) (omega arith)
 
     -- what is held stays in order with the record that is kept
-    pub begun-stays : StaysWith gateway kept mid pt acts (days_served old.terminals + 1)
+    pub begun-stays : StaysWith gateway kept mid pt acts (memory_reserved old + 1)
     begun-stays =
         let r = row-is order.setup order.gateway_is in
-        let k = rows (known_at order.setup old kept now) (Serve pt till header request) in-order is-read (serve-never-cuts (known_at order.setup old kept now) pt till header request) in
+        let k = rows (known_at order.setup old kept now) (Serve pt till header request) (λ number same. cc) in-order is-read (serve-never-cuts (known_at order.setup old kept now) pt till header request) in
         let same = kept-same in
         let terminals : AreTerminalsInOrder (kept ++ option_to_list acts.keep) mid =
         subst (λ l. AreTerminalsInOrder (kept ++ l) mid) same (subst (AreTerminalsInOrder (kept ++ records_kept (row-at order.setup).calls)) (sym r.core_is) k.terminals) in
@@ -150,16 +152,25 @@ module _ (gateway : Gateway) (kept : List Record) (old mid : Core) (now : ℤ) (
           room = subst (λ slots. HasRoom slots (kept ++ option_to_list acts.keep) mid) slots-same (subst (λ l. HasRoom order.setup.slots (kept ++ l) mid) same
               (subst (HasRoom order.setup.slots (kept ++ records_kept (row-at order.setup).calls)) (sym r.core_is) k.room));
           numbered = subst IsNumbered (sym r.core_is) k.numbered;
-          memory_left = subst (λ l. memory_taken l + days_served mid.terminals ≤ days_served old.terminals + 1) same
-              (subst (λ (c : Core). memory_taken (records_kept (row-at order.setup).calls) + days_served c.terminals ≤ days_served old.terminals + 1) (sym r.core_is) (takes (known_at order.setup old kept now) pt till header request));
+          memory_left = subst (λ l. memory_taken l + memory_reserved mid ≤ memory_reserved old + 1) same
+              (subst (λ (c : Core). memory_taken (records_kept (row-at order.setup).calls) + memory_reserved c ≤ memory_reserved old + 1) (sym r.core_is) (takes (known_at order.setup old kept now) pt till header request).0);
           others = λ number terminal apart found. terminals number terminal found;
           all = λ none. terminals;
         }
 
+    -- what waits stays in order with it
+    pub begun-waits : WaitsWith order.setup kept mid acts
+    begun-waits moment =
+        let r = row-is order.setup order.gateway_is in
+        let h = waiting [] (known_at order.setup old kept now) (Serve pt till header request) in-order (order.waits (moment_of now)) is-read in
+        moments-keep-waits (known_with order.setup (kept ++ option_to_list acts.keep) mid (moment_of now)) moment
+        (subst (λ l. AreWaitsInOrder (known_with order.setup (kept ++ l) mid (moment_of now))) kept-same
+        (subst (λ (c : Core). AreWaitsInOrder (known_with order.setup (kept ++ records_kept (row-at order.setup).calls) c (moment_of now))) (sym r.core_is) h))
+
     -- there is room for it
-    pub begun-room : (records : Records) (observed : Observed) → records.ledger.records ≡ kept → StandFor gateway records observed → days_served old.terminals + 1 ≤ records.ledger.spare → IfSome acts.keep (MayBeKept kept) → IfSome acts.keep (HasSlotsFor records)
+    pub begun-room : (records : Records) (observed : Observed) → records.ledger.records ≡ kept → StandFor gateway records observed → memory_reserved old + 1 ≤ records.ledger.spare → IfSome acts.keep (MayBeKept kept) → IfSome acts.keep (HasSlotsFor records)
     begun-room records observed same stand spare may =
-        slots-for gateway kept mid pt acts (days_served old.terminals + 1) records observed begun-stays (omega (arith, slots-same, order.of_setup.within.slots.1)) same stand spare may
+        slots-for gateway kept mid pt acts (memory_reserved old + 1) records observed begun-stays (omega (arith, slots-same, order.of_setup.within.slots.1)) same stand spare may
 
   -- ---- the round
 

@@ -1,6 +1,6 @@
 -- A terminal's message that was acknowledged or refused: what it has to be kept is kept, and then its call is made.
 use Rattle.std.proofs.Common.{◌≡◌, ◌≤◌, ◌+◌, ℕ, List, [], ◌∷◌, ◌++◌, length, refl, sym, ◌∙◌, ap, subst, arith, append-nil, length-append}
-use Rattle.std.specs.Prelude.{ℤ, pos, Bool, true, false, Option, Some, None, Result, Ok, Err, IfSome, option_to_list}
+use Rattle.std.specs.Prelude.{ℤ, pos, slice_get, Bool, true, false, Option, Some, None, Result, Ok, Err, IfSome, option_to_list}
 use Rattle.std.proofs.lemmas.Int.{ints}
 use Rattle.gw_base.specs.Moment.{IsMoment, last_moment, moment_of}
 use Rattle.gw_base.specs.declared.setup.Setup.{Setup}
@@ -12,6 +12,7 @@ use Rattle.zvt_msg.specs.declared.fault.PtFault.{PtFault}
 use Rattle.zvt_msg.specs.Message.{MessageValue}
 use Rattle.zvt_msg.specs.MessageDecode.{decode_pt_message}
 use Rattle.gw_ledger.specs.Fold.{AreFolded}
+use Rattle.gw_ledger.specs.Sums.{open_count_of}
 use Rattle.gw_owes.specs.Calls.{OwedCall, Ask, Acknowledge, Refuse, SendTill, SendPt, CutPt, LinkPt, records_kept}
 use Rattle.gw_owes.specs.Core.{Core}
 use Rattle.gw_owes.specs.Days.{days_served}
@@ -24,8 +25,11 @@ use Rattle.gw_owes.specs.RecordLaws.{AreOthersInOrder, AreTerminalsInOrder, Each
 use Rattle.gw_owes.specs.Reply.{PrintRequest}
 use Rattle.gw_owes.specs.Row.{Row, becoming}
 use Rattle.gw_owes.specs.TerminalLaws.{ChangesTerminalAlone, owes_cut, settings_of}
+use Rattle.gw_owes.specs.WaitingLaws.{AreWaitsInOrder, EachRowKeepsWaits}
+use Rattle.gw_owes.specs.Waits.{memory_reserved, slots_reserved}
 use Rattle.gw_owes.proofs.DialogueLemmas.{rows-keep}
 use Rattle.gw_owes.proofs.HandlingLemmas.{handle-alone}
+use Rattle.gw_owes.proofs.WaitingFrameLemmas.{moments-keep-waits}
 use Rattle.jrn_log.specs.Journal.{JournalValue, StandsFor}
 use Rattle.gw_rules.specs.Stage.{Broken}
 use Rattle.gw_rules.specs.Triple.{Triple}
@@ -37,14 +41,15 @@ use Rattle.gw_core.specs.declared.act.Act.TheVariants as act
 use Rattle.gw_core.specs.declared.act.Acts.{Acts}
 use Rattle.gw_core.specs.declared.gateway.Gateway.{Gateway}
 use Rattle.gw_dispatch.specs.Growth.{GoesOnBesideDisk}
-use Rattle.gw_dispatch.specs.RunState.{HasSlotsFor, IsOrderly, IsWell, KeepsWithLedger, StandFor, UnlessBroken}
-use Rattle.gw_dispatch.specs.MidRound.{AreHeard, HeldRound, MidRound}
+use Rattle.gw_dispatch.specs.RunState.{HasSlotsFor, IsOrderly, IsWell, KeepsWithLedger, StandFor, UnlessBroken, WaitsStay}
+use Rattle.gw_dispatch.specs.MidRound.{AreHeard, HeldRound, MidRound, is_linked_in}
 use Rattle.gw_dispatch.specs.Wanted.{calls_wanted, owes_link}
 use Rattle.gw_dispatch.specs.declared.run_state.RunState.{RunState}
 use Rattle.gw_dispatch.specs.declared.records.Records.{Records}
 use Rattle.gw_dispatch.specs.declared.tills.Till.{Till}
 use Rattle.gw_dispatch.proofs.LinkLemmas.{KeepsLinks, LinksStay, handled-keeps}
-use Rattle.gw_dispatch.proofs.PerformLemmas.{Handles, MakesCall, none-waits, rest-link, unhandled}
+use Rattle.gw_dispatch.proofs.PerformLemmas.{Handles, MakesCall, none-begins, rest-link, unhandled}
+use Rattle.gw_dispatch.proofs.RunStateLemmas.{room-left}
 use Rattle.gw_dispatch.proofs.StepLemmas.{begin-held}
 
 -- ---- an act, and its call
@@ -99,7 +104,7 @@ abbrev pub GoesBy : List Record → Core → ℕ → ℕ → MessageValue → Co
 GoesBy kept old moment pt message mid acts = (setup : Setup) → IsRow kept (handled_row (known_with setup kept old moment) pt message) mid acts
 
 -- a setup, for what no setup changes
-any_setup : Setup
+pub any_setup : Setup
 any_setup = record { name = []; listen = []; journal = []; line = 0; wait = 0; slots = 0; terminals = [] }
 
 -- what is held stays in order with the record that is kept, which takes no more than so much memory
@@ -107,15 +112,22 @@ pub record StaysWith (gateway : Gateway) (kept : List Record) (mid : Core) (pt :
   pub folded : AreFolded (kept ++ option_to_list acts.keep)
   pub room : HasRoom gateway.slots (kept ++ option_to_list acts.keep) mid
   pub numbered : IsNumbered mid
-  pub memory_left : memory_taken (option_to_list acts.keep) + days_served mid.terminals ≤ memory
+  pub memory_left : memory_taken (option_to_list acts.keep) + memory_reserved mid ≤ memory
   pub others : AreOthersInOrder pt (kept ++ option_to_list acts.keep) mid
   pub all : owes_cut (calls_wanted acts.act) ≡ false → AreTerminalsInOrder (kept ++ option_to_list acts.keep) mid
+
+-- what waits is in order with the record that is kept
+abbrev pub WaitsWith : Setup → List Record → Core → Acts → Type 0
+WaitsWith setup kept mid acts = (moment : ℕ) → AreWaitsInOrder (known_with setup (kept ++ option_to_list acts.keep) mid moment)
 
 pub moment-within : (now : ℤ) → IsMoment (pos (moment_of now))
 moment-within now = within (moment_of now) (moment_of_bound now)
   where
     within : (moment : ℕ) → moment ≤ last_moment → IsMoment (pos moment)
     within moment h = (omega (arith, ints), omega (arith, ints))
+
+room-first : (kept unresolved reserved slots : ℕ) → kept + (unresolved + reserved) ≤ slots → kept ≤ slots
+room-first kept unresolved reserved slots room = omega (arith, room)
 
 -- there is room for the record that is kept
 pub slots-for : (gateway : Gateway) (kept : List Record) (mid : Core) (pt : ℕ) (acts : Acts) (memory : ℕ) (records : Records) (observed : Observed) → StaysWith gateway kept mid pt acts memory → gateway.slots ≤ 1000000 → records.ledger.records ≡ kept → StandFor gateway records observed → memory ≤ records.ledger.spare →
@@ -126,12 +138,13 @@ slots-for gateway kept mid pt acts memory records observed s few same stand spar
     by_keep None e may = tt
     by_keep (Some the_record) e may =
         let room : HasRoom gateway.slots (kept ++ the_record ∷ []) mid = subst (λ keep. HasRoom gateway.slots (kept ++ option_to_list keep) mid) e s.room in
-        let takes : memory_taken (the_record ∷ []) + days_served mid.terminals ≤ memory = subst (λ keep. memory_taken (option_to_list keep) + days_served mid.terminals ≤ memory) e s.memory_left in
+        let takes : memory_taken (the_record ∷ []) + memory_reserved mid ≤ memory = subst (λ keep. memory_taken (option_to_list keep) + memory_reserved mid ≤ memory) e s.memory_left in
+        let few_kept : length (kept ++ the_record ∷ []) ≤ gateway.slots = room-first (length (kept ++ the_record ∷ [])) (open_count_of (kept ++ the_record ∷ [])) (slots_reserved mid) gateway.slots room in
         record {
           may = subst (λ l. MayBeKept l the_record) (sym same) may;
           few = omega (arith, stand.slots, few);
           count = stand.count;
-          slot = omega (arith, stand.slots, stand.count, ap length same, room, length-append kept (the_record ∷ []));
+          slot = omega (arith, stand.slots, stand.count, ap length same, few_kept, length-append kept (the_record ∷ []));
           spare = omega (arith, takes, spare);
         }
 
@@ -188,16 +201,16 @@ module _ (kept : List Record) (old mid : Core) (now : ℤ) (pt : ℕ) (apdu : Ap
       terminals = order.terminals;
     }
 
-    memory-left : EachMessageTakesItsMemory → memory_taken (option_to_list acts.keep) + days_served mid.terminals ≤ days_served old.terminals
+    memory-left : EachMessageTakesItsMemory → memory_taken (option_to_list acts.keep) + memory_reserved mid ≤ memory_reserved old
     memory-left takes =
         let r = row-is order.setup in
-        subst (λ l. memory_taken l + days_served mid.terminals ≤ days_served old.terminals) (kept-same order.setup)
-        (subst (λ (c : Core). memory_taken (records_kept (handle_row (known_with order.setup kept old (moment_of now)) pt apdu).calls) + days_served c.terminals ≤ days_served old.terminals) (sym r.core_is) (takes (known_with order.setup kept old (moment_of now)) pt apdu))
+        subst (λ l. memory_taken l + memory_reserved mid ≤ memory_reserved old) (kept-same order.setup)
+        (subst (λ (c : Core). memory_taken (records_kept (handle_row (known_with order.setup kept old (moment_of now)) pt apdu).calls) + memory_reserved c ≤ memory_reserved old) (sym r.core_is) (takes (known_with order.setup kept old (moment_of now)) pt apdu))
 
-    uncut-stays : EachRowKeepsInOrder → EachMessageTakesItsMemory → owes_cut (calls_wanted acts.act) ≡ false → StaysWith gateway kept mid pt acts (days_served old.terminals)
+    uncut-stays : EachRowKeepsInOrder → EachMessageTakesItsMemory → owes_cut (calls_wanted acts.act) ≡ false → StaysWith gateway kept mid pt acts (memory_reserved old)
     uncut-stays rows takes uncut =
         let r = row-is order.setup in
-        let k = rows (known_with order.setup kept old (moment_of now)) (Handle pt apdu) in-order tt (cut-same order.setup ∙ uncut) in
+        let k = rows (known_with order.setup kept old (moment_of now)) (Handle pt apdu) (λ number same. cc) in-order tt (cut-same order.setup ∙ uncut) in
         let same = kept-same order.setup in
         let terminals : AreTerminalsInOrder (kept ++ option_to_list acts.keep) mid =
         subst (λ l. AreTerminalsInOrder (kept ++ l) mid) same (subst (AreTerminalsInOrder (kept ++ records_kept (handle_row (known_with order.setup kept old (moment_of now)) pt apdu).calls)) (sym r.core_is) k.terminals) in
@@ -211,7 +224,7 @@ module _ (kept : List Record) (old mid : Core) (now : ℤ) (pt : ℕ) (apdu : Ap
           all = λ none. terminals;
         }
 
-    cut-stays : EachCutKeepsInOrder → EachMessageTakesItsMemory → owes_cut (calls_wanted acts.act) ≡ true → StaysWith gateway kept mid pt acts (days_served old.terminals)
+    cut-stays : EachCutKeepsInOrder → EachMessageTakesItsMemory → owes_cut (calls_wanted acts.act) ≡ true → StaysWith gateway kept mid pt acts (memory_reserved old)
     cut-stays cuts takes cut =
         let r = row-is order.setup in
         let k = cuts (known_with order.setup kept old (moment_of now)) (Handle pt apdu) pt refl in-order (cut-same order.setup ∙ cut) in
@@ -225,12 +238,22 @@ module _ (kept : List Record) (old mid : Core) (now : ℤ) (pt : ℕ) (apdu : Ap
           all = λ uncut. absurd (let h : true ≡ false = sym cut ∙ uncut in cc);
         }
 
-    pub handled-stays : EachRowKeepsInOrder → EachCutKeepsInOrder → EachMessageTakesItsMemory → StaysWith gateway kept mid pt acts (days_served old.terminals)
+    pub handled-stays : EachRowKeepsInOrder → EachCutKeepsInOrder → EachMessageTakesItsMemory → StaysWith gateway kept mid pt acts (memory_reserved old)
     handled-stays rows cuts takes = by_cut (owes_cut (calls_wanted acts.act)) refl
       where
-        by_cut : (cut : Bool) → owes_cut (calls_wanted acts.act) ≡ cut → StaysWith gateway kept mid pt acts (days_served old.terminals)
+        by_cut : (cut : Bool) → owes_cut (calls_wanted acts.act) ≡ cut → StaysWith gateway kept mid pt acts (memory_reserved old)
         by_cut true e = cut-stays cuts takes e
         by_cut false e = uncut-stays rows takes e
+
+    -- what waits stays in order with it
+    pub handled-waits : EachRowKeepsWaits → WaitsWith order.setup kept mid acts
+    handled-waits keeps moment =
+        let r = row-is order.setup in
+        let row : Row = handle_row (known_with order.setup kept old (moment_of now)) pt apdu in
+        let h = keeps [] (known_with order.setup kept old (moment_of now)) (Handle pt apdu) in-order (order.waits (moment_of now)) tt in
+        moments-keep-waits (known_with order.setup (kept ++ option_to_list acts.keep) mid (moment_of now)) moment
+        (subst (λ l. AreWaitsInOrder (known_with order.setup (kept ++ l) mid (moment_of now))) (kept-same order.setup)
+        (subst (λ (c : Core). AreWaitsInOrder (known_with order.setup (kept ++ records_kept row.calls) c (moment_of now))) (sym r.core_is) h))
 
     pub few-slots : gateway.slots ≤ 1000000
     few-slots = omega (arith, slots-same, order.of_setup.within.slots.1)
@@ -292,25 +315,26 @@ module _ (a b : Observed) (kept new_kept : List Record) (old mid : Core) (now : 
 abbrev pub OrdersAll : ℕ → Option Act → Core → Core → Type 0
 OrdersAll pt wanted mid new = (kept : List Record) → AreOthersInOrder pt kept mid → (owes_cut (calls_wanted wanted) ≡ false → AreTerminalsInOrder kept mid) → AreTerminalsInOrder kept new
 
-pub handled-well : (state new : RunState) (mid : Core) (pt : ℕ) (acts : Acts) (memory : ℕ) (a b c : Observed) → IsWell state a → new.gateway ≡ state.gateway → StaysWith state.gateway state.records.ledger.records mid pt acts memory → memory ≤ state.records.ledger.spare → KeepsWithLedger state.records new.records acts.keep →
-    StandsFor new.records.journal b → GoesOnBesideDisk b c → settings_of mid ≡ settings_of state.core → settings_of new.core ≡ settings_of mid → days_served new.core.terminals ≤ days_served mid.terminals → new.core.device_requests ≡ mid.device_requests → OrdersAll pt acts.act mid new.core → AllHaveDialogues new.core → IsWell new c
-handled-well state new mid pt acts memory a b c well gateway stays spare keeping stands goes first second days requests orders dialogues = subst (λ g. IsWell (record new { gateway = g }) c) (sym gateway) (record {
+pub handled-well : (state new : RunState) (mid : Core) (pt : ℕ) (acts : Acts) (memory : ℕ) (a b c : Observed) → (well : IsWell state a) → new.gateway ≡ state.gateway → StaysWith state.gateway state.records.ledger.records mid pt acts memory → memory ≤ state.records.ledger.spare → KeepsWithLedger state.records new.records acts.keep →
+    StandsFor new.records.journal b → GoesOnBesideDisk b c → settings_of mid ≡ settings_of state.core → settings_of new.core ≡ settings_of mid → days_served new.core.terminals ≤ days_served mid.terminals → new.core.device_requests ≡ mid.device_requests → OrdersAll pt acts.act mid new.core → AllHaveDialogues new.core → WaitsWith well.order.setup state.records.ledger.records mid acts → WaitsStay mid new.core → IsWell new c
+handled-well state new mid pt acts memory a b c well gateway stays spare keeping stands goes first second days requests orders dialogues with_kept waits = subst (λ g. IsWell (record new { gateway = g }) c) (sym gateway) (record {
   order = record {
     setup = well.order.setup;
     gateway_is = well.order.gateway_is;
     of_setup = record { within = well.order.of_setup.within; settings = second ∙ first ∙ well.order.of_setup.settings };
     folded = subst AreFolded (sym keeping.records) stays.folded;
-    room = let room : HasRoom state.gateway.slots new.records.ledger.records mid = subst (λ l. HasRoom state.gateway.slots l mid) (sym keeping.records) stays.room in omega (arith, room, days);
+    room = let room : HasRoom state.gateway.slots new.records.ledger.records mid = subst (λ l. HasRoom state.gateway.slots l mid) (sym keeping.records) stays.room in room-left state.gateway.slots new.records.ledger.records mid new.core room days waits;
     numbered = subst (λ n. n ≤ greatest_device_number) (sym requests) stays.numbered;
     terminals = orders new.records.ledger.records (subst (λ l. AreOthersInOrder pt l mid) (sym keeping.records) stays.others) (λ uncut. subst (λ l. AreTerminalsInOrder l mid) (sym keeping.records) (stays.all uncut));
     dialogues = dialogues;
+    waits = λ moment. waits.order well.order.setup new.records.ledger.records moment (subst (λ l. AreWaitsInOrder (known_with well.order.setup l mid moment)) (sym keeping.records) (with_kept moment));
   };
   records = record {
     count = ap (λ (j : JournalValue). j.len) keeping.journal;
     slots = ap (λ (j : JournalValue). j.slots) keeping.journal ∙ well.records.slots;
     stands = goes.stands new.records.journal stands;
   };
-  spare = omega (arith, days, stays.memory_left, spare, keeping.spare);
+  spare = omega (arith, days, waits.few, stays.memory_left, spare, keeping.spare);
 })
 
 -- ---- an APDU
@@ -320,22 +344,27 @@ abbrev pub TakesHandled : {T E : Type 0} → Observed → Observed → RunState 
 TakesHandled a b old new tills left now r pt apdu = (setup : Setup) (polls : ℕ) (heard : ℕ → List ℕ) (items : List RoundItem) →
     Triple a b (HeldRound setup old tills polls now (AreHeard heard) [] (Handle pt apdu ∷ items)) (UnlessBroken r (λ given. HeldRound setup new left polls now (AreHeard heard) [] items))
 
+-- what begins what waits for this terminal
+abbrev pub BeginsNext : {T E : Type 0} → Observed → Observed → RunState → RunState → List Till → List Till → ℤ → Result T E → ℕ → Type 0
+BeginsNext a b old new tills left now r pt = (setup : Setup) (polls : ℕ) (heard : ℕ → List ℕ) (items : List RoundItem) →
+    Triple a b (HeldRound setup old tills polls now (AreHeard heard) [] (NextWaiting pt ∷ items)) (UnlessBroken r (λ given. HeldRound setup new left polls now (AreHeard heard) [] items))
+
 -- one outside the grammar
-pub apdu-outside : (a b : Observed) (old : RunState) (core : Core) (tills left : List Till) (now : ℤ) (pt : ℕ) (apdu : ApduValue) (fault : PtFault) → decode_pt_message apdu ≡ Err fault → Handles a b old.core core tills left now (Greet pt apdu) →
+pub apdu-outside : (a b : Observed) (old : RunState) (core : Core) (tills left : List Till) (now : ℤ) (pt : ℕ) (apdu : ApduValue) (fault : PtFault) → decode_pt_message apdu ≡ Err fault → is_linked_in (slice_get core.terminals pt) ≡ false → Handles a b old.core core tills left now (Greet pt apdu) →
     (setup : Setup) (polls : ℕ) (heard : ℕ → List ℕ) (items : List RoundItem) → Triple a b (HeldRound setup old tills polls now (AreHeard heard) [] (apdu_items pt apdu ++ items)) (HeldRound setup (record old { core = core }) left polls now (AreHeard heard) [] items)
-apdu-outside a b old core tills left now pt apdu fault decoded greets = λ setup polls heard items.
+apdu-outside a b old core tills left now pt apdu fault decoded unlinked greets = λ setup polls heard items.
     triple-then a b b _ _ _ (greets setup old.records.ledger.records polls heard (Handle pt apdu ∷ NextWaiting pt ∷ items))
     (triple-then b b b _ _ _ (unhandled b core left now pt apdu fault decoded setup old.records.ledger.records polls heard (NextWaiting pt ∷ items))
-    (none-waits b core left now pt setup old.records.ledger.records polls heard items))
+    (none-begins b core left now pt unlinked setup old.records.ledger.records polls heard items))
 
--- one that is a message, and was taken
-pub apdu-taken : (a b c : Observed) (old new : RunState) (core : Core) (tills mid left : List Till) (now : ℤ) (pt : ℕ) (apdu : ApduValue) → Handles a b old.core core tills mid now (Greet pt apdu) →
+-- one that is a message, and was taken; then what waits for the terminal may begin
+pub apdu-taken : (a b c d : Observed) (old new : RunState) (core : Core) (tills mid left : List Till) (now : ℤ) (pt : ℕ) (apdu : ApduValue) → Handles a b old.core core tills mid now (Greet pt apdu) →
     ((setup : Setup) (polls : ℕ) (heard : ℕ → List ℕ) (items : List RoundItem) → Triple b c (HeldRound setup (record old { core = core }) mid polls now (AreHeard heard) [] (Handle pt apdu ∷ items)) (HeldRound setup new left polls now (AreHeard heard) [] items)) →
-    (setup : Setup) (polls : ℕ) (heard : ℕ → List ℕ) (items : List RoundItem) → Triple a c (HeldRound setup old tills polls now (AreHeard heard) [] (apdu_items pt apdu ++ items)) (HeldRound setup new left polls now (AreHeard heard) [] items)
-apdu-taken a b c old new core tills mid left now pt apdu greets handles = λ setup polls heard items.
-    triple-then a b c _ _ _ (greets setup old.records.ledger.records polls heard (Handle pt apdu ∷ NextWaiting pt ∷ items))
-    (triple-then b c c _ _ _ (handles setup polls heard (NextWaiting pt ∷ items))
-    (none-waits c new.core left now pt setup new.records.ledger.records polls heard items))
+    (setup : Setup) (polls : ℕ) (heard : ℕ → List ℕ) (items : List RoundItem) (Q : View → Type 0) → Triple c d (HeldRound setup new left polls now (AreHeard heard) [] (NextWaiting pt ∷ items)) Q →
+    Triple a d (HeldRound setup old tills polls now (AreHeard heard) [] (apdu_items pt apdu ++ items)) Q
+apdu-taken a b c d old new core tills mid left now pt apdu greets handles = λ setup polls heard items Q begins.
+    triple-then a b d _ _ _ (greets setup old.records.ledger.records polls heard (Handle pt apdu ∷ NextWaiting pt ∷ items))
+    (triple-then b c d _ _ _ (handles setup polls heard (NextWaiting pt ∷ items)) begins)
 
 -- one whose record could not be kept
 pub apdu-broken : (a b c : Observed) (old : RunState) (core : Core) (tills mid : List Till) (now : ℤ) (pt : ℕ) (apdu : ApduValue) → Handles a b old.core core tills mid now (Greet pt apdu) →

@@ -1,6 +1,8 @@
 -- The lemmas of the loop of a run: its rounds, its sends, the tills and terminals that it holds, and the requests that wait.
 pub mod ApduLemmas
 pub mod BeginLemmas
+pub mod CoverLemmas
+pub mod DueLemmas
 pub mod EngineLemmas
 pub mod FitLemmas
 pub mod GrowthLemmas
@@ -10,11 +12,14 @@ pub mod RunStateLemmas
 pub mod KeepWantedLemmas
 pub mod KeepingLemmas
 pub mod LinkLemmas
+pub mod NextWaitingLemmas
 pub mod OpenedLemmas
 pub mod OpeningLemmas
+pub mod OverdueLemmas
 pub mod PerformLemmas
 pub mod PrintLemmas
 pub mod PtsLemmas
+pub mod QueueLemmas
 pub mod ReaderLemmas
 pub mod RecordsLemmas
 pub mod RoundLemmas
@@ -23,4 +28,3 @@ pub mod SendLemmas
 pub mod ServeLemmas
 pub mod StepLemmas
 pub mod TillLemmas
-pub mod WaitLemmas

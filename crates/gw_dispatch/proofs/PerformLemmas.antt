@@ -33,9 +33,13 @@ use Rattle.gw_rules.specs.Lawful.{may_begin}
 use Rattle.gw_rules.specs.Scene.{Scene}
 use Rattle.gw_site.specs.Outside.{Connection}
 use Rattle.gw_owes.specs.RecordLaws.{AreOthersInOrder, AreTerminalsInOrder}
-use Rattle.gw_owes.specs.Row.{Known, Row, becoming, owing, owing_where}
-use Rattle.gw_owes.specs.Terminals.{of_terminal, registers, reply_calls_to, reply_to_lost, unlinks, link_lost}
+use Rattle.gw_owes.specs.Row.{Known, Row, becoming, owing, owing_nothing, owing_where}
+use Rattle.gw_owes.specs.Steps.{is_ready_standing}
+use Rattle.gw_owes.specs.Terminals.{of_terminal, terminal_at, registers, reply_calls_to, reply_to_lost, unlinks, link_lost}
 use Rattle.gw_owes.specs.TerminalLaws.{ChangesTerminalAlone, owes_cut}
+use Rattle.gw_owes.specs.WaitingLaws.{AreWaitsInOrder}
+use Rattle.gw_owes.specs.WaitingRows.{looks_at_first, next_waiting_row, of_waiting}
+use Rattle.gw_owes.specs.Waits.{first_waiting, queue_of}
 use Rattle.gw_owes.specs.declared.terminal.Standing.{Standing}
 use Rattle.gw_owes.specs.declared.terminal.Standing.TheVariants.{Unlinked, Registering, Enquiring, Ready, Serving, Aside}
 use Rattle.gw_owes.specs.declared.terminal.Terminal.{Terminal}
@@ -43,6 +47,7 @@ use Rattle.gw_owes.proofs.DialogueLemmas.{links-give}
 use Rattle.gw_owes.proofs.HandlingLemmas.{each-terminal}
 use Rattle.gw_owes.proofs.OrderLemmas.{links-in-order}
 use Rattle.gw_owes.proofs.TerminalLemmas.{link-changes-alone}
+use Rattle.gw_owes.proofs.WaitingFrameLemmas.{links-keep-waits, moments-keep-waits}
 use Rattle.gw_rules.specs.Triple.{Triple}
 use Rattle.gw_rules.proofs.TripleLemmas.{triple-refl, triple-then}
 use Rattle.gw_core.specs.declared.act.Act.{Act}
@@ -50,11 +55,13 @@ use Rattle.gw_core.specs.declared.act.Act.TheVariants as act
 use Rattle.gw_core.specs.IsRow.{AreCallsThen, AreCallsWith, IsAbout, IsActs, IsRow, IsWantedAt, IsWritable, alone, known_with, lines_printed, link_event_of}
 use Rattle.gw_dispatch.specs.RunState.{OthersStayInOrder, StaysInOrder}
 use Rattle.gw_dispatch.specs.MidRound.{AreHeard, MidRound, is_linked_in}
+use Rattle.gw_dispatch.specs.Round.{known_at}
 use Rattle.gw_dispatch.specs.Wanted.{IsOutside, act_calls, calls_wanted, is_none_or_reply, is_reply, owes_link}
 use Rattle.gw_dispatch.specs.declared.tills.Till.{Till}
 use Rattle.gw_dispatch.proofs.HeardLemmas.{heard-stays, heard-linked}
 use Rattle.gw_dispatch.proofs.StepLemmas.{BeginsMidRound, begin-held, cut-held, sent-held, unsent-held, made-held, failed-held}
 use Rattle.gw_dispatch.proofs.LinkLemmas.{KeepsLinks}
+use Rattle.gw_dispatch.proofs.RunStateLemmas.{waits-then}
 
 -- ---- what is wanted, and what is owed
 
@@ -85,7 +92,7 @@ rest-link (Some (act.SendTill till given)) rest is = ap owes_link is.2
 rest-link (Some (act.Print till header printed)) rest is = ap owes_link is
 
 -- each of these calls sends a till something
-abbrev replies_only : List OwedCall → Bool
+abbrev pub replies_only : List OwedCall → Bool
 replies_only [] = true
 replies_only (SendTill till reply ∷ calls) = replies_only calls
 replies_only (SendPt number sending ∷ calls) = false
@@ -97,7 +104,7 @@ replies_only (WriteGate slot the_record ∷ calls) = false
 replies_only (WriteFirstGate ∷ calls) = false
 replies_only (Sync ∷ calls) = false
 
-wanted-reply : (wanted : Option Act) (calls : List OwedCall) → replies_only calls ≡ true → AreCallsWith [] wanted calls → is_none_or_reply wanted ≡ true
+pub wanted-reply : (wanted : Option Act) (calls : List OwedCall) → replies_only calls ≡ true → AreCallsWith [] wanted calls → is_none_or_reply wanted ≡ true
 wanted-reply None calls only is = refl
 wanted-reply (Some (act.SendPt number command)) calls only is = absurd (let h : false ≡ true = sym (ap replies_only is) ∙ only in cc)
 wanted-reply (Some (act.Ack number)) calls only is = absurd (let h : false ≡ true = sym (ap replies_only is) ∙ only in cc)
@@ -143,6 +150,12 @@ link-orders old new moment pt event wanted is =
     record {
       settings = (link-alone old new moment pt event wanted is).settings;
       days = subst (λ (c : Core). days_served c.terminals ≤ days_served old.terminals) (sym r.core_is) (all []).days;
+      waits = record {
+        few = let same : length new.waits ≡ length old.waits = ap (λ (c : Core). length c.waits) r.core_is ∙ ap length (all []).waits in omega (arith, same);
+        order = λ setup kept moment_then order. let r = is setup kept in
+            moments-keep-waits (known_with setup kept new moment) moment_then
+            (subst (λ (c : Core). AreWaitsInOrder (known_with setup kept c moment)) (sym r.core_is) (links-keep-waits (known_with setup kept old moment) pt event (moments-keep-waits (known_with setup kept old moment_then) moment order)));
+      };
       device_requests = ap (λ (c : Core). c.device_requests) r.core_is ∙ (all []).device_requests;
       order = λ kept others. let by = is no_setup kept in subst (AreTerminalsInOrder kept) (sym by.core_is) ((all kept).terminals others);
     }
@@ -152,6 +165,7 @@ pub others-then : (pt : ℕ) (old mid new : Core) → OthersStayInOrder pt old m
 others-then pt old mid new one other = record {
   settings = other.settings ∙ one.settings;
   days = omega (arith, one.days, other.days);
+  waits = waits-then old mid new one.waits other.waits;
   device_requests = other.device_requests ∙ one.device_requests;
   order = λ kept others. other.order kept (one.order kept others);
 }
@@ -160,7 +174,7 @@ pub others-in-order : (kept : List Record) (core : Core) (pt : ℕ) → AreTermi
 others-in-order kept core pt all = λ number terminal apart found. all number terminal found
 
 pub all-in-order : (old new : Core) (pt : ℕ) → OthersStayInOrder pt old new → StaysInOrder old new
-all-in-order old new pt stays = record { settings = stays.settings; days = stays.days; device_requests = stays.device_requests; order = λ kept all. stays.order kept (others-in-order kept old pt all) }
+all-in-order old new pt stays = record { settings = stays.settings; days = stays.days; waits = stays.waits; device_requests = stays.device_requests; order = λ kept all. stays.order kept (others-in-order kept old pt all) }
 
 lost-reply-only : (asker : Option ℕ) (reply : Option ReplyValue) → replies_only (reply_calls_to asker reply) ≡ true
 lost-reply-only None reply = refl
@@ -218,7 +232,7 @@ outside-is : (known : Known) (pt : ℕ) (linked : Bool) → is_linked_in (slice_
 outside-is known pt true linked = outside-where known pt ∙ ap (λ b. owing_where b known (cutting known pt)) linked
 outside-is known pt false linked = outside-where known pt ∙ ap (λ b. owing_where b known (cutting known pt)) linked
 
-some-calls : (slot : ℕ) (one : Act) → IsActs slot (alone (Some one)) [] → ⊥
+pub some-calls : (slot : ℕ) (one : Act) → IsActs slot (alone (Some one)) [] → ⊥
 some-calls slot (act.SendPt number command) same = absurd cc
 some-calls slot (act.Ack number) same = absurd cc
 some-calls slot (act.Refuse number) same = absurd cc
@@ -405,9 +419,28 @@ pub unhandled : (s : Observed) (core : Core) (tills : List Till) (now : ℤ) (pt
 unhandled s core tills now pt apdu fault decoded = item-handled s s core core core tills tills now (Handle pt apdu) []
     (λ setup kept. record { begins = λ scene items. refl; row = λ connections. ap (handle_decoded (known_with setup kept core (moment_of now)) pt) decoded; links = λ number. refl }) (none-performed s core tills now)
 
--- no request waits
-pub none-waits : (s : Observed) (core : Core) (tills : List Till) (now : ℤ) (pt : ℕ) → Handles s s core core tills tills now (NextWaiting pt)
-none-waits s core tills now pt = item-handled s s core core core tills tills now (NextWaiting pt) [] (λ setup kept. record { begins = λ scene items. refl; row = λ connections. refl; links = λ number. refl }) (none-performed s core tills now)
+-- at a terminal that isn't linked no request is begun
+pub unlinked-next : (known : Known) (pt : ℕ) → is_linked_in (terminal_at known pt) ≡ false → next_waiting_row known pt ≡ owing_nothing known
+unlinked-next known pt unlinked = by_terminal (terminal_at known pt) unlinked
+  where
+    row : Terminal → Row
+    row terminal = of_waiting known (looks_at_first known pt terminal) (first_waiting (queue_of pt known.core.waits))
+
+    by_standing : (terminal : Terminal) (standing : Standing) → is_linked standing ≡ false → owing_where (is_ready_standing standing) known (row terminal) ≡ owing_nothing known
+    by_standing terminal (Unlinked due) none = refl
+    by_standing terminal Registering none = refl
+    by_standing terminal Enquiring none = refl
+    by_standing terminal (Ready last) none = absurd (let h : true ≡ false = none in cc)
+    by_standing terminal (Serving service last) none = refl
+    by_standing terminal (Aside before reported) none = refl
+
+    by_terminal : (found : Option Terminal) → is_linked_in found ≡ false → of_terminal known (λ terminal. owing_where (is_ready_standing terminal.standing) known (row terminal)) found ≡ owing_nothing known
+    by_terminal None none = refl
+    by_terminal (Some terminal) none = by_standing terminal terminal.standing none
+
+pub none-begins : (s : Observed) (core : Core) (tills : List Till) (now : ℤ) (pt : ℕ) → is_linked_in (slice_get core.terminals pt) ≡ false → Handles s s core core tills tills now (NextWaiting pt)
+none-begins s core tills now pt unlinked =
+    item-handled s s core core core tills tills now (NextWaiting pt) [] (λ setup kept. record { begins = λ scene items. refl; row = λ connections. unlinked-next (known_at setup core kept now) pt unlinked; links = λ number. refl }) (none-performed s core tills now)
 
 -- one outside the grammar
 pub greet-outside : (pt : ℕ) (apdu : ApduValue) (fault : PtFault) → decode_pt_message apdu ≡ Err fault → IsOutside pt (Greet pt apdu)

@@ -45,7 +45,7 @@ use Rattle.gw_dispatch.proofs.EngineLemmas.{begin-first, pass}
 use Rattle.gw_dispatch.proofs.FitLemmas.{AllWait, Fit, OthersFit, are-heard, fit-heard, heard_by, hears-at, same-bytes}
 use Rattle.gw_dispatch.proofs.HeardLemmas.{cut-there, cut-others, cut-heard, hears-there, hears-here, hears-others}
 use Rattle.gw_dispatch.proofs.LinkLemmas.{lost-is-unlinked}
-use Rattle.gw_dispatch.proofs.PerformLemmas.{IsRowOf, link-alone, link-has, others-have, row-becomes}
+use Rattle.gw_dispatch.proofs.PerformLemmas.{IsRowOf, link-alone, link-has, others-have, row-becomes, unlinked-next}
 use Rattle.gw_dispatch.proofs.SendLemmas.{sent-count, sent-dialogues}
 
 -- ---- what is remembered of a terminal
@@ -106,7 +106,7 @@ module _ (s : Observed) (known : Known) (polls : ℕ) (o : Outside) (pt : ℕ) (
   pass-apdu apdu items =
       triple-then s s s _ _ _ (pass s known polls o (Greet pt apdu) (Handle pt apdu ∷ NextWaiting pt ∷ items) (record { begins = λ scene e. refl; row = (owed-nothing apdu).greeted }))
       (triple-then s s s _ _ _ (pass s known polls o (Handle pt apdu) (NextWaiting pt ∷ items) (record { begins = λ scene e. refl; row = (owed-nothing apdu).handled }))
-      (pass s known polls o (NextWaiting pt) items (record { begins = λ scene e. refl; row = refl })))
+      (pass s known polls o (NextWaiting pt) items (record { begins = λ scene e. refl; row = unlinked-next known pt unlinked })))
 
   pass-each : (apdus : List ApduValue) (items : List RoundItem) → Triple s s (InRound known polls o (flat_map (apdu_items pt) apdus ++ items)) (InRound known polls o items)
   pass-each [] items = triple-refl s _

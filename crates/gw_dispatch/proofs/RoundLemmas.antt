@@ -4,6 +4,7 @@ use Rattle.std.specs.Prelude.{ℤ, map, true, false, Some, None, Result, Ok, Err
 use Rattle.std.proofs.lemmas.Bool.{lt-ltb, le-ltb}
 use Rattle.std.proofs.lemmas.List.{length-map}
 use Rattle.gw_base.specs.declared.setup.Pt.{Pt}
+use Rattle.gw_base.specs.declared.key.Key.{Key}
 use Rattle.gw_base.specs.declared.setup.Setup.{Setup}
 use Rattle.gw_site.specs.Outside.{Outside, Connection, outside_after, is_connected, heard_on, without, new_connection}
 use Rattle.gw_site.specs.declared.turn.Turn.TheVariants.{Polled, Opened, HeardTill, Closed, HeardPt, Lost, CutTill as TillCut}
@@ -30,7 +31,7 @@ use Rattle.gw_rules.specs.Triple.{Triple, Owing, AtEvent}
 use Rattle.gw_rules.proofs.TripleLemmas.{triple-refl, triple-then, triple-weaker, triple-after, triple-before, triple-frame, triple-some}
 use Rattle.gw_rules.proofs.CallLemmas.{cut-till-triple}
 use Rattle.gw_dispatch.specs.RunState.{gateway_of}
-use Rattle.gw_dispatch.specs.MidRound.{AllHear, AreHeard, AreLinked, AreReady, HeldRound, MidRound, due_items, each_terminal, is_linked_in}
+use Rattle.gw_dispatch.specs.MidRound.{AllHear, AreHeard, AreLinked, AreReady, HeldRound, MidRound, due_items, each_terminal, is_linked_in, keys_waiting, overdue_items}
 use Rattle.gw_dispatch.specs.Round.{HoldsTills, IsIn, InRound, known_at}
 use Rattle.gw_dispatch.specs.Serving.{AfterFault, AfterTill, held_without, items_of}
 use Rattle.gw_dispatch.specs.RecordsOpening.{HasOpened}
@@ -47,7 +48,6 @@ use Rattle.gw_dispatch.proofs.ServeLemmas.{waiting-items}
 use Rattle.gw_dispatch.proofs.TillLemmas.{rank-held-none, rank-held-open, found, others-held, below-hears, below-without, below-push, below-closed, below-up, without-new, held-push, length-held}
 use Rattle.gw_dispatch.proofs.EngineLemmas.{some-scene, begin-first, cut-in, known_without}
 use Rattle.gw_dispatch.proofs.FitLemmas.{Fit, are-heard, fit-heard, heard_by, hears-at}
-use Rattle.gw_dispatch.proofs.WaitLemmas.{triple-unwaited}
 
 never : (s : Observed) (P Q : View → Type 0) → ((v : View) → P v → ⊥) → Triple s s P Q
 never s P Q no_way = triple-weaker s s P P P Q (λ v p. p) (λ v p. absurd (no_way v p)) (triple-refl s P)
@@ -62,11 +62,16 @@ due-each : (item : ℕ → RoundItem) (number : ℕ) (terminals : List Terminal)
 due-each item number [] = refl
 due-each item number (terminal ∷ terminals) = ap (λ items. item number ∷ items) (due-each item (number + 1) terminals)
 
--- while no request waits, what may be due goes by the count of the terminals
-due-are : (core : Core) → core.waits ≡ [] → items_due core ≡ due_items (length core.terminals)
-due-are core none =
-    ap (λ waits. for_each_terminal 0 Late core.terminals ++ (map (λ (wait : Wait). Overdue wait.key) (waits_by_deadline waits) ++ for_each_terminal 0 Due core.terminals)) none
-    ∙ ap (λ late. late ++ for_each_terminal 0 Due core.terminals) (due-each Late 0 core.terminals) ∙ ap (λ due. each_terminal 0 (length core.terminals) Late ++ due) (due-each Due 0 core.terminals)
+overdue-each : (waits : List Wait) → map (λ (wait : Wait). Overdue wait.key) waits ≡ overdue_items (map (λ (wait : Wait). wait.key) waits)
+overdue-each [] = refl
+overdue-each (wait ∷ waits) = ap (λ items. Overdue wait.key ∷ items) (overdue-each waits)
+
+-- what may be due goes by the count of the terminals, and the keys of the requests that wait
+due-are : (core : Core) → items_due core ≡ due_items (length core.terminals) (keys_waiting core)
+due-are core =
+    ap (λ late. late ++ (map (λ (wait : Wait). Overdue wait.key) (waits_by_deadline core.waits) ++ for_each_terminal 0 Due core.terminals)) (due-each Late 0 core.terminals)
+    ∙ ap (λ overdue. each_terminal 0 (length core.terminals) Late ++ (overdue ++ for_each_terminal 0 Due core.terminals)) (overdue-each (waits_by_deadline core.waits))
+    ∙ ap (λ due. each_terminal 0 (length core.terminals) Late ++ (overdue_items (keys_waiting core) ++ due)) (due-each Due 0 core.terminals)
 
 -- a till that is forgotten changes no link
 linked-forgotten : (till : ℕ) (terminals : List Terminal) (number : ℕ) → is_linked_in (slice_get (map (forgets_till till) terminals) number) ≡ is_linked_in (slice_get terminals number)
@@ -96,15 +101,15 @@ no-link core o number linked connected unlinked = let h : false ≡ true = sym u
 
 -- what the event has brought was handled, and what may be due comes; this is held
 abbrev pub HandledWith : Setup → Core → List Record → List (List ℕ) → List Till → ℕ → ℤ → View → Type 0
-HandledWith setup core kept readers tills polls now v = MidRound setup core kept tills polls now (AllHear readers) [] (due_items (length core.terminals)) v
+HandledWith setup core kept readers tills polls now v = (keys : List Key) × MidRound setup core kept tills polls now (AllHear readers) [] (due_items (length core.terminals) keys) v
 
 -- once a till was forgotten
-handled-without : (setup : Setup) (kept : List Record) (tills : List Till) (polls : ℕ) (now : ℤ) (core new_core : Core) (readers new_readers : List (List ℕ)) (till : ℕ) → new_core ≡ core_without core till → new_readers ≡ readers →
-    (v : View) → MidRound setup (core_without core till) kept tills polls now (AllHear readers) [] (due_items (length core.terminals)) v → HandledWith setup new_core kept new_readers tills polls now v
-handled-without setup kept tills polls now core new_core readers new_readers till forgot same v h =
+handled-without : (setup : Setup) (kept : List Record) (tills : List Till) (polls : ℕ) (now : ℤ) (core new_core : Core) (readers new_readers : List (List ℕ)) (till : ℕ) → new_core ≡ core_without core till → new_readers ≡ readers → (keys : List Key) →
+    (v : View) → MidRound setup (core_without core till) kept tills polls now (AllHear readers) [] (due_items (length core.terminals) keys) v → HandledWith setup new_core kept new_readers tills polls now v
+handled-without setup kept tills polls now core new_core readers new_readers till forgot same keys v h =
     subst (λ c. HandledWith setup c kept new_readers tills polls now v) (sym forgot)
     (subst (λ r. HandledWith setup (core_without core till) kept r tills polls now v) (sym same)
-    (subst (λ count. MidRound setup (core_without core till) kept tills polls now (AllHear readers) [] (due_items count) v) (sym (length-map core.terminals (forgets_till till))) h))
+    (keys, subst (λ count. MidRound setup (core_without core till) kept tills polls now (AllHear readers) [] (due_items count keys) v) (sym (length-map core.terminals (forgets_till till))) h))
 
 -- ---- a chunk
 
@@ -219,10 +224,12 @@ module _ (dispatch : Dispatch) (number at : ℕ) (chunk : List ℕ) (till : Till
   pub chunk-served : (a b : Observed) (setup : Setup) (new : RunState) (left : List Till) (polls : ℕ) (now : ℤ) (done : Unit {0}) → AreReady dispatch.state.core dispatch.readers.items → AreWaiting held → gateway_of setup ≡ dispatch.state.gateway →
       length new.core.terminals ≡ length dispatch.state.core.terminals → IsIncompleteFrame (bytes_held number left) → Serves a b dispatch.state new fed left now number (Ok done) →
       Triple a b (BeforeChunk setup dispatch polls now number chunk) (HandledWith setup new.core new.records.ledger.records dispatch.readers.items left polls now)
-  chunk-served a b setup new left polls now done ready waiting named count waits served = chunk-held a b setup new left polls now (Ok done) _ ready waiting named served (λ o fits v q.
-      subst (λ count. MidRound setup new.core new.records.ledger.records left polls now (AllHear dispatch.readers.items) [] (due_items count) v) (sym count)
-      (hear-again setup new.core new.records.ledger.records left polls now dispatch.readers.items o (due_in dispatch) v (ready.count ∙ sym count) fits
-      (waiting-items setup new.core new.records.ledger.records left polls now (AreHeard (heard_by dispatch.readers.items o)) number (due_in dispatch) v waits q)))
+  chunk-served a b setup new left polls now done ready waiting named count waits served = chunk-held a b setup new left polls now (Ok done) _ ready waiting named served (λ o fits v q. (
+    keys_waiting dispatch.state.core,
+    subst (λ count. MidRound setup new.core new.records.ledger.records left polls now (AllHear dispatch.readers.items) [] (due_items count (keys_waiting dispatch.state.core)) v) (sym count)
+        (hear-again setup new.core new.records.ledger.records left polls now dispatch.readers.items o (due_in dispatch) v (ready.count ∙ sym count) fits
+        (waiting-items setup new.core new.records.ledger.records left polls now (AreHeard (heard_by dispatch.readers.items o)) number (due_in dispatch) v waits q)),
+  ))
 
   -- after a fault
   pub chunk-failed : (a b : Observed) (setup : Setup) (new : RunState) (left : List Till) (polls : ℕ) (now : ℤ) (fault : TurnFault) → AreReady dispatch.state.core dispatch.readers.items → AreWaiting held → gateway_of setup ≡ dispatch.state.gateway →
@@ -250,17 +257,19 @@ pub open-taken : (s : Observed) (setup : Setup) (dispatch : Dispatch) (new : Lis
 open-taken s setup dispatch new polls now number few is = triple-after s s _ _ _ (triple-refl s (BeforeOpen setup dispatch polls now number)) (λ v p.
     let o = p.0 in
     let b = p.1 in
-    let l : length o.tills < 64 = (let k : length dispatch.tills.list.items ≡ length o.tills = sym (length-map dispatch.tills.list.items rested) ∙ ap length b.matches.tills_are.tills_are ∙ length-held o.tills in omega arith) in
-    record {
-      outside = outside_after o (Opened number);
-      round = subst (λ list. InRound (known_by setup dispatch now) polls (outside_after o (Opened number)) (list ++ due_in dispatch) v) (items-few number o.tills l) b.round;
-      tills_are = record {
-        tills_are = ap (map rested) is ∙ rested-push dispatch.tills.list.items (record { number = number; reader = [] }) ∙ ap (λ t. t ++ record { number = number; reader = [] } ∷ []) b.matches.tills_are.tills_are ∙ sym (held-push o.tills number);
-        below = below-push o.next_till number o.tills b.matches.tills_are.below b.above;
-      };
-      linked = b.matches.linked;
-      also = b.matches.hear;
-    })
+    let l : length o.tills < 64 = (let k : length dispatch.tills.list.items ≡ length o.tills = sym (length-map dispatch.tills.list.items rested) ∙ ap length b.matches.tills_are.tills_are ∙ length-held o.tills in omega arith) in (
+      keys_waiting dispatch.state.core,
+      record {
+        outside = outside_after o (Opened number);
+        round = subst (λ list. InRound (known_by setup dispatch now) polls (outside_after o (Opened number)) (list ++ due_in dispatch) v) (items-few number o.tills l) b.round;
+        tills_are = record {
+          tills_are = ap (map rested) is ∙ rested-push dispatch.tills.list.items (record { number = number; reader = [] }) ∙ ap (λ t. t ++ record { number = number; reader = [] } ∷ []) b.matches.tills_are.tills_are ∙ sym (held-push o.tills number);
+          below = below-push o.next_till number o.tills b.matches.tills_are.below b.above;
+        };
+        linked = b.matches.linked;
+        also = b.matches.hear;
+      },
+    ))
 
 -- a till that opens while as many are there as may be is cut, and forgotten
 pub open-crowded : (a b : Observed) (setup : Setup) (dispatch : Dispatch) (new_core : Core) (new_readers : List (List ℕ)) (polls : ℕ) (now : ℤ) (number : ℕ) → 64 ≤ length dispatch.tills.list.items →
@@ -292,7 +301,7 @@ open-crowded a b setup dispatch new_core new_readers polls now number many forgo
     closed : (o : Outside) (v : View) → InRound (known_without knows number) polls (outside_after (after o) (TillCut number)) (due_in dispatch) v → IsFull o → HandledWith setup new_core dispatch.state.records.ledger.records new_readers dispatch.tills.list.items polls now v
     closed o v q full =
         let unchanged : without (o.tills ++ new_connection number ∷ []) number ≡ o.tills = without-new o.tills number (below-closed o.next_till number o.tills full.0.tills_are.below full.1) in
-        handled-without setup dispatch.state.records.ledger.records dispatch.tills.list.items polls now dispatch.state.core new_core dispatch.readers.items new_readers number forgot same v (record {
+        handled-without setup dispatch.state.records.ledger.records dispatch.tills.list.items polls now dispatch.state.core new_core dispatch.readers.items new_readers number forgot same (keys_waiting dispatch.state.core) v (record {
           outside = outside_after (after o) (TillCut number);
           round = q;
           tills_are = record {
@@ -314,9 +323,9 @@ pub pt-unheld-end : (s : Observed) (setup : Setup) (dispatch : Dispatch) (polls 
 pt-unheld-end s setup dispatch polls now pt Q unlinked = never s _ Q (λ v p. no-link dispatch.state.core p.0 pt p.1.linked p.1.connected unlinked)
 
 -- what is handled of a terminal leaves as many terminals, so that the same may be due
-pub pt-handled : (a b : Observed) (P : View → Type 0) (setup : Setup) (core new_core : Core) (kept : List Record) (readers : List (List ℕ)) (tills : List Till) (polls : ℕ) (now : ℤ) → length new_core.terminals ≡ length core.terminals →
-    Triple a b P (MidRound setup new_core kept tills polls now (AllHear readers) [] (due_items (length core.terminals))) → Triple a b P (HandledWith setup new_core kept readers tills polls now)
-pt-handled a b P setup core new_core kept readers tills polls now count k = triple-after a b _ _ _ k (λ v q. subst (λ n. MidRound setup new_core kept tills polls now (AllHear readers) [] (due_items n) v) (sym count) q)
+pub pt-handled : (a b : Observed) (P : View → Type 0) (setup : Setup) (core new_core : Core) (kept : List Record) (readers : List (List ℕ)) (tills : List Till) (polls : ℕ) (now : ℤ) → length new_core.terminals ≡ length core.terminals → (keys : List Key) →
+    Triple a b P (MidRound setup new_core kept tills polls now (AllHear readers) [] (due_items (length core.terminals) keys)) → Triple a b P (HandledWith setup new_core kept readers tills polls now)
+pt-handled a b P setup core new_core kept readers tills polls now count keys k = triple-after a b _ _ _ k (λ v q. (keys, subst (λ n. MidRound setup new_core kept tills polls now (AllHear readers) [] (due_items n keys) v) (sym count) q))
 
 -- ---- a poll
 
@@ -324,19 +333,15 @@ pt-handled a b P setup core new_core kept readers tills polls now count k = trip
 pub rest-polled : (a b : Observed) (setup : Setup) (dispatch : Dispatch) (polls : ℕ) (now : ℤ) (what : What) (buf : List ℕ) →
     ((scene : Scene) → Triple a b (λ v. Owing scene [] [] v × (is_running scene.stage ≡ true)) (AtEvent scene now what buf)) → Triple a b (IsBetweenRounds setup dispatch polls) (IsPolled setup dispatch polls now what buf)
 rest-polled a b setup dispatch polls now what buf polls_keep =
-    triple-unwaited a b _ _
-    (triple-before a b _ _ _ (λ v p. (p.0.0, ((p.0.1, p.0.2.running), (p.0.2, sym (ap (λ (w : View). w.scene.core.waits) p.0.1) ∙ p.1))))
-    (triple-some a b (λ scene v. (Owing scene [] [] v × (is_running scene.stage ≡ true)) × Facts scene) _ at_first.scene
-    (λ scene. triple-after a b _ _ _ (triple-frame a b _ _ (Facts scene) (polls_keep scene)) (λ v q. (scene, q.0, q.1.0, q.1.1)))))
-  where
-    Facts : Scene → Type 0
-    Facts scene = IsHeldRun setup dispatch polls scene × (scene.core.waits ≡ [])
+    triple-before a b _ _ _ (λ v p. (p.0, ((p.1, p.2.running), p.2)))
+    (triple-some a b (λ scene v. (Owing scene [] [] v × (is_running scene.stage ≡ true)) × IsHeldRun setup dispatch polls scene) _ at_first.scene
+    (λ scene. triple-after a b _ _ _ (triple-frame a b _ _ (IsHeldRun setup dispatch polls scene) (polls_keep scene)) (λ v q. (scene, q.0, q.1))))
 
 -- an event of this kind, once it came
 pub at-what : (s : Observed) (setup : Setup) (dispatch : Dispatch) (polls : ℕ) (now : ℤ) (what kind : What) (buf : List ℕ) (Q : View → Type 0) → what ≡ kind →
-    ((scene : Scene) → IsHeldRun setup dispatch polls scene → scene.core.waits ≡ [] → (v : View) → AtEvent scene now kind buf v → Q v) → Triple s s (IsPolled setup dispatch polls now what buf) Q
+    ((scene : Scene) → IsHeldRun setup dispatch polls scene → (v : View) → AtEvent scene now kind buf v → Q v) → Triple s s (IsPolled setup dispatch polls now what buf) Q
 at-what s setup dispatch polls now what kind buf Q e finish =
-    triple-after s s _ _ _ (triple-refl s (IsPolled setup dispatch polls now what buf)) (λ v p. finish p.0 p.2 p.3 v (subst (λ w. AtEvent p.0 now w buf v) e p.1))
+    triple-after s s _ _ _ (triple-refl s (IsPolled setup dispatch polls now what buf)) (λ v p. finish p.0 p.2 v (subst (λ w. AtEvent p.0 now w buf v) e p.1))
 
 -- what is known once a poll came
 known-polled : (setup : Setup) (dispatch : Dispatch) (polls : ℕ) (now : ℤ) (scene : Scene) → IsHeldRun setup dispatch polls scene → known_at setup scene.core scene.kept now ≡ known_by setup dispatch now
@@ -347,66 +352,68 @@ matches-polled : (dispatch : Dispatch) (scene : Scene) (now : ℤ) → MatchesOu
 matches-polled dispatch scene now h = record { tills_are = record { tills_are = h.tills_are.tills_are; below = h.tills_are.below }; linked = h.linked; hear = h.hear }
 
 -- what may be due after an event
-due-event : (setup : Setup) (dispatch : Dispatch) (polls : ℕ) (scene : Scene) → IsHeldRun setup dispatch polls scene → scene.core.waits ≡ [] → items_due scene.core ≡ due_in dispatch
-due-event setup dispatch polls scene k none = due-are scene.core none ∙ ap (λ (core : Core). due_items (length core.terminals)) k.core_is
+due-event : (setup : Setup) (dispatch : Dispatch) (polls : ℕ) (scene : Scene) → IsHeldRun setup dispatch polls scene → items_due scene.core ≡ due_in dispatch
+due-event setup dispatch polls scene k = due-are scene.core ∙ ap (λ (core : Core). due_items (length core.terminals) (keys_waiting core)) k.core_is
 
 -- nothing came
-pub rest-nothing : (buf : List ℕ) (setup : Setup) (dispatch : Dispatch) (polls : ℕ) (now : ℤ) (scene : Scene) → IsHeldRun setup dispatch polls scene → scene.core.waits ≡ [] → (v : View) → AtEvent scene now Nothing buf v →
+pub rest-nothing : (buf : List ℕ) (setup : Setup) (dispatch : Dispatch) (polls : ℕ) (now : ℤ) (scene : Scene) → IsHeldRun setup dispatch polls scene → (v : View) → AtEvent scene now Nothing buf v →
     HandledWith setup dispatch.state.core dispatch.state.records.ledger.records dispatch.readers.items dispatch.tills.list.items (polls + 1) now v
-rest-nothing buf setup dispatch polls now scene k none v q =
-    let matches = matches-polled dispatch scene now k.matches in
-    record {
-      outside = outside_after scene.outside (Polled now);
-      round = (
-        polled scene (Polled now),
-        subst (λ due. Owing (polled scene (Polled now)) [] due v) (due-event setup dispatch polls scene k none) q.0,
-        record { setup_is = k.setup_is; known_is = known-polled setup dispatch polls now scene k; flight = k.flight; round = refl; polls_are = ap (λ n. n + 1) k.polls_are; outside_is = refl },
-      );
-      tills_are = matches.tills_are;
-      linked = matches.linked;
-      also = matches.hear;
-    }
+rest-nothing buf setup dispatch polls now scene k v q =
+    let matches = matches-polled dispatch scene now k.matches in (
+      keys_waiting dispatch.state.core,
+      record {
+        outside = outside_after scene.outside (Polled now);
+        round = (
+          polled scene (Polled now),
+          subst (λ due. Owing (polled scene (Polled now)) [] due v) (due-event setup dispatch polls scene k) q.0,
+          record { setup_is = k.setup_is; known_is = known-polled setup dispatch polls now scene k; flight = k.flight; round = refl; polls_are = ap (λ n. n + 1) k.polls_are; outside_is = refl },
+        );
+        tills_are = matches.tills_are;
+        linked = matches.linked;
+        also = matches.hear;
+      },
+    )
 
-pub rest-pt-bytes : (pt count : ℕ) (buf : List ℕ) (setup : Setup) (dispatch : Dispatch) (polls : ℕ) (now : ℤ) (scene : Scene) → IsHeldRun setup dispatch polls scene → scene.core.waits ≡ [] → (v : View) → AtEvent scene now (PtBytes pt count) buf v →
+pub rest-pt-bytes : (pt count : ℕ) (buf : List ℕ) (setup : Setup) (dispatch : Dispatch) (polls : ℕ) (now : ℤ) (scene : Scene) → IsHeldRun setup dispatch polls scene → (v : View) → AtEvent scene now (PtBytes pt count) buf v →
     BeforePtBytes setup dispatch (polls + 1) now pt (take count buf) v
-rest-pt-bytes pt count buf setup dispatch polls now scene k none v q =
+rest-pt-bytes pt count buf setup dispatch polls now scene k v q =
     let matches = matches-polled dispatch scene now k.matches in
     let after = at_event (polled scene (Polled now)) (HeardPt pt (take count buf)) in (
       outside_after scene.outside (Polled now),
       record { tills_are = matches.tills_are; linked = matches.linked; hear = matches.hear; connected = q.1 },
       (
         after,
-        subst (λ due. Owing after [] (pt_bytes_items pt (heard_on scene.outside.links pt) (take count buf) ++ due) v) (due-event setup dispatch polls scene k none) q.0,
+        subst (λ due. Owing after [] (pt_bytes_items pt (heard_on scene.outside.links pt) (take count buf) ++ due) v) (due-event setup dispatch polls scene k) q.0,
         record { setup_is = k.setup_is; known_is = known-polled setup dispatch polls now scene k; flight = k.flight; round = refl; polls_are = ap (λ n. n + 1) k.polls_are; outside_is = refl },
       ),
     )
 
-pub rest-pt-closed : (pt : ℕ) (buf : List ℕ) (setup : Setup) (dispatch : Dispatch) (polls : ℕ) (now : ℤ) (scene : Scene) → IsHeldRun setup dispatch polls scene → scene.core.waits ≡ [] → (v : View) → AtEvent scene now (PtClosed pt) buf v →
+pub rest-pt-closed : (pt : ℕ) (buf : List ℕ) (setup : Setup) (dispatch : Dispatch) (polls : ℕ) (now : ℤ) (scene : Scene) → IsHeldRun setup dispatch polls scene → (v : View) → AtEvent scene now (PtClosed pt) buf v →
     BeforePtEnd setup dispatch (polls + 1) now pt v
-rest-pt-closed pt buf setup dispatch polls now scene k none v q =
+rest-pt-closed pt buf setup dispatch polls now scene k v q =
     let matches = matches-polled dispatch scene now k.matches in
     let after = at_event (polled scene (Polled now)) (Lost pt) in (
       outside_after scene.outside (Polled now),
       record { tills_are = matches.tills_are; linked = matches.linked; hear = matches.hear; connected = q.1 },
       (
         after,
-        subst (λ due. Owing after [] (LinkLost pt ∷ due) v) (due-event setup dispatch polls scene k none) q.0,
+        subst (λ due. Owing after [] (LinkLost pt ∷ due) v) (due-event setup dispatch polls scene k) q.0,
         record { setup_is = k.setup_is; known_is = known-polled setup dispatch polls now scene k; flight = k.flight; round = refl; polls_are = ap (λ n. n + 1) k.polls_are; outside_is = refl },
       ),
     )
 
-pub rest-stopped : (buf : List ℕ) (setup : Setup) (dispatch : Dispatch) (polls : ℕ) (now : ℤ) (scene : Scene) → IsHeldRun setup dispatch polls scene → scene.core.waits ≡ [] → (v : View) → AtEvent scene now StopEvent buf v → v.scene.stage ≡ Over
-rest-stopped buf setup dispatch polls now scene k none v q = ap (λ (w : View). w.scene.stage) q.0
+pub rest-stopped : (buf : List ℕ) (setup : Setup) (dispatch : Dispatch) (polls : ℕ) (now : ℤ) (scene : Scene) → IsHeldRun setup dispatch polls scene → (v : View) → AtEvent scene now StopEvent buf v → v.scene.stage ≡ Over
+rest-stopped buf setup dispatch polls now scene k v q = ap (λ (w : View). w.scene.stage) q.0
 
-pub rest-opened : (number : ℕ) (buf : List ℕ) (setup : Setup) (dispatch : Dispatch) (polls : ℕ) (now : ℤ) (scene : Scene) → IsHeldRun setup dispatch polls scene → scene.core.waits ≡ [] → (v : View) → AtEvent scene now (TillOpened number) buf v →
+pub rest-opened : (number : ℕ) (buf : List ℕ) (setup : Setup) (dispatch : Dispatch) (polls : ℕ) (now : ℤ) (scene : Scene) → IsHeldRun setup dispatch polls scene → (v : View) → AtEvent scene now (TillOpened number) buf v →
     BeforeOpen setup dispatch (polls + 1) now number v
-rest-opened number buf setup dispatch polls now scene k none v q =
+rest-opened number buf setup dispatch polls now scene k v q =
     let after = at_event (polled scene (Polled now)) (Opened number) in (
       outside_after scene.outside (Polled now),
       record {
         round = (
           after,
-          subst (λ due. Owing after [] (till_opened_items number scene.outside.tills ++ due) v) (due-event setup dispatch polls scene k none) q.0,
+          subst (λ due. Owing after [] (till_opened_items number scene.outside.tills ++ due) v) (due-event setup dispatch polls scene k) q.0,
           record { setup_is = k.setup_is; known_is = known-polled setup dispatch polls now scene k; flight = k.flight; round = refl; polls_are = ap (λ n. n + 1) k.polls_are; outside_is = refl },
         );
         matches = matches-polled dispatch scene now k.matches;
@@ -414,15 +421,15 @@ rest-opened number buf setup dispatch polls now scene k none v q =
       },
     )
 
-pub rest-heard : (number count : ℕ) (buf : List ℕ) (setup : Setup) (dispatch : Dispatch) (polls : ℕ) (now : ℤ) (scene : Scene) → IsHeldRun setup dispatch polls scene → scene.core.waits ≡ [] → (v : View) → AtEvent scene now (TillBytes number count) buf v →
+pub rest-heard : (number count : ℕ) (buf : List ℕ) (setup : Setup) (dispatch : Dispatch) (polls : ℕ) (now : ℤ) (scene : Scene) → IsHeldRun setup dispatch polls scene → (v : View) → AtEvent scene now (TillBytes number count) buf v →
     BeforeChunk setup dispatch (polls + 1) now number (take count buf) v
-rest-heard number count buf setup dispatch polls now scene k none v q =
+rest-heard number count buf setup dispatch polls now scene k v q =
     let after = at_event (polled scene (Polled now)) (HeardTill number (take count buf)) in (
       outside_after scene.outside (Polled now),
       record {
         round = (
           after,
-          subst (λ due. Owing after [] (till_bytes_items number (heard_on scene.outside.tills number) (take count buf) ++ due) v) (due-event setup dispatch polls scene k none) q.0,
+          subst (λ due. Owing after [] (till_bytes_items number (heard_on scene.outside.tills number) (take count buf) ++ due) v) (due-event setup dispatch polls scene k) q.0,
           record { setup_is = k.setup_is; known_is = known-polled setup dispatch polls now scene k; flight = k.flight; round = refl; polls_are = ap (λ n. n + 1) k.polls_are; outside_is = refl },
         );
         matches = matches-polled dispatch scene now k.matches;
@@ -439,7 +446,7 @@ rest-closed s number buf setup dispatch new new_core new_readers polls now what 
     (triple-some s s (λ (o : Outside) v. InRound knows (polls + 1) (after o) (GoneItem number ∷ due_in dispatch) v × MatchesOutside dispatch o) (HandledWith setup new_core dispatch.state.records.ledger.records new_readers new (polls + 1) now) no_outside
     (λ o. triple-after s s _ _ _ (triple-frame s s _ _ (MatchesOutside dispatch o)
     (begin-first s knows (polls + 1) (after o) (GoneItem number) (due_in dispatch) (core_without dispatch.state.core number) [] (record { begins = λ scene e. refl; row = refl })))
-    (λ v q. handled-without setup dispatch.state.records.ledger.records new (polls + 1) now dispatch.state.core new_core dispatch.readers.items new_readers number forgot same v (record {
+    (λ v q. handled-without setup dispatch.state.records.ledger.records new (polls + 1) now dispatch.state.core new_core dispatch.readers.items new_readers number forgot same (keys_waiting dispatch.state.core) v (record {
       outside = after o;
       round = q.0;
       tills_are = record {
@@ -459,13 +466,13 @@ rest-closed s number buf setup dispatch new new_core new_readers polls now what 
     Closes : View → Type 0
     Closes v = (o : Outside) × (InRound knows (polls + 1) (after o) (GoneItem number ∷ due_in dispatch) v × MatchesOutside dispatch o)
 
-    closes : (scene : Scene) → IsHeldRun setup dispatch polls scene → scene.core.waits ≡ [] → (v : View) → AtEvent scene now (TillClosed number) buf v → Closes v
-    closes scene k none v q = (
+    closes : (scene : Scene) → IsHeldRun setup dispatch polls scene → (v : View) → AtEvent scene now (TillClosed number) buf v → Closes v
+    closes scene k v q = (
       outside_after scene.outside (Polled now),
       (
         (
           at_event (polled scene (Polled now)) (Closed number),
-          subst (λ due. Owing (at_event (polled scene (Polled now)) (Closed number)) [] (GoneItem number ∷ due) v) (due-event setup dispatch polls scene k none) q.0,
+          subst (λ due. Owing (at_event (polled scene (Polled now)) (Closed number)) [] (GoneItem number ∷ due) v) (due-event setup dispatch polls scene k) q.0,
           record { setup_is = k.setup_is; known_is = known-polled setup dispatch polls now scene k; flight = k.flight; round = refl; polls_are = ap (λ n. n + 1) k.polls_are; outside_is = refl },
         ),
         matches-polled dispatch scene now k.matches,

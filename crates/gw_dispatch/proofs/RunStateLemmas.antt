@@ -1,21 +1,26 @@
 -- What is held stays in order.
-use Rattle.std.proofs.Common.{◌≡◌, ◌≤◌, ℕ, List, [], ◌∷◌, length, refl, sym, ◌∙◌, ap, subst, arith}
-use Rattle.std.specs.Prelude.{map, Option, Some, None, slice_get}
+use Rattle.std.proofs.Common.{◌≡◌, ◌≤◌, ◌+◌, ◌*◌, ℕ, List, [], ◌∷◌, length, refl, sym, ◌∙◌, ap, subst, arith}
+use Rattle.std.specs.Prelude.{map, not, ◌==◌, Option, Some, None, slice_get}
 use Rattle.std.specs.Option.{option_map}
 use Rattle.std.proofs.lemmas.List.{length-map}
 use Rattle.std.proofs.lemmas.Option.{slice_get-map}
 use Rattle.gw_site.specs.Observed.{Observed}
 use Rattle.jrn_record.specs.declared.records.Record.{Record}
-use Rattle.gw_owes.specs.Core.{Core}
+use Rattle.gw_ledger.specs.Sums.{open_count_of}
+use Rattle.gw_owes.specs.Core.{Core, Wait}
+use Rattle.gw_owes.specs.Days.{days_served}
 use Rattle.gw_owes.specs.Dialogues.{AllHaveDialogues, HasItsDialogue}
 use Rattle.gw_owes.specs.DeviceRequests.{greatest_device_number}
-use Rattle.gw_owes.specs.RecordLaws.{IsTerminalInOrder}
+use Rattle.gw_owes.specs.RecordLaws.{HasRoom, IsTerminalInOrder}
 use Rattle.gw_owes.specs.Terminals.{core_without, forgets_till}
+use Rattle.gw_owes.specs.Waits.{slots_reserved}
 use Rattle.gw_owes.specs.declared.terminal.Terminal.{Terminal}
 use Rattle.gw_owes.proofs.DayLemmas.{days-forgotten}
+use Rattle.gw_owes.proofs.WaitingFrameLemmas.{gone-keeps-waits}
+use Rattle.gw_core.specs.IsRow.{known_with}
 use Rattle.gw_core.specs.declared.gateway.Gateway.{Gateway}
 use Rattle.gw_dispatch.specs.Growth.{GoesOnBesideDisk}
-use Rattle.gw_dispatch.specs.RunState.{IsOrderly, IsWell, StandFor, StaysInOrder}
+use Rattle.gw_dispatch.specs.RunState.{IsOrderly, IsWell, StandFor, StaysInOrder, WaitsStay}
 use Rattle.gw_dispatch.specs.MidRound.{AreReady}
 use Rattle.gw_dispatch.specs.Rounds.{IsReady}
 use Rattle.gw_dispatch.specs.Serving.{held_without}
@@ -23,22 +28,42 @@ use Rattle.gw_dispatch.specs.Tills.{AllStillHold, others}
 use Rattle.gw_dispatch.specs.declared.engine.Dispatch.{Dispatch}
 use Rattle.gw_dispatch.specs.declared.run_state.RunState.{RunState}
 use Rattle.gw_dispatch.specs.declared.records.Records.{Records}
+use Rattle.gw_dispatch.proofs.DueLemmas.{fewer-some}
 use Rattle.gw_dispatch.proofs.ReaderLemmas.{dropped-still, waiting-still}
 
 -- ---- what is remembered
 
+-- of what waits nothing is changed
+pub waits-same : (core : Core) → WaitsStay core core
+waits-same core = record { few = omega arith; order = λ setup kept moment order. order }
+
+pub waits-then : (old mid new : Core) → WaitsStay old mid → WaitsStay mid new → WaitsStay old new
+waits-then old mid new one other = record { few = omega (arith, one.few, other.few); order = λ setup kept moment order. other.order setup kept moment (one.order setup kept moment order) }
+
 -- nothing is changed
 pub stays-same : (core : Core) → StaysInOrder core core
-stays-same core = record { settings = refl; days = omega arith; device_requests = refl; order = λ kept order. order }
+stays-same core = record { settings = refl; days = omega arith; waits = waits-same core; device_requests = refl; order = λ kept order. order }
 
 -- one change after the other
 pub stays-then : (old mid new : Core) → StaysInOrder old mid → StaysInOrder mid new → StaysInOrder old new
 stays-then old mid new one other = record {
   settings = other.settings ∙ one.settings;
   days = omega (arith, one.days, other.days);
+  waits = waits-then old mid new one.waits other.waits;
   device_requests = other.device_requests ∙ one.device_requests;
   order = λ kept order. other.order kept (one.order kept order);
 }
+
+-- no more slots are reserved
+slots-fewer : (days fewer_days waits fewer : ℕ) → fewer_days ≤ days → fewer ≤ waits → fewer_days + 2 * fewer ≤ days + 2 * waits
+slots-fewer days fewer_days waits fewer one other = omega (arith, one, other)
+
+room-fewer : (kept unresolved reserved fewer slots : ℕ) → fewer ≤ reserved → kept + (unresolved + reserved) ≤ slots → kept + (unresolved + fewer) ≤ slots
+room-fewer kept unresolved reserved fewer slots one room = omega (arith, one, room)
+
+pub room-left : (slots : ℕ) (kept : List Record) (old new : Core) → HasRoom slots kept old → days_served new.terminals ≤ days_served old.terminals → WaitsStay old new → HasRoom slots kept new
+room-left slots kept old new room days waits =
+    room-fewer (length kept) (open_count_of kept) (slots_reserved old) (slots_reserved new) slots (slots-fewer (days_served old.terminals) (days_served new.terminals) (length old.waits) (length new.waits) days waits.few) room
 
 -- what is remembered of a till is forgotten
 module _ (till : ℕ) where
@@ -62,6 +87,7 @@ module _ (till : ℕ) where
   forgets-order core = record {
     settings = settings-forgotten core.terminals;
     days = omega (arith, days-forgotten till core.terminals);
+    waits = record { few = fewer-some (λ (wait : Wait). not (wait.till == till)) core.waits; order = λ setup kept moment order. gone-keeps-waits (known_with setup kept core moment) till order };
     device_requests = refl;
     order = λ kept order. each-forgotten (IsTerminalInOrder kept) (λ terminal h. record { records = h.records; read = h.read }) core order;
   }
@@ -78,10 +104,11 @@ orderly-core gateway kept old new order stays dialogues = record {
   gateway_is = order.gateway_is;
   of_setup = record { within = order.of_setup.within; settings = stays.settings ∙ order.of_setup.settings };
   folded = order.folded;
-  room = omega (arith, order.room, stays.days);
+  room = room-left gateway.slots kept old new order.room stays.days stays.waits;
   numbered = subst (λ n. n ≤ greatest_device_number) (sym stays.device_requests) order.numbered;
   terminals = stays.order kept order.terminals;
   dialogues = dialogues;
+  waits = λ moment. stays.waits.order order.setup kept moment (order.waits moment);
 }
 
 -- the journal is as good after calls that aren't on the disk
@@ -93,7 +120,7 @@ pub well-core : (state : RunState) (core : Core) (a b : Observed) → IsWell sta
 well-core state core a b well stays dialogues goes = record {
   order = orderly-core state.gateway state.records.ledger.records state.core core well.order stays dialogues;
   records = stand-on state.gateway state.records a b well.records goes;
-  spare = omega (arith, well.spare, stays.days);
+  spare = omega (arith, well.spare, stays.days, stays.waits.few);
 }
 
 -- a till is forgotten

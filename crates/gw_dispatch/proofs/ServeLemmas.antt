@@ -16,9 +16,9 @@ use Rattle.sale_values.specs.declared.request.SaleRequest.{SaleRequest}
 use Rattle.jrn_log.specs.Journal.{JournalValue, StandsFor}
 use Rattle.gw_owes.specs.Calls.{OwedCall, SendTill, CutTill}
 use Rattle.gw_owes.specs.Core.{Core}
-use Rattle.gw_owes.specs.Days.{days_served}
+use Rattle.gw_owes.specs.Waits.{memory_reserved}
 use Rattle.gw_owes.specs.Events.{decoded_items}
-use Rattle.gw_owes.specs.Items.{RoundItem, Message, Asked, Serve, Unframed}
+use Rattle.gw_owes.specs.Items.{RoundItem, Message, Asked, Queue, Serve, Unframed}
 use Rattle.gw_owes.specs.ReadAs.{ReadAs, IsReadAs}
 use Rattle.gw_owes.specs.Reply.{ReplyValue, reply_value_tree}
 use Rattle.gw_owes.specs.Row.{Known, Row, owing, owing_where}
@@ -76,7 +76,7 @@ waiting-items setup core kept tills polls now Also till items v waits h = subst 
 -- ---- an item of a till begins
 
 -- the first item begins, and what it owes comes before the items after it
-begin-item : (s : Observed) (known : Known) (polls : ℕ) (o : Outside) (item : RoundItem) (items : List RoundItem) (row : Row) → ((scene : Scene) → may_begin scene (item ∷ items) ≡ true) → row_of o.tills known item ≡ row →
+pub begin-item : (s : Observed) (known : Known) (polls : ℕ) (o : Outside) (item : RoundItem) (items : List RoundItem) (row : Row) → ((scene : Scene) → may_begin scene (item ∷ items) ≡ true) → row_of o.tills known item ≡ row →
     Triple s s (InRound known polls o (item ∷ items)) (Pending (with_core known row.core) polls o row.calls (row.items ++ items))
 begin-item s known polls o item items row begins is = some-scene s s known polls o [] (item ∷ items) (Pending (with_core known row.core) polls o row.calls (row.items ++ items)) (λ scene.
     triple-known s (IsIn known polls o scene) (Owing scene [] (item ∷ items)) _ (λ f.
@@ -171,7 +171,7 @@ module _ (setup : Setup) (core : Core) (kept : List Record) (tills : List Till) 
     row = asked_row knows till (t.row till).as_read
 
     row-is : IsTillRow row core till wanted
-    row-is = (t.row till).row knows (record { name_is = ap (λ (g : Gateway). g.name) same; slots_is = ap (λ (g : Gateway). g.slots) same; kept_is = refl; core_is = refl; moment_is = refl })
+    row-is = (t.row till).row knows (record { name_is = ap (λ (g : Gateway). g.name) same; slots_is = ap (λ (g : Gateway). g.slots) same; line_is = ap (λ (g : Gateway). g.line) same; wait_is = ap (λ (g : Gateway). g.wait) same; kept_is = refl; core_is = refl; moment_is = refl })
 
     taken : (s : Observed) (items : List RoundItem) (calls : List OwedCall) → row.calls ≡ calls →
         Triple s s (Owes [] (decoded_items till (decode_frames old) ++ items)) (Owes calls (items_given till wanted ++ (decoded_items till (decode_frames new) ++ items)))
@@ -190,6 +190,12 @@ module _ (setup : Setup) (core : Core) (kept : List Record) (tills : List Till) 
       (s : Observed) (items : List RoundItem) → Triple s s (Owes [] (decoded_items till (decode_frames old) ++ items)) (Owes [] (Serve pt till header request ∷ (decoded_items till (decode_frames new) ++ items)))
   taken-begins gateway same till there pt header request results old new t s items =
       taken gateway same till there (given.Begins pt header request results) old new t s items [] (row-is gateway same till there (given.Begins pt header request results) old new t).calls_are
+
+  -- one that joins those that wait, or takes one out
+  pub taken-queues : (gateway : Gateway) → gateway_of setup ≡ gateway → (till : ℕ) → IsThere till tills → (pt : ℕ) (header : Header) (request : SaleRequest) (old new : List ℕ) → TakesMessage gateway kept core (moment_of now) (given.Queues pt header request) old new →
+      (s : Observed) (items : List RoundItem) → Triple s s (Owes [] (decoded_items till (decode_frames old) ++ items)) (Owes [] (Queue pt till header request ∷ (decoded_items till (decode_frames new) ++ items)))
+  taken-queues gateway same till there pt header request old new t s items =
+      taken gateway same till there (given.Queues pt header request) old new t s items [] (row-is gateway same till there (given.Queues pt header request) old new t).calls_are
 
   -- one that gets its reply
   pub taken-replied : (gateway : Gateway) → gateway_of setup ≡ gateway → (till : ℕ) → IsThere till tills → (reply : SaleReply) (old new : List ℕ) → TakesMessage gateway kept core (moment_of now) (given.Reply reply) old new →
@@ -229,10 +235,10 @@ same-well old new next s same spare well = record {
     slots = ap (λ (journal : JournalValue). journal.slots) same.journal ∙ well.records.slots ∙ ap (λ (gateway : Gateway). gateway.slots) (sym same.gateway);
     stands = subst (λ (journal : JournalValue). StandsFor journal s) (sym same.journal) well.records.stands;
   };
-  spare = subst (λ (core : Core). days_served core.terminals ≤ new.records.ledger.spare) (sym same.core) (enough next old.core old.records.ledger.spare new.records.ledger.spare spare well.spare);
+  spare = subst (λ (core : Core). memory_reserved core ≤ new.records.ledger.spare) (sym same.core) (enough next old.core old.records.ledger.spare new.records.ledger.spare spare well.spare);
 }
   where
-    enough : (next : Next) (core : Core) (before after : ℕ) → HasSpareAfter next core before after → days_served core.terminals ≤ before → days_served core.terminals ≤ after
+    enough : (next : Next) (core : Core) (before after : ℕ) → HasSpareAfter next core before after → memory_reserved core ≤ before → memory_reserved core ≤ after
     enough Incomplete core before after spare had = omega (arith, spare, had)
     enough (NextMessage wanted) core before after spare had = omega (arith, spare)
     enough NextUnframed core before after spare had = omega (arith, spare, had)

@@ -6,6 +6,7 @@ pub mod Keeping
 pub mod KeepingExample
 pub mod MidRound
 pub mod NextMessage
+pub mod Overdue
 pub mod RecordsOpening
 pub mod Round
 pub mod Rounds

@@ -1,5 +1,6 @@
 -- What the loop holds in a round: its tills, and its terminals beside the links of the log.
-use Rattle.std.specs.Prelude.{◌≡◌, ℕ, ◌+◌, ℤ, Bool, true, false, List, [], ◌∷◌, ◌++◌, length, zero, suc, slice_get, Option, Some, None}
+use Rattle.std.specs.Prelude.{◌≡◌, ℕ, ◌+◌, ℤ, Bool, true, false, List, [], ◌∷◌, ◌++◌, length, map, zero, suc, slice_get, Option, Some, None}
+use Rattle.gw_base.specs.declared.key.Key.{Key}
 use Rattle.gw_base.specs.declared.setup.Setup.{Setup}
 use Rattle.gw_site.specs.Outside.{Outside, outside_after, is_connected, heard_on}
 use Rattle.gw_site.specs.declared.turn.Turn.TheVariants.{HeardPt, Lost}
@@ -8,10 +9,10 @@ use Rattle.zvt_apdu.specs.Decode.{DecodedApdu, decode_apdu}
 use Rattle.zvt_apdu.specs.DecodeStream.{decode_apdus}
 use Rattle.gw_owes.specs.declared.terminal.Terminal.{Terminal}
 use Rattle.gw_owes.specs.Calls.{OwedCall}
-use Rattle.gw_owes.specs.Core.{Core}
+use Rattle.gw_owes.specs.Core.{Core, Wait}
 use Rattle.gw_owes.specs.Dialogues.{AllHaveDialogues}
-use Rattle.gw_owes.specs.Events.{pt_bytes_items}
-use Rattle.gw_owes.specs.Items.{RoundItem, LinkLost, Late, Due}
+use Rattle.gw_owes.specs.Events.{pt_bytes_items, waits_by_deadline}
+use Rattle.gw_owes.specs.Items.{RoundItem, LinkLost, Late, Overdue, Due}
 use Rattle.gw_owes.specs.Links.{is_linked}
 use Rattle.gw_rules.specs.View.{View}
 use Rattle.gw_dispatch.specs.Round.{Pending, HoldsTills, known_at}
@@ -87,6 +88,14 @@ abbrev pub each_terminal : ℕ → ℕ → (ℕ → RoundItem) → List RoundIte
 each_terminal number zero item = []
 each_terminal number (suc count) item = item number ∷ each_terminal (number + 1) count item
 
--- Inner: what may be due of so many terminals, while no request waits
-abbrev pub due_items : ℕ → List RoundItem
-due_items count = each_terminal 0 count Late ++ each_terminal 0 count Due
+-- Inner: an item for each of these keys, under which requests wait or have waited
+abbrev pub overdue_items : List Key → List RoundItem
+overdue_items keys = map Overdue keys
+
+-- Inner: what may be due of so many terminals, and of the requests under these keys
+abbrev pub due_items : ℕ → List Key → List RoundItem
+due_items count keys = each_terminal 0 count Late ++ (overdue_items keys ++ each_terminal 0 count Due)
+
+-- Inner: the keys of the requests that wait, by their deadlines
+abbrev pub keys_waiting : Core → List Key
+keys_waiting core = map (λ (wait : Wait). wait.key) (waits_by_deadline core.waits)

@@ -4,7 +4,7 @@ use Rattle.gw_base.specs.Moment.{moment_of}
 use Rattle.jrn_record.specs.declared.records.Record.{Record}
 use Rattle.sale_frame.specs.Grammar.{IsPayload, frame, IsIncompleteFrame, BeginsWithBadLength}
 use Rattle.gw_owes.specs.Core.{Core}
-use Rattle.gw_owes.specs.Days.{days_served}
+use Rattle.gw_owes.specs.Waits.{memory_reserved}
 use Rattle.gw_core.specs.ReplyOf.{IsAskedRow, IsGivenToBegin, IsGivenWithinLimits}
 use Rattle.gw_core.specs.declared.gateway.Gateway.{Gateway}
 use Rattle.gw_core.specs.declared.till.Given.{Given}
@@ -13,7 +13,7 @@ use Rattle.gw_dispatch.specs.declared.serving.Next.{Next}
 use Rattle.gw_dispatch.specs.declared.serving.Next.TheVariants.{Incomplete, Message, Unframed}
 use Rattle.gw_dispatch.specs.declared.tills.Till.{Till}
 
--- the first message was taken from the bytes held, and this is given to it: what is owed to it, or the request that begins at a terminal
+-- the first message was taken from the bytes held, and this is given to it: what is owed to it, or the request that begins at a terminal or waits
 pub record TakesMessage (gateway : Gateway) (kept : List Record) (core : Core) (moment : ℕ) (given : Given) (old new : List ℕ) : Type 0 where
   pub message : List ℕ
   pub payload : IsPayload message
@@ -34,8 +34,8 @@ IsThereWith Incomplete number tills = Unit {0}
 IsThereWith (Message given) number tills = IsThere number tills
 IsThereWith Unframed number tills = IsThere number tills
 
--- once a message was taken there is memory for a record that it begins, beside the Settled of each end of day that is served; else there is as much as before
+-- once a message was taken there is memory for a record that it begins or that is to wait, beside that for what is served or waits; else there is as much as before
 abbrev pub HasSpareAfter : Next → Core → ℕ → ℕ → Type 0
 HasSpareAfter Incomplete core old new = new ≡ old
-HasSpareAfter (Message given) core old new = days_served core.terminals + 1 ≤ new
+HasSpareAfter (Message given) core old new = memory_reserved core + 1 ≤ new
 HasSpareAfter Unframed core old new = new ≡ old

@@ -1,5 +1,6 @@
 -- What holds between rounds, as an event comes, and once it was handled.
 use Rattle.std.specs.Prelude.{◌≡◌, ℕ, ◌≤◌, ℤ, true, List, [], ◌++◌, length, Some, None, Result, Ok, Err}
+use Rattle.gw_base.specs.declared.key.Key.{Key}
 use Rattle.gw_base.specs.declared.setup.Setup.{Setup}
 use Rattle.gw_site.specs.Observed.{Observed}
 use Rattle.gw_site.specs.Outside.{Outside, outside_after, is_connected, heard_on}
@@ -15,7 +16,7 @@ use Rattle.gw_rules.specs.Stage.{Over, is_running}
 use Rattle.gw_rules.specs.Triple.{Owing, AtEvent}
 use Rattle.gw_rules.specs.View.{View}
 use Rattle.gw_dispatch.specs.RunState.{IsWell}
-use Rattle.gw_dispatch.specs.MidRound.{AllHear, AreLinked, AreReady, BeforePtChunk, BeforePtClosed, MidRound, due_items}
+use Rattle.gw_dispatch.specs.MidRound.{AllHear, AreLinked, AreReady, BeforePtChunk, BeforePtClosed, MidRound, due_items, keys_waiting}
 use Rattle.gw_dispatch.specs.Round.{HoldsTills, InRound, known_at}
 use Rattle.gw_dispatch.specs.Serving.{AfterFault}
 use Rattle.gw_dispatch.specs.Tills.{AreWaiting}
@@ -68,9 +69,9 @@ pub record IsHeldRun (setup : Setup) (dispatch : Dispatch) (polls : ℕ) (scene 
 abbrev pub IsBetweenRounds : Setup → Dispatch → ℕ → View → Type 0
 IsBetweenRounds setup dispatch polls v = (scene : Scene) × Owing scene [] [] v × IsHeldRun setup dispatch polls scene
 
--- Inner: the site was polled, and nothing of its event was handled yet; no request waits
+-- Inner: the site was polled, and nothing of its event was handled yet
 abbrev pub IsPolled : Setup → Dispatch → ℕ → ℤ → What → List ℕ → View → Type 0
-IsPolled setup dispatch polls now what buf v = (scene : Scene) × AtEvent scene now what buf v × IsHeldRun setup dispatch polls scene × (scene.core.waits ≡ [])
+IsPolled setup dispatch polls now what buf v = (scene : Scene) × AtEvent scene now what buf v × IsHeldRun setup dispatch polls scene
 
 -- ---- events
 
@@ -80,7 +81,7 @@ known_by setup dispatch now = known_at setup dispatch.state.core dispatch.state.
 
 -- Inner: what may be due after an event
 abbrev pub due_in : Dispatch → List RoundItem
-due_in dispatch = due_items (length dispatch.state.core.terminals)
+due_in dispatch = due_items (length dispatch.state.core.terminals) (keys_waiting dispatch.state.core)
 
 -- Inner: a till that is there has sent this chunk, and nothing of it was handled yet
 pub record BringsChunk (setup : Setup) (dispatch : Dispatch) (polls : ℕ) (now : ℤ) (till : ℕ) (chunk : List ℕ) (before : Outside) (v : View) : Type 0 where
@@ -114,9 +115,9 @@ BeforePtEnd setup dispatch polls now pt v = BeforePtClosed setup dispatch.state.
 abbrev pub IsHandling : Setup → Dispatch → ℕ → ℤ → List RoundItem → View → Type 0
 IsHandling setup dispatch polls now items v = MidRound setup dispatch.state.core dispatch.state.records.ledger.records dispatch.tills.list.items polls now (AllHear dispatch.readers.items) [] items v
 
--- Inner: what the event has brought was handled, and what may be due comes
+-- Inner: what the event has brought was handled, and what may be due comes, of the requests that waited as it came
 abbrev pub IsHandled : Setup → Dispatch → ℕ → ℤ → View → Type 0
-IsHandled setup dispatch polls now v = IsHandling setup dispatch polls now (due_in dispatch) v
+IsHandled setup dispatch polls now v = (keys : List Key) × IsHandling setup dispatch polls now (due_items (length dispatch.state.core.terminals) keys) v
 
 -- Inner: a till has opened, or bytes of one have come
 abbrev pub IsOfTill : What → Type 0

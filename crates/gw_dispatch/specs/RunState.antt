@@ -12,7 +12,9 @@ use Rattle.gw_owes.specs.Days.{days_served}
 use Rattle.gw_owes.specs.RecordLaws.{AreOfSetup, AreOthersInOrder, AreTerminalsInOrder, HasRoom, IsNumbered, memory_of, memory_taken}
 use Rattle.gw_owes.specs.TerminalLaws.{settings_of}
 use Rattle.gw_owes.specs.Terminals.{core_without}
-use Rattle.gw_core.specs.IsRow.{MayBeKept}
+use Rattle.gw_owes.specs.WaitingLaws.{AreWaitsInOrder}
+use Rattle.gw_owes.specs.Waits.{memory_reserved}
+use Rattle.gw_core.specs.IsRow.{MayBeKept, known_with}
 use Rattle.gw_core.specs.declared.gateway.Gateway.{Gateway}
 use Rattle.gw_rules.specs.Stage.{Broken}
 use Rattle.gw_rules.specs.View.{View}
@@ -23,9 +25,9 @@ use Rattle.gw_dispatch.specs.declared.records.Records.{Records}
 
 -- what a setup says of the gateway itself
 abbrev pub gateway_of : Setup → Gateway
-gateway_of setup = record { name = setup.name; slots = setup.slots }
+gateway_of setup = record { name = setup.name; slots = setup.slots; line = setup.line; wait = setup.wait }
 
--- what is remembered is in order with what is kept, in a gateway of some setup: a slot is left for the Outcome of each open key and for the Settled of each end of day that is served, and each terminal has the dialogue of its standing
+-- what is remembered is in order with what is kept, in a gateway of some setup: a slot is left for the Outcome of each open key and for what is served or waits, each terminal has the dialogue of its standing, and what waits may be begun once its terminal is ready
 pub record IsOrderly (gateway : Gateway) (kept : List Record) (core : Core) : Type 0 where
   pub setup : Setup
   pub gateway_is : gateway_of setup ≡ gateway
@@ -35,6 +37,7 @@ pub record IsOrderly (gateway : Gateway) (kept : List Record) (core : Core) : Ty
   pub numbered : IsNumbered core
   pub terminals : AreTerminalsInOrder kept core
   pub dialogues : AllHaveDialogues core
+  pub waits : (moment : ℕ) → AreWaitsInOrder (known_with setup kept core moment)
 
 -- the journal has just the ledger's records, and so many slots, of which one is left for the Outcome of each open key
 pub record LeavesRoom (slots : ℕ) (records : Records) : Type 0 where
@@ -48,18 +51,24 @@ pub record StandFor (gateway : Gateway) (records : Records) (observed : Observed
   pub slots : records.journal.slots ≡ gateway.slots
   pub stands : StandsFor records.journal observed
 
--- what a run holds is in order, its journal stands for the site, and its ledger has memory for the Settled of each end of day that is served
+-- what a run holds is in order, its journal stands for the site, and its ledger has memory for what is served or waits
 pub record IsWell (state : RunState) (observed : Observed) : Type 0 where
   pub order : IsOrderly state.gateway state.records.ledger.records state.core
   pub records : StandFor state.gateway state.records observed
-  pub spare : days_served state.core.terminals ≤ state.records.ledger.spare
+  pub spare : memory_reserved state.core ≤ state.records.ledger.spare
 
 -- ---- what stays
 
--- Inner: what is remembered stays in order with whatever is kept, the terminals' settings stay, no more ends of day are served, and nothing is requested of a device
+-- Inner: no more requests wait, and what waits stays in order
+pub record WaitsStay (old new : Core) : Type 0 where
+  pub few : length new.waits ≤ length old.waits
+  pub order : (setup : Setup) (kept : List Record) (moment : ℕ) → AreWaitsInOrder (known_with setup kept old moment) → AreWaitsInOrder (known_with setup kept new moment)
+
+-- Inner: what is remembered stays in order with whatever is kept, the terminals' settings stay, no more ends of day are served, no more requests wait, and nothing is requested of a device
 pub record StaysInOrder (old new : Core) : Type 0 where
   pub settings : settings_of new ≡ settings_of old
   pub days : days_served new.terminals ≤ days_served old.terminals
+  pub waits : WaitsStay old new
   pub device_requests : new.device_requests ≡ old.device_requests
   pub order : (kept : List Record) → AreTerminalsInOrder kept old → AreTerminalsInOrder kept new
 
@@ -71,6 +80,7 @@ ForgetsAny old new = (new ≡ old) ⊎ ((till : ℕ) × (new ≡ core_without ol
 pub record OthersStayInOrder (pt : ℕ) (old new : Core) : Type 0 where
   pub settings : settings_of new ≡ settings_of old
   pub days : days_served new.terminals ≤ days_served old.terminals
+  pub waits : WaitsStay old new
   pub device_requests : new.device_requests ≡ old.device_requests
   pub order : (kept : List Record) → AreOthersInOrder pt kept old → AreTerminalsInOrder kept new
 

@@ -30,7 +30,7 @@ use crate::tills::{Tills, drop_till, index_of, open_till};
 use gw_base::Setup;
 use gw_bytes::{LONGEST_CHUNK, MOST_TILLS};
 use gw_core::{Core, Gateway};
-use gw_owes::law_records;
+use gw_owes::{law_records, law_waits};
 use gw_site::{Failed, Polled, Site, What};
 use sale_reply::Out;
 use std::alloc::{AllocError, Global};
@@ -84,6 +84,7 @@ impl Dispatch {
         ensures gateway { IfOk result (λ dispatch. gateway_of setup.now ≡ dispatch.state.gateway) }
     {
         law_records();
+        law_waits();
         records.ledger.law_folded();
         let out = Out::new(alloc)?;
         let core = Core::open(alloc, setup)?;
@@ -91,6 +92,8 @@ impl Dispatch {
         let gateway = Gateway {
             name: setup.name,
             slots: setup.slots,
+            line: setup.line,
+            wait: setup.wait,
         };
         Ok(Dispatch {
             state: RunState {

@@ -1,13 +1,13 @@
-//! The messages of a terminal: each is acknowledged or refused, and then taken.
-ghost use Rattle.std.specs.Prelude.{◌≡◌, ◌<◌, ◌≤◌, ◌++◌, ◌∷◌, [], ℕ, List, length, slice_get, Ok, IfOk, OnOk, OnErr};
+//! The messages of a terminal: each is acknowledged or refused, and then taken; and what waits for the terminal is begun once it is ready.
+ghost use Rattle.std.specs.Prelude.{◌≡◌, ◌<◌, ◌≤◌, ◌++◌, ◌∷◌, [], ℕ, true, List, length, slice_get, Ok, IfOk, OnOk, OnErr};
 ghost use Rattle.gw_base.specs.declared.setup.Setup.{Setup};
 ghost use Rattle.zvt_apdu.specs.Grammar.{ApduValue, longest_apdu_data, value_of as apdu_value};
 ghost use Rattle.zvt_msg.specs.Message.{value_of as message_value};
 ghost use Rattle.zvt_msg.specs.MessageDecode.{decode_pt_message};
 ghost use Rattle.gw_owes.specs.Events.{apdu_items};
-ghost use Rattle.gw_owes.specs.Items.{RoundItem, Greet, Handle};
+ghost use Rattle.gw_owes.specs.Items.{RoundItem, Greet, Handle, NextWaiting};
 ghost use Rattle.gw_rules.specs.Triple.{Triple};
-ghost use Rattle.gw_core.specs.IsRow.{HasFewLines};
+ghost use Rattle.gw_core.specs.IsRow.{HasFewLines, next_items};
 ghost use Rattle.gw_dispatch.specs.RunState.{IsWell, StaysInOrder, UnlessBroken};
 ghost use Rattle.gw_dispatch.specs.Growth.{HasGoneOn, GoesOnBesideDisk, HasBroken};
 ghost use Rattle.gw_dispatch.specs.MidRound.{AreHeard, HeldRound, MidRound, is_linked_in};
@@ -19,7 +19,7 @@ use crate::perform::{perform, reject};
 use crate::run_state::RunState;
 use crate::tills::Tills;
 use gw_core::Core;
-use gw_owes::law_records;
+use gw_owes::{law_records, law_waits};
 use gw_site::{Failed, Site};
 use zvt_apdu::Apdu;
 use zvt_msg::{PtMessage, law_read_fits, read_pt};
@@ -72,6 +72,7 @@ fn handle<S: Site>(
     ensures failed { OnErr result (HasBroken (S.observed site.old) (S.observed site.new)) }
 {
     law_records();
+    law_waits();
     let acts = state.core.on_pt(&state.records.ledger, pt, message, now);
     // The record first: what the call says is only true once it is kept.
     match state.records.keep_wanted(site, &acts.keep) {
@@ -82,8 +83,70 @@ fn handle<S: Site>(
     Ok(())
 }
 
-/// Handles an APDU of a terminal: it is acknowledged or refused, and then taken; one outside the grammar cuts the terminal. False
-/// where the terminal isn't linked from there on.
+/// Looks at the request that has waited longest for a terminal, where that is ready: it is begun, or is refused by what has become of its
+/// original or of the trace numbers. True where it was refused, and the next one is to be looked at.
+fn look_at_next<S: Site>(
+    state: &mut RunState,
+    tills: &mut Tills,
+    site: &mut S,
+    pt: u16,
+    now: i64,
+) -> Result<bool, Failed>
+    requires there { pt < length state.old.core.terminals }
+    requires well { IsWell state.old (S.observed site.old) }
+    ensures triple { (setup : Setup) (polls : ℕ) (heard : ℕ → List ℕ) (items : List RoundItem) → Triple (S.observed site.old) (S.observed site.new)
+        (HeldRound setup state.old tills.old.list.items polls now (AreHeard heard) [] (NextWaiting pt ∷ items))
+        (UnlessBroken result (λ more. HeldRound setup state.new tills.new.list.items polls now (AreHeard heard) [] (next_items pt more ++ items))) }
+    ensures less { result ≡ Ok true → length state.new.core.waits < length state.old.core.waits }
+    ensures well { OnOk result (IsWell state.new (S.observed site.new)) }
+    ensures gateway { state.new.gateway ≡ state.old.gateway }
+    ensures count { length state.new.core.terminals ≡ length state.old.core.terminals }
+    ensures still { AllStillHold tills.old.list.items tills.new.list.items }
+    ensures goes_on { HasGoneOn (S.observed site.old) (S.observed site.new) }
+    ensures failed { OnErr result (HasBroken (S.observed site.old) (S.observed site.new)) }
+{
+    law_records();
+    law_waits();
+    let next = state.core.next(&state.records.ledger, pt, now);
+    match state.records.keep_wanted(site, &next.0.keep) {
+        Ok(()) => {}
+        Err(Failed) => return Err(Failed),
+    }
+    perform(&mut state.core, tills, site, pt, &next.0.act, now);
+    Ok(next.1)
+}
+
+/// Begins what has waited longest for a terminal that is ready, once those before it were refused that can't be begun any more.
+fn begin_waiting<S: Site>(
+    state: &mut RunState,
+    tills: &mut Tills,
+    site: &mut S,
+    pt: u16,
+    now: i64,
+) -> Result<(), Failed>
+    requires there { pt < length state.old.core.terminals }
+    requires well { IsWell state.old (S.observed site.old) }
+    ensures triple { (setup : Setup) (polls : ℕ) (heard : ℕ → List ℕ) (items : List RoundItem) → Triple (S.observed site.old) (S.observed site.new)
+        (HeldRound setup state.old tills.old.list.items polls now (AreHeard heard) [] (NextWaiting pt ∷ items))
+        (UnlessBroken result (λ done. HeldRound setup state.new tills.new.list.items polls now (AreHeard heard) [] items)) }
+    ensures well { OnOk result (IsWell state.new (S.observed site.new)) }
+    ensures gateway { state.new.gateway ≡ state.old.gateway }
+    ensures count { length state.new.core.terminals ≡ length state.old.core.terminals }
+    ensures still { AllStillHold tills.old.list.items tills.new.list.items }
+    ensures goes_on { HasGoneOn (S.observed site.old) (S.observed site.new) }
+    ensures failed { OnErr result (HasBroken (S.observed site.old) (S.observed site.new)) }
+{
+    loop {
+        match look_at_next(state, tills, site, pt, now) {
+            Ok(true) => {}
+            Ok(false) => return Ok(()),
+            Err(Failed) => return Err(Failed),
+        }
+    }
+}
+
+/// Handles an APDU of a terminal: it is acknowledged or refused, and then taken, after which what waits for the terminal may begin; one
+/// outside the grammar cuts the terminal. False where the terminal isn't linked from there on.
 pub(crate) fn on_apdu<S: Site>(
     state: &mut RunState,
     tills: &mut Tills,
@@ -117,6 +180,10 @@ pub(crate) fn on_apdu<S: Site>(
     greet(&mut state.core, tills, site, pt, &message, now);
     // Where the acknowledgement wasn't taken the terminal was cut, and nothing follows.
     match handle(state, tills, site, pt, &message, now) {
+        Ok(()) => {}
+        Err(Failed) => return Err(Failed),
+    }
+    match begin_waiting(state, tills, site, pt, now) {
         Ok(()) => Ok(state.core.is_linked(pt)),
         Err(Failed) => Err(Failed),
     }

@@ -13,7 +13,7 @@ ghost use Rattle.gw_owes.specs.RecordLaws.{AreTerminalsInOrder, AreOthersInOrder
 ghost use Rattle.gw_owes.specs.TerminalLaws.{owes_cut, settings_of};
 ghost use Rattle.gw_core.specs.IsRow.{AreCallsWith, IsWantedAt, IsWritable};
 ghost use Rattle.gw_rules.specs.Triple.{Triple};
-ghost use Rattle.gw_dispatch.specs.RunState.{ForgetsAny, OthersStayInOrder, StaysInOrder};
+ghost use Rattle.gw_dispatch.specs.RunState.{ForgetsAny, OthersStayInOrder, StaysInOrder, WaitsStay};
 ghost use Rattle.gw_dispatch.specs.Growth.{GoesOnBesideDisk};
 ghost use Rattle.gw_dispatch.specs.MidRound.{AreHeard, MidRound, is_linked_in};
 ghost use Rattle.gw_dispatch.specs.Tills.{AllStillHold};
@@ -170,6 +170,7 @@ pub(crate) fn perform<S: Site>(
     ensures dialogues { AllHaveDialogues core.new }
     ensures settings { settings_of core.new ≡ settings_of core.old }
     ensures days { days_served core.new.terminals ≤ days_served core.old.terminals }
+    ensures waits { WaitsStay core.old core.new }
     ensures device_requests { core.new.device_requests ≡ core.old.device_requests }
     ensures order { (kept : List Record) → AreOthersInOrder pt kept core.old → (owes_cut (calls_wanted wanted.now) ≡ false → AreTerminalsInOrder kept core.old) → AreTerminalsInOrder kept core.new }
     ensures count { length core.new.terminals ≡ length core.old.terminals }

@@ -1,13 +1,16 @@
 //! The terminals of a run: a reader of APDUs for each, and what their connections bring.
-ghost use Rattle.std.specs.Prelude.{◌≡◌, ◌<◌, ◌≤◌, ◌++◌, ◌∷◌, ℕ, length, List, [], IfOk, OnOk, OnErr, replicate};
+ghost use Rattle.std.specs.Prelude.{◌≡◌, ◌<◌, ◌≤◌, ◌++◌, ◌∷◌, ℕ, true, length, List, [], IfOk, OnOk, OnErr, replicate};
+ghost use Rattle.gw_base.specs.declared.key.Key.{Key};
 ghost use Rattle.gw_base.specs.declared.setup.Setup.{Setup as TheSetup};
 ghost use Rattle.jrn_record.specs.declared.records.Record.{Record};
+ghost use Rattle.gw_owes.specs.Dialogues.{AllHaveDialogues};
 ghost use Rattle.gw_owes.specs.Items.{RoundItem, Late, Due};
 ghost use Rattle.gw_rules.specs.Triple.{Triple};
 ghost use Rattle.gw_dispatch.specs.Apdus.{items_held, items_left, IsRest, LeavesApdus};
 ghost use Rattle.gw_dispatch.specs.RunState.{IsWell, StaysInOrder, UnlessBroken};
 ghost use Rattle.gw_dispatch.specs.Growth.{HasGoneOn, GoesOnBesideDisk, HasBroken};
 ghost use Rattle.gw_dispatch.specs.MidRound.{AllHear, AreHeard, AreReady, BeforePtChunk, BeforePtClosed, HeldRound, MidRound, due_items, each_terminal};
+ghost use Rattle.gw_dispatch.specs.Overdue.{AfterOverdue, MayBeOverdue, overdue_keys};
 ghost use Rattle.gw_dispatch.specs.Tills.{AllStillHold};
 
 use crate::messages::on_apdu;
@@ -225,7 +228,47 @@ fn link_all_due<S: Site>(
     }
 }
 
-/// Handles what may be due: first the terminals' silences, then their links.
+/// Refuses the first of the requests, by their deadlines, that have waited for too long: it waits no longer, and its till gets the Failure.
+/// False where there is none.
+fn refuse_overdue<S: Site>(core: &mut Core, tills: &mut Tills, site: &mut S, now: i64) -> bool
+    ensures triple { (setup : TheSetup) (kept : List Record) (polls : ℕ) (heard : ℕ → List ℕ) (items : List RoundItem) → overdue_keys items ≡ [] → Triple (S.observed site.old) (S.observed site.new)
+        (MayBeOverdue setup core.old kept tills.old.list.items polls now (AreHeard heard) items)
+        (AfterOverdue result setup core.new kept tills.new.list.items polls now (AreHeard heard) items) }
+    ensures less { result ≡ true → length core.new.waits < length core.old.waits }
+    ensures dialogues { AllHaveDialogues core.old → AllHaveDialogues core.new }
+    ensures order { StaysInOrder core.old core.new }
+    ensures count { length core.new.terminals ≡ length core.old.terminals }
+    ensures still { AllStillHold tills.old.list.items tills.new.list.items }
+    ensures goes_on { GoesOnBesideDisk (S.observed site.old) (S.observed site.new) }
+{
+    let owed = core.overdue(now);
+    let refused = owed.is_some();
+    send_owed(core, tills, site, &owed);
+    refused
+}
+
+/// Refuses the requests that have waited for too long.
+fn refuse_all_overdue<S: Site>(
+    core: &mut Core,
+    tills: &mut Tills,
+    readers: &[ApduReader],
+    site: &mut S,
+    now: i64,
+)
+    requires ready { AreReady core.old readers.now }
+    ensures triple { (setup : TheSetup) (kept : List Record) (polls : ℕ) (items : List RoundItem) → overdue_keys items ≡ [] → Triple (S.observed site.old) (S.observed site.new)
+        (MayBeOverdue setup core.old kept tills.old.list.items polls now (AllHear readers.now) items)
+        (MidRound setup core.new kept tills.new.list.items polls now (AllHear readers.now) [] items) }
+    ensures ready { AreReady core.new readers.now }
+    ensures order { StaysInOrder core.old core.new }
+    ensures count { length core.new.terminals ≡ length core.old.terminals }
+    ensures still { AllStillHold tills.old.list.items tills.new.list.items }
+    ensures goes_on { GoesOnBesideDisk (S.observed site.old) (S.observed site.new) }
+{
+    while refuse_overdue(core, tills, site, now) {}
+}
+
+/// Handles what may be due: first the terminals' silences, then the requests that have waited for too long, then the terminals' links.
 pub(crate) fn on_due<S: Site>(
     core: &mut Core,
     tills: &mut Tills,
@@ -234,8 +277,8 @@ pub(crate) fn on_due<S: Site>(
     now: i64,
 )
     requires ready { AreReady core.old readers.old }
-    ensures triple { (setup : TheSetup) (kept : List Record) (polls : ℕ) → Triple (S.observed site.old) (S.observed site.new)
-        (MidRound setup core.old kept tills.old.list.items polls now (AllHear readers.old) [] (due_items (length core.old.terminals)))
+    ensures triple { (setup : TheSetup) (kept : List Record) (polls : ℕ) (keys : List Key) → Triple (S.observed site.old) (S.observed site.new)
+        (MidRound setup core.old kept tills.old.list.items polls now (AllHear readers.old) [] (due_items (length core.old.terminals) keys))
         (MidRound setup core.new kept tills.new.list.items polls now (AllHear readers.new) [] []) }
     ensures ready { AreReady core.new readers.new }
     ensures order { StaysInOrder core.old core.new }
@@ -244,5 +287,6 @@ pub(crate) fn on_due<S: Site>(
     ensures goes_on { GoesOnBesideDisk (S.observed site.old) (S.observed site.new) }
 {
     cut_late(core, tills, readers, site, now);
+    refuse_all_overdue(core, tills, readers, site, now);
     link_all_due(core, tills, readers, site, now);
 }

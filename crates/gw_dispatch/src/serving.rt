@@ -1,12 +1,12 @@
-//! What a till's bytes bring: each message gets its reply, or begins at a terminal, and bytes that begin no frame the cut of the connection.
+//! What a till's bytes bring: each message gets its reply, begins at a terminal or waits for one, and bytes that begin no frame the cut of the connection.
 ghost use Rattle.std.specs.Prelude.{◌≡◌, ◌+◌, ◌<◌, ◌≤◌, ◌++◌, ◌∷◌, [], ℕ, true, false, List, length, map, IfOk, Ok, Err, OnOk, OnErr};
 ghost use Rattle.gw_base.specs.Moment.{moment_of};
 ghost use Rattle.gw_base.specs.declared.setup.Setup.{Setup};
 ghost use Rattle.sale_frame.specs.Grammar.{IsIncompleteFrame};
-ghost use Rattle.gw_owes.specs.Days.{days_served};
-ghost use Rattle.gw_owes.specs.Items.{RoundItem, Serve};
+ghost use Rattle.gw_owes.specs.Items.{RoundItem, Queue, Serve};
+ghost use Rattle.gw_owes.specs.Waits.{memory_reserved};
 ghost use Rattle.gw_rules.specs.Triple.{Triple};
-ghost use Rattle.gw_core.specs.ReplyOf.{ArePrepared, BeginsAt};
+ghost use Rattle.gw_core.specs.ReplyOf.{ArePrepared, BeginsAt, QueuesAt};
 ghost use Rattle.gw_dispatch.specs.RunState.{HoldsSame, IsWell, UnlessBroken, gateway_of};
 ghost use Rattle.gw_dispatch.specs.Growth.{HasGoneOn, HasBroken};
 ghost use Rattle.gw_dispatch.specs.MidRound.{AreHeard, HeldRound};
@@ -16,11 +16,11 @@ ghost use Rattle.gw_dispatch.specs.Tills.{OthersStillHold, AllStillHold, bytes_h
 ghost use Rattle.gw_dispatch.specs.declared.fault.TurnFault.{TurnFault as TheFault};
 
 use crate::fault::TurnFault;
-use crate::perform::perform;
+use crate::perform::{perform, send_owed};
 use crate::run_state::RunState;
 use crate::tills::{Tills, cut_till, deliver, index_of};
 use gw_core::Given;
-use gw_owes::law_records;
+use gw_owes::{law_records, law_waits};
 use gw_site::{Failed, Site};
 use sale_frame::FrameReader;
 use sale_reply::OutputResults;
@@ -39,7 +39,7 @@ pub(crate) enum Next {
 }
 
 /// What the first bytes of a reader are, and what is wanted where they are a message. Before a message is taken there is
-/// memory in the ledger for what it may begin.
+/// memory in the ledger for what it may begin, at once or once it has waited.
 fn take_message(
     alloc: Global,
     state: &mut RunState,
@@ -54,9 +54,9 @@ fn take_message(
         Err(_) => Ok(Next::Unframed),
         Ok(None) => Ok(Next::Incomplete),
         Ok(Some(message)) => {
-            // One for what the message may begin, and one for each end of day that is served.
-            let days = usize::from(state.core.days_served());
-            state.records.ledger.reserve(alloc, days + 1)?;
+            // One for what the message may begin, and one each for what is served or waits.
+            let reserved = state.core.memory_reserved();
+            state.records.ledger.reserve(alloc, reserved + 1)?;
             let given = state
                 .core
                 .on_till(alloc, &state.gateway, &state.records.ledger, message, now)?;
@@ -103,7 +103,7 @@ fn begin<S: Site>(
     requires well { IsWell state.old (S.observed site.old) }
     requires begins { BeginsAt state.old.gateway state.old.records.ledger.records state.old.core (moment_of now) pt header.now request.now }
     requires prepared { ArePrepared request.now results }
-    requires spare { days_served state.old.core.terminals + 1 ≤ state.old.records.ledger.spare }
+    requires spare { memory_reserved state.old.core + 1 ≤ state.old.records.ledger.spare }
     ensures triple { (setup : Setup) (polls : ℕ) (heard : ℕ → List ℕ) (items : List RoundItem) → gateway_of setup ≡ state.old.gateway → Triple (S.observed site.old) (S.observed site.new)
         (HeldRound setup state.old tills.old.list.items polls now (AreHeard heard) [] (Serve pt till header.now request.now ∷ items))
         (UnlessBroken result (λ done. HeldRound setup state.new tills.new.list.items polls now (AreHeard heard) [] items)) }
@@ -115,6 +115,7 @@ fn begin<S: Site>(
     ensures failed { OnErr result (HasBroken (S.observed site.old) (S.observed site.new)) }
 {
     law_records();
+    law_waits();
     let gateway = state.gateway;
     let acts = state.core.begin(
         &gateway,
@@ -133,6 +134,51 @@ fn begin<S: Site>(
     }
     perform(&mut state.core, tills, site, pt, &acts.act, now);
     Ok(())
+}
+
+/// A request of a till joins those that wait for its terminal, where nothing is owed for it yet; by an Abort the one that it names waits no
+/// longer, and its till gets the Failure.
+fn queue<S: Site>(
+    state: &mut RunState,
+    tills: &mut Tills,
+    site: &mut S,
+    pt: u16,
+    till: u64,
+    header: Header,
+    request: SaleRequest,
+    now: i64,
+) -> Result<(), AllocError>
+    requires well { IsWell state.old (S.observed site.old) }
+    requires queues { QueuesAt state.old.gateway state.old.records.ledger.records state.old.core (moment_of now) pt header request }
+    requires spare { memory_reserved state.old.core + 1 ≤ state.old.records.ledger.spare }
+    ensures triple { (setup : Setup) (polls : ℕ) (heard : ℕ → List ℕ) (items : List RoundItem) → gateway_of setup ≡ state.old.gateway → OnOk result (Triple (S.observed site.old) (S.observed site.new)
+        (HeldRound setup state.old tills.old.list.items polls now (AreHeard heard) [] (Queue pt till header request ∷ items))
+        (HeldRound setup state.new tills.new.list.items polls now (AreHeard heard) [] items)) }
+    ensures untouched { OnErr result (S.observed site.new ≡ S.observed site.old) }
+    ensures well { OnOk result (IsWell state.new (S.observed site.new)) }
+    ensures gateway { state.new.gateway ≡ state.old.gateway }
+    ensures count { length state.new.core.terminals ≡ length state.old.core.terminals }
+    ensures still { AllStillHold tills.old.list.items tills.new.list.items }
+    ensures goes_on { HasGoneOn (S.observed site.old) (S.observed site.new) }
+{
+    law_records();
+    law_waits();
+    let gateway = state.gateway;
+    match state.core.queue(
+        &gateway,
+        &state.records.ledger,
+        pt,
+        till,
+        header,
+        request,
+        now,
+    ) {
+        Ok(owed) => {
+            send_owed(&mut state.core, tills, site, &owed);
+            Ok(())
+        }
+        Err(AllocError) => Err(AllocError),
+    }
 }
 
 /// Serves what is first in a till's reader. False where less than a frame waits there, or the till was cut.
@@ -182,6 +228,18 @@ fn serve_next<S: Site>(
         ) {
             Ok(()) => Ok(true),
             Err(Failed) => Err(TurnFault::Disk),
+        },
+        Ok(
+            Next::Message(
+                Given::Queues {
+                    pt,
+                    header,
+                    request,
+                },
+            ),
+        ) => match queue(state, tills, site, pt, till, header, request, now) {
+            Ok(()) => Ok(true),
+            Err(AllocError) => Err(TurnFault::Memory),
         },
     }
 }

@@ -1,7 +1,14 @@
 -- Closed examples of the orders: five requests of two tills at two terminals, two pairs of them with equal deadlines.
 use Rattle.std.specs.Prelude.{◌≡◌, ℕ, ℤ, pos, negsuc, List, [], ◌∷◌, length, Some, None, map, refl, codes}
+use Rattle.sale_values.specs.declared.header.Header.{Header}
+use Rattle.sale_values.specs.declared.names.Class.TheVariants as classes
+use Rattle.sale_values.specs.declared.names.Kind.TheVariants as kinds
 use Rattle.sale_values.specs.declared.request.SaleRequest.TheVariants.{Diagnosis}
 use Rattle.gw_links.specs.Waiting.{Waiting, item_of, without_request, of_seat, at_terminal, later_than, by_deadline, due_at, first_id}
+
+-- the header of a Diagnosis
+abbrev header : Header
+header = record { class = classes.Service; category = codes "Diagnosis"; kind = kinds.Request; service = Some (codes "1"); device = None; sale = codes "S"; poi = codes "T" }
 
 -- a request under an id, of the till at a seat, at a terminal, with a deadline
 abbrev waits : ℕ → ℕ → ℕ → ℤ → Waiting
@@ -13,6 +20,7 @@ waits id seat terminal deadline = record {
     seat = seat;
     terminal = terminal;
     deadline = deadline;
+    header = header;
     request = Diagnosis;
   };
 }

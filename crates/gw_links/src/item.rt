@@ -4,7 +4,7 @@ ghost use Rattle.std.specs.Ordering.{is_eq};
 ghost use Rattle.gw_base.specs.Key.{key_cmp};
 
 use gw_base::{Key, law_keys};
-use sale_values::SaleRequest;
+use sale_values::{Header, SaleRequest};
 use std::marker::Model;
 
 /// A request of a till that waits for its terminal.
@@ -20,6 +20,8 @@ pub struct Item {
     pub terminal: u16,
     /// The moment from which on the till gets its reply without the terminal.
     pub deadline: i64,
+    /// Its header, which its replies are written for.
+    pub header: Header,
     /// What is asked.
     pub request: SaleRequest,
 }

@@ -4,7 +4,7 @@ ghost use Rattle.gw_links.specs.Waiting.{item_of, without_request};
 
 use crate::{Item, LineId, Lines, Steps};
 use gw_base::{Ident, Key};
-use sale_values::SaleRequest;
+use sale_values::{Class, Header, Kind, SaleRequest};
 use std::marker::Brand;
 use std::sync::ledger::{Blank, Ledger};
 use std::test::Fail;
@@ -21,6 +21,15 @@ fn item(service: &[u8], seat: u16, terminal: u16, deadline: i64) -> Option<Item>
         seat,
         terminal,
         deadline,
+        header: Header {
+            class: Class::Service,
+            category: Ident::of(b"Diagnosis")?,
+            kind: Kind::Request,
+            service: Some(key.service),
+            device: None,
+            sale: key.sale,
+            poi: key.poi,
+        },
         request: SaleRequest::Diagnosis,
     })
 }

@@ -27,7 +27,7 @@ use Rattle.gw_owes.specs.Deadlines.{is_late, is_due, late_row, due_row}
 use Rattle.gw_owes.specs.Greeting.{greeting, sending_calls, greet_decoded, oversized_row}
 use Rattle.gw_owes.specs.Displays.{serving_display}
 use Rattle.gw_owes.specs.Handling.{meaning_at, taking, registering, enquiring, serving, consequence, taken_row, handle_row}
-use Rattle.gw_owes.specs.Items.{RoundItem, Crowded, Message, Asked, Unframed, Gone, Greet, Handle, Serve, NextWaiting, Oversized, LinkLost, Late, Overdue, Due}
+use Rattle.gw_owes.specs.Items.{RoundItem, Crowded, Message, Asked, Unframed, Gone, Greet, Handle, Serve, Queue, NextWaiting, Oversized, LinkLost, Late, Overdue, Due}
 use Rattle.gw_owes.specs.Links.{is_linked, LinkIsMade, LinkHasFailed, LinkIsLost, cutting}
 use Rattle.gw_owes.specs.Reconciliations.{settled_of, reply_to_settled, serving_day}
 use Rattle.gw_owes.specs.Reports.{Report, on_record, least_against, least_reported, standing_reported, outcome_reported, report_of_open, report_against}
@@ -38,6 +38,7 @@ use Rattle.gw_owes.specs.TerminalRows.{terminal_of, terminal_row, is_link_lost}
 use Rattle.gw_owes.specs.Terminals.{terminal_at, of_terminal, terminal_becomes, with_terminal, registers, unlinks}
 use Rattle.gw_owes.proofs.HandlingLemmas.{by-where, each-terminal, each-linked, taken-cases, each-handled, handled-is, means-taken, reported-leads}
 use Rattle.gw_owes.proofs.PaymentLawLemmas.{reply-keeps}
+use Rattle.gw_owes.proofs.NextLemmas.{each-next, known_without}
 use Rattle.gw_owes.proofs.PaymentLemmas.{each-served}
 use Rattle.gw_owes.proofs.RowLemmas.{reply-commands}
 use Rattle.gw_owes.proofs.SetLemmas.{new-is-there, same-some}
@@ -272,6 +273,16 @@ serve-none known number till header request was =
       displays = λ terminal last outputs command at. becomes-none known number terminal _ at.found (λ before reported e. cc);
     })
 
+next-none : (known : Known) (number : ℕ) → WasNone known number → NoneAside number (terminal_row known (NextWaiting number))
+next-none known number was =
+    each-next (NoneAside number) known number (record {
+      none = was;
+      refused = λ terminal last wait condition first is before reported there. was before reported (record { terminal = there.terminal; found = there.found; standing_is = there.standing_is });
+      begins = λ terminal last wait asking at. becomes-none (known_without known wait) number terminal _ at.first.found (λ before reported e. cc);
+      day = λ terminal last wait at. becomes-none (known_without known wait) number terminal _ at.first.found (λ before reported e. cc);
+      left = λ terminal last wait first before reported there. was before reported (record { terminal = there.terminal; found = there.found; standing_is = there.standing_is });
+    })
+
 late-none : (known : Known) (number : ℕ) → WasNone known number → NoneAside number (late_row known number)
 late-none known number was = each-terminal (NoneAside number) known number (λ terminal. owing_where (is_late known.moment terminal.talk) known (cutting known number)) was
     (λ terminal found. by-where (NoneAside number) known (cutting known number) (is_late known.moment terminal.talk) was (λ late. was))
@@ -295,7 +306,9 @@ each-aside-has-cause known (Handle at apdu) number before reported about was a =
     (handle-aside known number apdu was before reported (subst (λ (n : ℕ). IsAsideAt (terminal_row known (Handle n apdu)).core number before reported) (same-number at number about) a))
 each-aside-has-cause known (Serve at till header request) number before reported about was a =
     absurd (serve-none known number till header request was before reported (subst (λ (n : ℕ). IsAsideAt (terminal_row known (Serve n till header request)).core number before reported) (same-number at number about) a))
-each-aside-has-cause known (NextWaiting at) number before reported about was a = absurd (was before reported a)
+each-aside-has-cause known (Queue at till header request) number before reported about was a = absurd (was before reported a)
+each-aside-has-cause known (NextWaiting at) number before reported about was a =
+    absurd (next-none known number was before reported (subst (λ (n : ℕ). IsAsideAt (terminal_row known (NextWaiting n)).core number before reported) (same-number at number about) a))
 each-aside-has-cause known (Oversized at) number before reported about was a =
     absurd (each-linked (NoneAside number) known number (λ terminal. cutting known number) was (λ terminal found linked. was) before reported (subst (λ (n : ℕ). IsAsideAt (terminal_row known (Oversized n)).core number before reported) (same-number at number about) a))
 each-aside-has-cause known (LinkLost at) number before reported about was a = absurd (lost-none known number was before reported (subst (λ (n : ℕ). IsAsideAt (terminal_row known (LinkLost n)).core number before reported) (same-number at number about) a))
@@ -440,6 +453,17 @@ serve-stays known number till header request before reported was =
       displays = λ terminal last outputs command at. absurd (ready-apart known number before reported was terminal last at.found at.standing_is);
     })
 
+-- nothing that waits is begun or refused
+next-stays : (known : Known) (number before reported : ℕ) → IsAsideAt known.core number before reported → IsStillAside known (NextWaiting number) number before reported (terminal_row known (NextWaiting number))
+next-stays known number before reported was =
+    each-next (IsStillAside known (NextWaiting number) number before reported) known number (record {
+      none = idle-aside known _ number before reported was;
+      refused = λ terminal last wait condition first is. absurd (ready-apart known number before reported was terminal last first.found first.standing_is);
+      begins = λ terminal last wait asking at. absurd (ready-apart known number before reported was terminal last at.first.found at.first.standing_is);
+      day = λ terminal last wait at. absurd (ready-apart known number before reported was terminal last at.first.found at.first.standing_is);
+      left = λ terminal last wait first. absurd (ready-apart known number before reported was terminal last first.found first.standing_is);
+    })
+
 -- so with each item
 item-stays : (known : Known) (item : RoundItem) (number before reported : ℕ) → terminal_of item ≡ Some number → is_link_lost item ≡ false → IsAsideAt known.core number before reported
     → IsStillAside known item number before reported (terminal_row known item)
@@ -453,7 +477,9 @@ item-stays known (Handle at apdu) number before reported about no_loss was =
     subst (λ (n : ℕ). IsStillAside known (Handle n apdu) number before reported (handle_row known n apdu)) (sym (same-number at number about)) (handle-stays known (Handle number apdu) number before reported was apdu)
 item-stays known (Serve at till header request) number before reported about no_loss was =
     subst (λ (n : ℕ). IsStillAside known (Serve n till header request) number before reported (terminal_row known (Serve n till header request))) (sym (same-number at number about)) (serve-stays known number till header request before reported was)
-item-stays known (NextWaiting at) number before reported about no_loss was = idle-aside known _ number before reported was
+item-stays known (Queue at till header request) number before reported about no_loss was = idle-aside known _ number before reported was
+item-stays known (NextWaiting at) number before reported about no_loss was =
+    subst (λ (n : ℕ). IsStillAside known (NextWaiting n) number before reported (terminal_row known (NextWaiting n))) (sym (same-number at number about)) (next-stays known number before reported was)
 item-stays known (Oversized at) number before reported about no_loss was = oversized-stays known _ number before reported was at
 item-stays known (LinkLost at) number before reported about no_loss was = absurd cc
 item-stays known (Late at) number before reported about no_loss was = late-stays known _ number before reported was at

@@ -7,6 +7,7 @@ use Rattle.std.proofs.lemmas.Option.{slice_get-map}
 use Rattle.std.specs.Prelude.{length, nat_le, nat_lt, set, slice_get, ◌==◌, Option, Some, None, Result, Ok, Err, if◌then◌else◌}
 use Rattle.std.specs.Option.{option_map}
 use Rattle.gw_base.specs.declared.figures.Figures.{Figures}
+use Rattle.gw_base.specs.declared.key.Key.{Key}
 use Rattle.gw_site.specs.Outside.{is_connected}
 use Rattle.sale_reply.specs.declared.reply.Shown.{Shown}
 use Rattle.sale_values.specs.declared.header.Header.{Header}
@@ -22,14 +23,14 @@ use Rattle.jrn_record.specs.declared.records.Outcome.{Outcome as TheOutcome}
 use Rattle.jrn_record.specs.declared.records.Record.{Record}
 use Rattle.jrn_record.specs.declared.records.Record.TheVariants.{Outcome, Settled}
 use Rattle.gw_ledger.specs.declared.entry.Entry.{Entry as TheEntry}
-use Rattle.gw_owes.specs.AskerLaws.{KeepsTill, IsOver, NeedsNoTill, BeginsFor, EachItemKeepsTill, EachServedKeepsTill, EachLinkKeepsTill, EachGoneIsForgotten, GoneLeavesRest, tills_sent, SendsItsTill, SendsAsking, EachSendIsToIts, EachLinkSendsIts, ExampleTill}
+use Rattle.gw_owes.specs.AskerLaws.{KeepsTill, IsOver, NeedsNoTill, IsAboutRequestOf, BeginsFor, EachItemKeepsTill, EachServedKeepsTill, EachLinkKeepsTill, EachGoneIsForgotten, GoneLeavesRest, tills_sent, SendsItsTill, SendsAsking, EachSendIsToIts, EachLinkSendsIts, ExampleTill}
 use Rattle.gw_owes.specs.Calls.{OwedCall, CutPt, CutTill, LinkPt, Sending, SendTill, SendPt, Ask, keep_calls}
-use Rattle.gw_owes.specs.Core.{Core}
+use Rattle.gw_owes.specs.Core.{Wait, Core}
 use Rattle.gw_owes.specs.Deadlines.{is_due, is_late, due_row, late_row}
 use Rattle.gw_owes.specs.Displays.{serving_display}
 use Rattle.gw_owes.specs.Greeting.{greet_decoded, greet_row, greeting, oversized_row, sending_calls}
 use Rattle.gw_owes.specs.Handling.{consequence, enquires, enquiring, handle_row, meaning_at, registering, serving, taking}
-use Rattle.gw_owes.specs.Items.{RoundItem, Crowded, Message, Asked, Unframed, Gone, Greet, Handle, Serve, NextWaiting, Oversized, LinkLost, Late, Overdue, Due}
+use Rattle.gw_owes.specs.Items.{RoundItem, Crowded, Message, Asked, Unframed, Gone, Greet, Handle, Serve, Queue, NextWaiting, Oversized, LinkLost, Late, Overdue, Due}
 use Rattle.gw_owes.specs.Links.{LinkEvent, LinkIsMade, LinkHasFailed, LinkIsLost, cutting, is_linked, link_row}
 use Rattle.gw_owes.specs.Payments.{serve_row}
 use Rattle.gw_owes.specs.Reconciliations.{reply_to_settled, serving_day, settled_of}
@@ -43,12 +44,15 @@ use Rattle.gw_owes.specs.Sessions.{pairs_after}
 use Rattle.gw_owes.specs.TerminalLaws.{HasNoTrace}
 use Rattle.gw_owes.specs.TerminalRows.{terminal_of, terminal_row}
 use Rattle.gw_owes.specs.Terminals.{after_command, asker_but, asker_of_lost, forgets_till, registers, registration, reply_calls_to, reply_to_lost, terminal_at, terminal_becomes, unlinked_terminal, unlinks}
+use Rattle.gw_owes.specs.WaitingRows.{next_waiting_row, overdue_row, queue_row}
+use Rattle.gw_owes.specs.Waits.{queue_of, first_waiting}
 use Rattle.gw_owes.specs.declared.terminal.Service.{Service}
 use Rattle.gw_owes.specs.declared.terminal.Service.TheVariants.{Transaction, EndOfDay, Display}
 use Rattle.gw_owes.specs.declared.terminal.Standing.{Standing}
 use Rattle.gw_owes.specs.declared.terminal.Standing.TheVariants.{Unlinked, Registering, Enquiring, Ready, Serving, Aside}
 use Rattle.gw_owes.specs.declared.terminal.Terminal.{Terminal}
 use Rattle.gw_owes.proofs.HandlingLemmas.{by-where, each-handled, each-linked, each-terminal}
+use Rattle.gw_owes.proofs.NextLemmas.{WaitsFirst, each-next, each-overdue, each-queued, known_without}
 use Rattle.gw_owes.proofs.PaymentLemmas.{each-served, settled_row}
 use Rattle.gw_owes.proofs.SetLemmas.{new-is-there, others-stay, same-some}
 
@@ -244,7 +248,7 @@ set-after known item at old next calls there left number new found = by-number (
 
 -- what the row owes any till goes to the terminal's, or to the one that asks
 abbrev Sends : Known → RoundItem → ℕ → Row → Type 0
-Sends known item number row = (tills_sent row.calls ≡ []) ⊎ (SendsItsTill known number row.calls ⊎ SendsAsking item number row.calls)
+Sends known item number row = (tills_sent row.calls ≡ []) ⊎ (SendsItsTill known number row.calls ⊎ SendsAsking known.core item number row.calls)
 
 sends-its : (known : Known) (number : ℕ) (terminal : Terminal) (calls : List OwedCall) → terminal_at known number ≡ Some terminal → SendsOnly terminal.asker calls → (tills_sent calls ≡ []) ⊎ SendsItsTill known number calls
 sends-its known number terminal calls found (inl none) = inl none
@@ -293,7 +297,7 @@ serve-well known number till header request = each-served (IsWell known item num
   begins = λ terminal last asking at. begun terminal last _ _ at.found at.standing_is refl refl;
   sent = λ terminal talk at may. kept terminal _ _ at.found refl refl refl;
   wished = λ terminal talk at may. kept terminal _ _ at.found refl refl refl;
-  session = λ success. record { after = same-after known item (becoming (record known.core { logged_out = pairs_after known.core header request }) (SendTill till (success_reply header) ∷ [])) refl; sends = inr (inr (record { till = till; header = header; request = request; item_is = refl; sent = refl })) };
+  session = λ success. record { after = same-after known item (becoming (record known.core { logged_out = pairs_after known.core header request }) (SendTill till (success_reply header) ∷ [])) refl; sends = inr (inr (record { till = till; asked = asks; sent = refl })) };
   settles = λ terminal at. record { after = same-after known item (settled_row known till header terminal) refl; sends = replies (reply_to_settled known.kept (settled_of hows.Sale header terminal.pt.currency known.moment)) (settled_row known till header terminal) refl };
   day = λ terminal last at. begun terminal last _ _ at.found at.standing_is refl refl;
   displays = λ terminal last outputs command at. begun terminal last _ _ at.found at.standing_is refl refl;
@@ -302,11 +306,14 @@ serve-well known number till header request = each-served (IsWell known item num
     item : RoundItem
     item = Serve number till header request
 
+    asks : IsAboutRequestOf known.core item number till
+    asks = inl (record { header = header; request = request; item_is = refl })
+
     begun : (terminal : Terminal) (last : ℕ) (new : Terminal) (calls : List OwedCall) → terminal_at known number ≡ Some terminal → terminal.standing ≡ Ready last → new.asker ≡ Some till → tills_sent calls ≡ []
         → IsWell known item number (terminal_becomes known number new calls)
     begun terminal last new calls found ready for_till none = record {
       after = set-after known item number terminal new calls found
-          (inr (inr (record { old = terminal; last = last; found = found; ready = ready; till = till; header = header; request = request; item_is = refl; for_till = for_till })));
+          (inr (inr (record { old = terminal; last = last; found = found; ready = ready; till = till; asked = asks; for_till = for_till })));
       sends = inl none;
     }
 
@@ -319,7 +326,41 @@ serve-well known number till header request = each-served (IsWell known item num
 
     replies : (reply : Option ReplyValue) (row : Row) → tills_sent row.calls ≡ tills_sent (reply_calls_to (Some till) reply) → Sends known item number row
     replies None row same = inl same
-    replies (Some reply) row same = inr (inr (record { till = till; header = header; request = request; item_is = refl; sent = same }))
+    replies (Some reply) row same = inr (inr (record { till = till; asked = asks; sent = same }))
+
+-- ---- what becomes of a request that waits
+
+next-well : (known : Known) (number : ℕ) → IsWell known (NextWaiting number) number (next_waiting_row known number)
+next-well known number = each-next (IsWell known item number) known number (record {
+  none = nothing-well known item number;
+  refused = λ terminal last wait condition first is. record { after = unchanged known item; sends = inr (inr (record { till = wait.till; asked = asks wait first.first_is; sent = refl })) };
+  begins = λ terminal last wait asking at. begun terminal last wait _ _ at.first refl refl;
+  day = λ terminal last wait at. begun terminal last wait _ _ at.first refl refl;
+  left = λ terminal last wait first. record { after = unchanged known item; sends = inl refl };
+})
+  where
+    item : RoundItem
+    item = NextWaiting number
+
+    asks : (wait : Wait) → first_waiting (queue_of number known.core.waits) ≡ Some wait → IsAboutRequestOf known.core item number wait.till
+    asks wait first_is = inr (record { wait = wait; item_is = refl; first_is = first_is; till_is = refl })
+
+    begun : (terminal : Terminal) (last : ℕ) (wait : Wait) (new : Terminal) (calls : List OwedCall) → WaitsFirst known number terminal last wait → new.asker ≡ Some wait.till → tills_sent calls ≡ []
+        → IsWell known item number (terminal_becomes (known_without known wait) number new calls)
+    begun terminal last wait new calls first for_till none = record {
+      after = set-after known item number terminal new calls first.found
+          (inr (inr (record { old = terminal; last = last; found = first.found; ready = first.standing_is; till = wait.till; asked = asks wait first.first_is; for_till = for_till })));
+      sends = inl none;
+    }
+
+-- what waits changes, and no terminal
+queue-keeps : (known : Known) (at till : ℕ) (header : Header) (request : SaleRequest) → After known (Queue at till header request) (queue_row known at till header request)
+queue-keeps known at till header request =
+    each-queued (After known (Queue at till header request)) known at till header request
+    (record { none = unchanged known (Queue at till header request); joins = λ terminal key why. unchanged known (Queue at till header request); taken = λ wait why. unchanged known (Queue at till header request) })
+
+overdue-keeps : (known : Known) (key : Key) → After known (Overdue key) (overdue_row known key)
+overdue-keeps known key = each-overdue (After known (Overdue key)) known key (record { none = unchanged known (Overdue key); taken = λ wait waits overdue. unchanged known (Overdue key) })
 
 -- ---- links
 
@@ -405,7 +446,8 @@ terminal-well known (Greet at apdu) number is = let e : at ≡ number = cc in su
 terminal-well known (Handle at apdu) number is = let e : at ≡ number = cc in subst (λ n. IsWell known (Handle at apdu) n (handle_row known at apdu)) e (handle-well known at apdu)
 terminal-well known (Serve at till header request) number is =
     let e : at ≡ number = cc in subst (λ n. IsWell known (Serve at till header request) n (serve_row known at till header request)) e (serve-well known at till header request)
-terminal-well known (NextWaiting at) number is = nothing-well known (NextWaiting at) number
+terminal-well known (Queue at till header request) number is = absurd cc
+terminal-well known (NextWaiting at) number is = let e : at ≡ number = cc in subst (λ n. IsWell known (NextWaiting at) n (next_waiting_row known at)) e (next-well known at)
 terminal-well known (Oversized at) number is = let e : at ≡ number = cc in subst (λ n. IsWell known (Oversized at) n (oversized_row known at)) e
     (each-linked (IsWell known (Oversized at) at) known at (λ terminal. cutting known at) (nothing-well known (Oversized at) at) (λ terminal found linked. same-well known (Oversized at) at _ refl refl))
 terminal-well known (LinkLost at) number is = let e : at ≡ number = cc in subst (λ n. IsWell known (LinkLost at) n (link_row known at LinkIsLost)) e (lost-well known (LinkLost at) at)
@@ -426,11 +468,12 @@ each-item-keeps-till tills known (Gone till) number new stays found = absurd cc
 each-item-keeps-till tills known (Greet at apdu) number new stays found = IsWell.after (terminal-well known (Greet at apdu) at refl) number new found
 each-item-keeps-till tills known (Handle at apdu) number new stays found = IsWell.after (terminal-well known (Handle at apdu) at refl) number new found
 each-item-keeps-till tills known (Serve at till header request) number new stays found = IsWell.after (terminal-well known (Serve at till header request) at refl) number new found
+each-item-keeps-till tills known (Queue at till header request) number new stays found = queue-keeps known at till header request number new found
 each-item-keeps-till tills known (NextWaiting at) number new stays found = IsWell.after (terminal-well known (NextWaiting at) at refl) number new found
 each-item-keeps-till tills known (Oversized at) number new stays found = IsWell.after (terminal-well known (Oversized at) at refl) number new found
 each-item-keeps-till tills known (LinkLost at) number new stays found = IsWell.after (terminal-well known (LinkLost at) at refl) number new found
 each-item-keeps-till tills known (Late at) number new stays found = IsWell.after (terminal-well known (Late at) at refl) number new found
-each-item-keeps-till tills known (Overdue key) number new stays found = unchanged known (Overdue key) number new found
+each-item-keeps-till tills known (Overdue key) number new stays found = overdue-keeps known key number new found
 each-item-keeps-till tills known (Due at) number new stays found = IsWell.after (terminal-well known (Due at) at refl) number new found
 
 pub each-served-keeps-till : EachServedKeepsTill
@@ -447,13 +490,18 @@ each-served-keeps-till tills known item number old new service other last later 
         let t : begins.old ≡ old = same-some begins.old old (sym begins.found ∙ found) in
         let e : Ready begins.last ≡ Serving service last = sym begins.ready ∙ (ap (λ (s : Terminal). s.standing) t ∙ serves) in absurd cc
 
+-- an item of no terminal is about no request of a till
+none-asked : (core : Core) (key : Key) (number till : ℕ) → IsAboutRequestOf core (Overdue key) number till → ⊥
+none-asked core key number till (inl now) = let e = now.item_is in cc
+none-asked core key number till (inr first) = let e = first.item_is in cc
+
 pub each-link-keeps-till : EachLinkKeepsTill
 each-link-keeps-till known at event number new found = by-left (IsWell.after (link-well known (Overdue (record { sale = []; poi = []; service = [] })) at event) number new found)
   where
     by-left : KeepsTill known.core number new ⊎ (NeedsNoTill known.core number new ⊎ BeginsFor known.core (Overdue (record { sale = []; poi = []; service = [] })) number new) → KeepsTill known.core number new ⊎ NeedsNoTill known.core number new
     by-left (inl keeps) = inl keeps
     by-left (inr (inl none)) = inr none
-    by-left (inr (inr begins)) = let e = begins.item_is in absurd cc
+    by-left (inr (inr begins)) = absurd (none-asked known.core _ number begins.till begins.asked)
 
 -- the till of a terminal once this one is gone
 but-own : (till : ℕ) (asker : Option ℕ) → asker ≡ Some till → asker_but till asker ≡ None
@@ -487,6 +535,7 @@ each-send-to-its tills known (Gone till) number is = absurd cc
 each-send-to-its tills known (Greet at apdu) number is = IsWell.sends (terminal-well known (Greet at apdu) number is)
 each-send-to-its tills known (Handle at apdu) number is = IsWell.sends (terminal-well known (Handle at apdu) number is)
 each-send-to-its tills known (Serve at till header request) number is = IsWell.sends (terminal-well known (Serve at till header request) number is)
+each-send-to-its tills known (Queue at till header request) number is = absurd cc
 each-send-to-its tills known (NextWaiting at) number is = IsWell.sends (terminal-well known (NextWaiting at) number is)
 each-send-to-its tills known (Oversized at) number is = IsWell.sends (terminal-well known (Oversized at) number is)
 each-send-to-its tills known (LinkLost at) number is = IsWell.sends (terminal-well known (LinkLost at) number is)
@@ -500,7 +549,7 @@ each-link-sends-its known number event = by-sends (IsWell.sends (link-well known
     by-sends : Sends known (Overdue (record { sale = []; poi = []; service = [] })) number (link_row known number event) → (tills_sent (link_row known number event).calls ≡ []) ⊎ SendsItsTill known number (link_row known number event).calls
     by-sends (inl none) = inl none
     by-sends (inr (inl its)) = inr its
-    by-sends (inr (inr asking)) = let e = asking.item_is in absurd cc
+    by-sends (inr (inr asking)) = absurd (none-asked known.core _ number asking.till asking.asked)
 
 pub example-till : ExampleTill
 unfolding decode_apdus decode_apdus_within decode_pt_message history

@@ -42,11 +42,11 @@ use Rattle.gw_owes.specs.declared.terminal.Standing.TheVariants.{Unlinked, Regis
 use Rattle.gw_owes.specs.declared.terminal.Terminal.{Terminal}
 use Rattle.gw_owes.specs.AwaitedLaws.{stops_in, unacknowledged_in, unacknowledged, AwaitsWithin, AwaitsNoMore, EachRowAwaitsNoMore, EachLinkAwaitsNoMore, EachStepAwaitsNoMore, IsHandedItsOwn, EachUnstoppedIsHandedItsOwn, ExampleAwaitedOfStops}
 use Rattle.gw_owes.specs.Awaited.{one_more_awaited, one_less_awaited}
-use Rattle.gw_owes.specs.Core.{Core, new_terminal}
+use Rattle.gw_owes.specs.Core.{Wait, Core, new_terminal}
 use Rattle.gw_owes.specs.Displays.{asked_to_show, display_row, serving_display}
 use Rattle.gw_owes.specs.Reconciliations.{settled_of, reply_to_settled, day_command, asked_for_day, reconciliation_row, serving_day}
 use Rattle.gw_owes.specs.Reply.{ReplyValue}
-use Rattle.gw_owes.specs.Items.{RoundItem, Crowded, Message, Asked, Unframed, Gone, Greet, Handle, Serve, NextWaiting, Oversized, LinkLost, Late, Overdue, Due}
+use Rattle.gw_owes.specs.Items.{RoundItem, Crowded, Message, Asked, Unframed, Gone, Greet, Handle, Serve, Queue, NextWaiting, Oversized, LinkLost, Late, Overdue, Due}
 use Rattle.gw_owes.specs.Row.{Known, Row, owing_where}
 use Rattle.gw_owes.specs.Terminals.{terminal_at, of_terminal, with_terminal, talk_of_command, after_command, registration, registers, unlinks, unlinked_terminal, link_lost, link_made, reply_calls_to, terminal_becomes}
 use Rattle.gw_owes.specs.Links.{is_linked, cutting, LinkEvent, link_row, LinkIsMade, LinkHasFailed, LinkIsLost}
@@ -60,10 +60,12 @@ use Rattle.gw_owes.specs.Greeting.{greet_row, oversized_row}
 use Rattle.gw_owes.specs.Deadlines.{late_row, due_row}
 use Rattle.gw_owes.specs.TerminalLaws.{owes_cut, ChangesTerminalAlone}
 use Rattle.gw_owes.specs.TerminalRows.{terminal_of, terminal_row}
-use Rattle.gw_owes.specs.Transcript.{Carried, Commanded, Wished, TerminalStep, StepAt, HandlesItem, ChangesLink, FollowsTranscript, commanded_by, wished_of, wished_for, took_by, transcript_after, transcript_anew, core_with_cut, core_after, is_number, transcript_with_cut, transcript_after_step, known_before, known_after, core_along, transcript_along, known_new}
+use Rattle.gw_owes.specs.Transcript.{Carried, Commanded, Wished, TerminalStep, StepAt, HandlesItem, ChangesLink, ChangesWaits, FollowsTranscript, commanded_by, wished_of, wished_for, took_by, transcript_after, transcript_anew, core_with_cut, core_after, is_number, transcript_with_cut, transcript_after_step, known_before, known_after, core_along, transcript_along, known_new}
 use Rattle.gw_owes.proofs.HandlingLemmas.{by-where, each-linked}
 use Rattle.gw_owes.proofs.CountLemmas.{by-more, by-less}
+use Rattle.gw_owes.specs.WaitingRows.{next_waiting_row}
 use Rattle.gw_owes.proofs.DialogueLemmas.{shown-lines}
+use Rattle.gw_owes.proofs.NextLemmas.{WaitsFirst, each-next, known_without}
 use Rattle.gw_owes.proofs.PaymentLemmas.{session-served, each-reconciled, shown_row, each-shown}
 use Rattle.gw_owes.proofs.SetLemmas.{new-is-there, same-some}
 use Rattle.gw_owes.proofs.StandingLemmas.{DialogueLaws, ended-rests}
@@ -443,6 +445,24 @@ serve-few laws known number till header (requests.Display outputs) transcript ha
 serve-few laws known number till header (requests.Print qualifier) transcript has few = λ no_cut. few
 serve-few laws known number till header requests.Diagnosis transcript has few = λ no_cut. few
 
+-- ---- a request that has waited
+
+next-few : (laws : DialogueLaws) (known : Known) (number : ℕ) (transcript : List Carried) → FollowsTranscript number transcript known.core → AwaitsNoMore number transcript known.core
+    → Awaits known number transcript (next_waiting_row known number)
+next-few laws known number transcript has few =
+    each-next (Awaits known number transcript) known number (record {
+      none = λ no_cut. few;
+      refused = λ terminal last wait condition first is no_cut. few;
+      begins = λ terminal last wait asking at. asking-few (known_without known wait) number wait.till transcript terminal last (Some asking) at.first.found few (rests terminal last wait at.first);
+      day = λ terminal last wait at no_cut.
+          awaits known number (Commanded (day_command terminal.pt) known.moment ∷ transcript) terminal (asked_for_day known wait.till terminal last wait.header) at.first.found
+          (within-command (stops_in transcript) terminal.awaited (rests terminal last wait at.first));
+      left = λ terminal last wait first no_cut. few;
+    })
+  where
+    rests : (terminal : Terminal) (last : ℕ) (wait : Wait) → WaitsFirst known number terminal last wait → IsFew transcript terminal
+    rests terminal last wait first = ready-few laws known number transcript terminal last (carried-there known number transcript terminal has first.found) few first.standing_is
+
 -- ---- rows that send no command
 
 quiet-few : (known : Known) (number : ℕ) (transcript : List Carried) (row : Row) → IsQuiet known row → AwaitsNoMore number transcript known.core
@@ -488,7 +508,11 @@ rows-await laws known (Serve pt till header request) number transcript is has fe
     let e : pt ≡ number = cc in
     subst (λ (n : ℕ). FollowsTranscript n transcript known.core → AwaitsNoMore n transcript known.core → AwaitsNoMore n (commanded_by known.moment (serve_row known pt till header request).calls ++ (wished_for known pt header request ++ transcript)) (serve_row known pt till header request).core) e
     (λ there less. serve-few laws known pt till header request transcript there less no_cut) has few
-rows-await laws known (NextWaiting pt) number transcript is has few no_cut = few
+rows-await laws known (Queue pt till header request) number transcript is has few no_cut = absurd cc
+rows-await laws known (NextWaiting pt) number transcript is has few no_cut =
+    let e : pt ≡ number = cc in
+    subst (λ (n : ℕ). FollowsTranscript n transcript known.core → AwaitsNoMore n transcript known.core → AwaitsNoMore n (commanded_by known.moment (next_waiting_row known pt).calls ++ ([] ++ transcript)) (next_waiting_row known pt).core) e
+    (λ there less. next-few laws known pt transcript there less no_cut) has few
 rows-await laws known (Oversized pt) number transcript is has few no_cut =
     quiet-few known number transcript (oversized_row known pt)
     (each-linked (IsQuiet known) known pt (λ terminal. cutting known pt) (record { core_is = refl; none = refl }) (λ terminal found linked. record { core_is = refl; none = refl })) few
@@ -567,6 +591,7 @@ step-awaits : (laws : DialogueLaws) (known : Known) (step : TerminalStep) (numbe
     → AwaitsNoMore number (transcript_after_step number known step transcript) (core_after known step)
 step-awaits laws known (HandlesItem item) number transcript has few = item-awaits laws known item number transcript has few
 step-awaits laws known (ChangesLink other event) number transcript has few = link-awaits known other event number transcript has few
+step-awaits laws known (ChangesWaits waits) number transcript has few = few
 
 along-awaits : (laws : DialogueLaws) (known : Known) (steps : List StepAt) (number : ℕ) (transcript : List Carried) → FollowsTranscript number transcript known.core → AwaitsNoMore number transcript known.core
     → AwaitsNoMore number (transcript_along number known transcript steps) (core_along known steps)

@@ -1,7 +1,7 @@
 -- What a terminal begins to serve, what is settled, and a stop keep what is known in order, and what a till's message begins was read and names its terminal.
 use Rattle.std.proofs.Common.{◌≡◌, ◌∙◌, ℕ, suc, ◌+◌, ◌^◌, ◌<◌, ◌≤◌, max, Bool, true, false, ◌&&◌, eqb, List, [], ◌∷◌, ◌++◌, length, not, refl, sym, ap, subst, arith}
-use Rattle.std.specs.Prelude.{All, IfSome, slice_get, map, Option, Some, None, option_and_then, option_map, if◌then◌else◌, bytes_eq, unwrap_or}
-use Rattle.std.proofs.lemmas.Bool.{and_parts, eqb-true, eqb-false, ltb-false, not-true, not-false}
+use Rattle.std.specs.Prelude.{All, IfSome, is_some, slice_get, map, Option, Some, None, option_and_then, option_map, if◌then◌else◌, bytes_eq, unwrap_or}
+use Rattle.std.proofs.lemmas.Bool.{and_parts, eqb-true, eqb-false, ltb-false, not-true, not-false, or_parts}
 use Rattle.std.proofs.lemmas.List.{length-map}
 use Rattle.std.proofs.lemmas.List.Elements.{All-nil, All-cons}
 use Rattle.std.proofs.lemmas.Option.{same_Some}
@@ -51,24 +51,26 @@ use Rattle.gw_owes.specs.declared.terminal.Standing.TheVariants.{Ready}
 use Rattle.gw_owes.specs.declared.terminal.Terminal.{Terminal}
 use Rattle.gw_owes.specs.Awaited.{one_more_awaited}
 use Rattle.gw_owes.specs.Content.{is_same_amount}
-use Rattle.gw_owes.specs.Days.{day_served, days_served, has_key, is_key_of_day}
+use Rattle.gw_owes.specs.Core.{Wait}
+use Rattle.gw_owes.specs.Days.{day_served, has_key, is_day_key, is_key_of_day}
 use Rattle.gw_owes.specs.Diagnosis.{NamedTerminal, named_from, named_terminal}
 use Rattle.gw_owes.specs.Displays.{asked_to_show}
-use Rattle.gw_owes.specs.Items.{RoundItem, Serve}
+use Rattle.gw_owes.specs.Items.{RoundItem, Serve, Queue}
 use Rattle.gw_owes.specs.KeptReplies.{found_for, own_key}
 use Rattle.gw_owes.specs.Payments.{Asking, asked_for, beginning_row, payment_asking, payment_intent, reversal_asking, serve_row}
 use Rattle.gw_owes.specs.ReadAs.{ReadAs, Request, Silent, NoMessage, NoJson}
 use Rattle.gw_owes.specs.Reconciliations.{asked_for_day, day_command, reply_to_settled, settled_of}
 use Rattle.gw_owes.specs.RecordLaws.{AreOfSetup, AreRecordsOf, AreResultsWithinLimits, HasNoneOpen, HasReadStatuses, IsInOrder, IsReadFromTill, IsReadItem, IsReadRequest, IsTalkRead, IsTerminalInOrder, poi_asked}
 use Rattle.gw_owes.specs.Replies.{is_response_required, output_refused, refused_results}
-use Rattle.gw_owes.specs.Requests.{begun_by}
+use Rattle.gw_owes.specs.Requests.{abort_items, begun_by}
 use Rattle.gw_owes.specs.Reversals.{amount_in, is_irreversible, is_whole_of, may_be_reversed, original_of, reversal_intent}
 use Rattle.gw_owes.specs.Row.{Known, Row}
 use Rattle.gw_owes.specs.Serving.{staying, stops}
-use Rattle.gw_owes.specs.Steps.{StepResult, KeptReply, Fails, Begins, items_of_result}
+use Rattle.gw_owes.specs.Steps.{StepResult, KeptReply, Fails, Begins, Waits, items_of_result}
 use Rattle.gw_owes.specs.Stops.{serves_key, stop_items_at, wishing}
 use Rattle.gw_owes.specs.Terminals.{reply_calls_to, terminal_at}
 use Rattle.gw_owes.specs.TerminalLaws.{owes_cut}
+use Rattle.gw_owes.specs.Waits.{slots_reserved, waiting_for, waiting_with}
 use Rattle.gw_owes.proofs.DayLemmas.{days-no-more, days-one-more}
 use Rattle.gw_owes.proofs.HeardLemmas.{of-both}
 use Rattle.gw_owes.proofs.KeepingLemmas.{LeavesDay, RowKeeps, apart-pois, becomes-keeps, begins-with, command-read, in-order-keeps, no-calls, nothing-keeps, other-leaves-day, owing-keeps, record-keeps, replies-keep-nothing, setting-there}
@@ -81,7 +83,7 @@ use Rattle.gw_owes.proofs.RecordLemmas.{LedgerLaws, apart-keys-turned, entry-of-
 
 -- two slots are free beside those of what is still to come
 abbrev pub HasRoomToBegin : Known → Type 0
-HasRoomToBegin known = length known.kept + (open_count_of known.kept + (days_served known.core.terminals + 2)) ≤ known.setup.slots
+HasRoomToBegin known = length known.kept + (open_count_of known.kept + (slots_reserved known.core + 2)) ≤ known.setup.slots
 
 -- the Intent of what this terminal is asked for may come next
 pub record IsAskedAnew (known : Known) (header : Header) (terminal : Terminal) (last : ℕ) (asking : Asking) : Type 0 where
@@ -122,7 +124,7 @@ key-unknown known header heading unknown =
 -- what is known as a request begins that was read and passes the steps
 module _ (laws : LedgerLaws) (known : Known) (order : IsInOrder known) (header : Header) (terminal : Terminal) (last : ℕ) (heading : IsHeaderWithin header) (names : terminal.pt.poi ≡ header.poi)
     (unknown : found_for known.kept header ≡ None) (room : HasRoomToBegin known) (has : HasNoneOpen known.kept header.poi last) where
-  payment-anew : (payment : PaymentAsk) → IsPaymentWithin header payment → IsAskedAnew known header terminal last (payment_asking known header payment terminal last)
+  pub payment-anew : (payment : PaymentAsk) → IsPaymentWithin header payment → IsAskedAnew known header terminal last (payment_asking known header payment terminal last)
   payment-anew payment asks = record {
     names = names;
     poi_is = sym names;
@@ -135,7 +137,7 @@ module _ (laws : LedgerLaws) (known : Known) (order : IsInOrder known) (header :
     original_within = tt;
   }
 
-  reversal-anew : (reversal : ReversalAsk) (original : TheEntry) → original_of known.kept header.poi reversal ≡ Some original → may_be_reversed known.kept reversal original ≡ true
+  pub reversal-anew : (reversal : ReversalAsk) (original : TheEntry) → original_of known.kept header.poi reversal ≡ Some original → may_be_reversed known.kept reversal original ≡ true
       → IsAskedAnew known header terminal last (reversal_asking known header last original)
   reversal-anew reversal original named may =
       let entry = laws.named known.kept header.poi reversal.transaction original named in
@@ -182,18 +184,18 @@ wished-read (Ended stop_sent) read = tt
 
 module _ (laws : LedgerLaws) (known : Known) (order : IsInOrder known) (number till : ℕ) (header : Header) where
   -- the terminal of a request that was read has the POIID that this is about
-  asked-names : (request : SaleRequest) (terminal : Terminal) → IsReadRequest known.setup number header request → terminal_at known number ≡ Some terminal → terminal.pt.poi ≡ poi_asked header request
+  pub asked-names : (request : SaleRequest) (terminal : Terminal) → IsReadRequest known.setup number header request → terminal_at known number ≡ Some terminal → terminal.pt.poi ≡ poi_asked header request
   asked-names request terminal read here =
       read.names terminal.pt (subst (λ (pts : List Pt). slice_get pts number ≡ Some terminal.pt) order.of_setup.settings (setting-there known.core.terminals number terminal here))
 
   -- what the records have of the terminal
-  ready-records : (terminal : Terminal) (last : ℕ) → terminal_at known number ≡ Some terminal → terminal.standing ≡ Ready last → terminal.pt.poi ≡ header.poi → HasNoneOpen known.kept header.poi last
+  pub ready-records : (terminal : Terminal) (last : ℕ) → terminal_at known number ≡ Some terminal → terminal.standing ≡ Ready last → terminal.pt.poi ≡ header.poi → HasNoneOpen known.kept header.poi last
   ready-records terminal last here standing names =
       subst (λ (p : List ℕ). HasNoneOpen known.kept p last) names (subst (AreRecordsOf known.kept terminal.pt.poi) standing (order.terminals number terminal here).records)
 
   -- and room is left
   room-left : (request : SaleRequest) (named : Option NamedTerminal) → PassesSteps known header request named → HasRoomToBegin known
-  room-left request named passes = ltb-false known.setup.slots (length known.kept + (open_count_of known.kept + (days_served known.core.terminals + 2))) passes.room
+  room-left request named passes = ltb-false known.setup.slots (length known.kept + (open_count_of known.kept + (slots_reserved known.core + 2))) passes.room
 
   payment-begins-anew : (payment : PaymentAsk) (terminal : Terminal) (last : ℕ) (asking : Asking) → IsReadRequest known.setup number header (requests.Payment payment)
       → BeginsAt known number header (requests.Payment payment) terminal last asking → IsAskedAnew known header terminal last asking
@@ -296,7 +298,8 @@ module _ (laws : LedgerLaws) (known : Known) (order : IsInOrder known) (number t
       -- isn't that of an end of day that the terminal serves
       own-day : LeavesDay terminal.standing (Settled settled)
       own-day served key day its_key =
-          let no_day : has_key (settled_key settled) (day_served terminal.standing) ≡ false = sym (ap (λ (k : Option Key). is_key_of_day k named) key_is) ∙ passes.no_day in
+          let not_day : is_day_key header named ≡ false = (or_parts (is_day_key header named) (is_some (waiting_for known.core header)) passes.not_pending).0 in
+          let no_day : has_key (settled_key settled) (day_served terminal.standing) ≡ false = sym (ap (λ (k : Option Key). is_key_of_day k named) key_is) ∙ not_day in
           apart-keys-turned (settled_key settled) key (sym (ap (is_key (settled_key settled)) its_key) ∙ sym (ap (has_key (settled_key settled)) day) ∙ no_day)
 
       -- nor that of another
@@ -313,30 +316,33 @@ module _ (laws : LedgerLaws) (known : Known) (order : IsInOrder known) (number t
 
   -- ---- ends of day and displays
 
-  -- an end of day is begun, whose Settled may come next
-  day-keeps : (terminal : Terminal) (last : ℕ) (request : SaleRequest) → IsReadRequest known.setup number header request → BeginsDayAt known number header request terminal last → RowKeeps known number (day_row known number till header terminal last)
-  day-keeps terminal last request read at =
-      let named : Option NamedTerminal = Some (record { number = number; terminal = terminal }) in
-      let read-as : IsReadRequest known.setup number header (requests.Reconciliation AcquirerReconciliation) = subst (IsReadRequest known.setup number header) at.request_is read in
-      let message = read-as.read.1 in
+  -- an end of day is begun that was read, whose key is unknown, so that its Settled may come next
+  pub day-anew-keeps : (terminal : Terminal) (last : ℕ) → IsReadRequest known.setup number header (requests.Reconciliation AcquirerReconciliation) → terminal_at known number ≡ Some terminal → terminal.standing ≡ Ready last
+      → found_for known.kept header ≡ None → HasRoomToBegin known → RowKeeps known number (day_row known number till header terminal last)
+  day-anew-keeps terminal last read found standing unknown room =
+      let message = read.read.1 in
       let is = message.read in
-      let heading : IsHeaderWithin header = reconciliation-within header AcquirerReconciliation read-as.read in
-      let passes = passes-steps known header request named at.begins_is in
-      let names = asked-names (requests.Reconciliation AcquirerReconciliation) terminal read-as at.found in
-      let room = room-left request named passes in
-      let days = days-one-more known.core.terminals number terminal (asked_for_day known till terminal last header) at.found (omega arith) in
+      let heading : IsHeaderWithin header = reconciliation-within header AcquirerReconciliation read.read in
+      let names = asked-names (requests.Reconciliation AcquirerReconciliation) terminal read found in
+      let days = days-one-more known.core.terminals number terminal (asked_for_day known till terminal last header) found (omega arith) in
       begins-with known order number (asked_for_day known till terminal last header) _ (record { no_records = refl; no_cut = refl }) (omega (arith, room, days)) (record {
         records = record {
-          rests = subst (λ (poi : List ℕ). HasNoneOpen known.kept poi last) (sym names) (ready-records terminal last at.found at.standing_is names);
+          rests = subst (λ (poi : List ℕ). HasNoneOpen known.kept poi last) (sym names) (ready-records terminal last found standing names);
           heading = header-read envelopes.Request is.0 header is.1.request_of.header_is;
           names = sym names;
           period_is = refl;
           key = record { sale = header.sale; poi = header.poi; service = heading.service };
           key_is = own-key-is header heading;
-          unknown = sym (ap (option_and_then (found_of known.kept)) (own-key-is header heading)) ∙ passes.unknown;
+          unknown = sym (ap (option_and_then (found_of known.kept)) (own-key-is header heading)) ∙ unknown;
         };
         read = command-read terminal.pt (day_command terminal.pt) known.moment;
       })
+
+  -- so it is where the steps say so
+  day-keeps : (terminal : Terminal) (last : ℕ) (request : SaleRequest) → IsReadRequest known.setup number header request → BeginsDayAt known number header request terminal last → RowKeeps known number (day_row known number till header terminal last)
+  day-keeps terminal last request read at =
+      let passes = passes-steps known header request (Some (record { number = number; terminal = terminal })) at.begins_is in
+      day-anew-keeps terminal last (subst (IsReadRequest known.setup number header) at.request_is read) at.found at.standing_is passes.unknown (room-left request (Some (record { number = number; terminal = terminal })) passes)
 
   -- a display is begun
   display-keeps : (terminal : Terminal) (last : ℕ) (outputs : List Output) (command : Command) (request : SaleRequest) → IsReadRequest known.setup number header request → ShowsAt known number header request terminal last outputs command
@@ -439,12 +445,18 @@ module _ (known : Known) (of_setup : AreOfSetup known.core known.setup) (till : 
       → All (IsReadItem known.setup) (Serve named.number till header request ∷ [])
   serve-read request named is read = All-cons (IsReadItem known.setup) _ [] (record { read = read; names = setting-names (poi_asked header request) named is }) (All-nil (IsReadItem known.setup))
 
+  -- so was the Queue item
+  queue-read : (request : SaleRequest) (named : NamedTerminal) → named_terminal known.core (poi_asked header request) ≡ Some named → IsReadFromTill (Request header request)
+      → All (IsReadItem known.setup) (Queue named.number till header request ∷ [])
+  queue-read request named is read = All-cons (IsReadItem known.setup) _ [] (record { read = read; names = λ none. setting-names (poi_asked header request) named is }) (All-nil (IsReadItem known.setup))
+
   named-read : (request : SaleRequest) (named : Option NamedTerminal) (result : StepResult) → named_terminal known.core (poi_asked header request) ≡ named → IsReadFromTill (Request header request)
       → All (IsReadItem known.setup) (items_of_result till header request named result)
   named-read request None result is read = All-nil (IsReadItem known.setup)
   named-read request (Some named) KeptReply is read = All-nil (IsReadItem known.setup)
   named-read request (Some named) (Fails condition) is read = All-nil (IsReadItem known.setup)
   named-read request (Some named) Begins is read = serve-read request named is read
+  named-read request (Some named) Waits is read = queue-read request named is read
 
   -- so was that of an Abort
   stop-read : (reference : Reference) (named : Option NamedTerminal) → named_terminal known.core (key_of header reference).poi ≡ named → IsReadFromTill (Request header (requests.Abort reference))
@@ -454,12 +466,17 @@ module _ (known : Known) (of_setup : AreOfSetup known.core known.setup) (till : 
       of-both (λ (items : List RoundItem). All (IsReadItem known.setup) items) (serves_key known.kept (key_of header reference) named.terminal) (Serve named.number till header (requests.Abort reference) ∷ []) []
       (serve-read (requests.Abort reference) named is read) (All-nil (IsReadItem known.setup))
 
+  -- of what waits, or of what is served
+  abort-read : (reference : Reference) (waiting : Option Wait) → IsReadFromTill (Request header (requests.Abort reference)) → All (IsReadItem known.setup) (abort_items known till header reference waiting)
+  abort-read reference None read = stop-read reference (named_terminal known.core (key_of header reference).poi) refl read
+  abort-read reference (Some wait) read = All-cons (IsReadItem known.setup) _ [] (record { read = read; names = λ other. absurd (other reference refl) }) (All-nil (IsReadItem known.setup))
+
   request-read : (request : SaleRequest) → IsReadFromTill (Request header request) → All (IsReadItem known.setup) (begun_by known till (Request header request))
   request-read requests.Login read = named-read requests.Login (named_terminal known.core header.poi) _ refl read
   request-read requests.Logout read = named-read requests.Logout (named_terminal known.core header.poi) _ refl read
   request-read (requests.Payment payment) read = named-read (requests.Payment payment) (named_terminal known.core header.poi) _ refl read
   request-read (requests.Reversal reversal) read = named-read (requests.Reversal reversal) (named_terminal known.core header.poi) _ refl read
-  request-read (requests.Abort reference) read = stop-read reference (named_terminal known.core (key_of header reference).poi) refl read
+  request-read (requests.Abort reference) read = abort-read reference (waiting_with (key_of header reference) known.core.waits) read
   request-read (requests.Status reference) read = All-nil (IsReadItem known.setup)
   request-read (requests.Reconciliation period) read = named-read (requests.Reconciliation period) (named_terminal known.core header.poi) _ refl read
   request-read (requests.Display outputs) read = named-read (requests.Display outputs) (named_terminal known.core header.poi) _ refl read

@@ -1,6 +1,6 @@
 -- Why a Reconciliation fails, that each reason has its condition, and that it begins where no step refuses it.
 use Rattle.std.proofs.Common.{◌≡◌, ◌≢◌, ◌⊎◌, inl, inr, Bool, true, false, List, [], refl, sym, ◌∙◌, ap, subst}
-use Rattle.std.specs.Prelude.{◌&&◌, if◌then◌else◌, Option, Some, None}
+use Rattle.std.specs.Prelude.{if◌then◌else◌, Option, Some, None}
 use Rattle.gw_base.specs.declared.condition.Condition.{Condition}
 use Rattle.gw_base.specs.declared.condition.Condition.TheVariants.{Aborted, Busy, Cancel, InProgress, InsertedCard, InvalidCard, LoggedOut, MessageFormat, NotAllowed, NotFound, Refusal, UnavailableDevice, UnavailableService}
 use Rattle.gw_site.specs.Outside.{is_connected}
@@ -17,8 +17,7 @@ use Rattle.gw_owes.specs.declared.terminal.Standing.{Standing}
 use Rattle.gw_owes.specs.declared.terminal.Standing.TheVariants.{Unlinked, Registering, Enquiring, Ready, Serving, Aside}
 use Rattle.gw_owes.specs.Content.{has_same_content}
 use Rattle.gw_owes.specs.DayLaws.{PassesUpToStanding}
-use Rattle.gw_owes.specs.DayRefusals.{AsksTerminal, RefusesReconciliation, ReconciliationIsBegun, ReconciliationIsAgain, ReconciliationFails, EachReconciliationIsReplied, EachDayCauseIsReplied, EachDayFailureHasCause, OnlyMayBegins}
-use Rattle.gw_owes.specs.Days.{is_day_key, is_day_period}
+use Rattle.gw_owes.specs.DayRefusals.{AsksTerminal, RefusesReconciliation, ReconciliationIsBegun, ReconciliationWaits, ReconciliationIsAgain, ReconciliationFails, EachReconciliationIsReplied, EachDayCauseIsReplied, EachDayFailureHasCause, OnlyMayBegins}
 use Rattle.gw_owes.specs.Diagnosis.{NamedTerminal, named_terminal}
 use Rattle.gw_owes.specs.KeptReplies.{found_for}
 use Rattle.gw_owes.specs.ReadAs.{Request}
@@ -27,15 +26,17 @@ use Rattle.gw_owes.specs.ReversalLaws.{IsNewAtTerminal, IsNewOfTill}
 use Rattle.gw_owes.specs.Row.{Known, Row}
 use Rattle.gw_owes.specs.Rows.{asked_row}
 use Rattle.gw_owes.specs.Sessions.{is_logged_out}
-use Rattle.gw_owes.specs.Steps.{StepResult, KeptReply, Fails, Begins, first_result, is_sale_period, is_out_of_service, is_ready_standing, items_of_result, lacks_room, reply_of_result, service_items, service_reply, step_result, steps}
+use Rattle.gw_owes.specs.Steps.{StepResult, KeptReply, Fails, Begins, Waits, is_sale_period, is_out_of_service, is_ready_standing, items_of_result, lacks_room, reply_of_result, result_at_queue, service_items, service_reply, step_result}
+use Rattle.gw_owes.specs.Waits.{is_pending_again, is_pending_key, is_queue_full}
 use Rattle.gw_owes.proofs.HandlingLemmas.{by-where}
 use Rattle.gw_owes.proofs.ReconciliationLemmas.{result_of_new, result-new}
-use Rattle.gw_owes.proofs.RefusalLemmas.{same-condition, unnamed-no-day}
-use Rattle.gw_owes.proofs.StepLemmas.{each-on-record-is-replied}
+use Rattle.gw_owes.proofs.RefusalLemmas.{same-condition}
+use Rattle.gw_owes.proofs.StepLemmas.{each-on-record-is-replied, not-pending-result, pending-again-result, pending-otherwise-result}
 
--- a Reconciliation begins, gets its reply again, or fails
+-- a Reconciliation begins, waits, gets its reply again, or fails
 abbrev BeginsOrIsReplied : Known → Header → Period → Option NamedTerminal → Type 0
-BeginsOrIsReplied known header period named = ReconciliationIsBegun known header period named ⊎ (ReconciliationIsAgain known header period ⊎ ReconciliationFails known header period named)
+BeginsOrIsReplied known header period named =
+    ReconciliationIsBegun known header period named ⊎ (ReconciliationWaits known header period named ⊎ (ReconciliationIsAgain known header period ⊎ ReconciliationFails known header period named))
 
 -- the reply, by the terminal that is named and the result
 reply-by : (known : Known) (header : Header) (period : Period) (named : Option NamedTerminal) (result : StepResult) → named_terminal known.core header.poi ≡ named
@@ -44,75 +45,86 @@ reply-by known header period named result named_is is = ap (λ (n : Option Named
 
 fails : (known : Known) (header : Header) (period : Period) (named : Option NamedTerminal) (condition : Condition) → named_terminal known.core header.poi ≡ named → RefusesReconciliation known header period named condition
     → step_result known header (requests.Reconciliation period) named ≡ Fails condition → BeginsOrIsReplied known header period named
-fails known header period named condition named_is cause is = inr (inr (record { condition = condition; cause = cause; replied = reply-by known header period named (Fails condition) named_is is }))
+fails known header period named condition named_is cause is = inr (inr (inr (record { condition = condition; cause = cause; replied = reply-by known header period named (Fails condition) named_is is })))
 
--- without a terminal
-result-unnamed : (known : Known) (header : Header) (period : Period) → found_for known.kept header ≡ None → step_result known header (requests.Reconciliation period) None ≡ Fails UnavailableDevice
-result-unnamed known header period none =
-    ap (λ (found : Option Found). first_result (Fails Busy) (steps known header (requests.Reconciliation period) found None)) none
-    ∙ ap (λ (b : Bool). if b && is_day_period period then Fails InProgress else (if b then Fails NotAllowed else Fails UnavailableDevice)) (unnamed-no-day header)
+-- where the key is new, doesn't wait, and isn't that of an end of day that is served, with what its steps ask
+module _ (known : Known) (header : Header) (named : NamedTerminal) (named_is : named_terminal known.core header.poi ≡ Some named) (none : found_for known.kept header ≡ None)
+    (not_pending : is_pending_key known.core header (Some named) ≡ false) where
+  new : IsNewAtTerminal known header (Some named)
+  new = record { unknown = none; not_pending = not_pending; terminal = named; is_named = refl }
 
--- where the key is new, with what its steps ask
-module _ (known : Known) (header : Header) (named : NamedTerminal) (named_is : named_terminal known.core header.poi ≡ Some named) (none : found_for known.kept header ≡ None) where
-  new : is_day_key header (Some named) ≡ false → IsNewAtTerminal known header (Some named)
-  new no_day = record { unknown = none; no_day = no_day; terminal = named; is_named = refl }
+  of-till : is_logged_out known.core header.sale header.poi ≡ false → IsNewOfTill known header (Some named)
+  of-till logged_in = record { new = new; logged_in = logged_in }
 
-  of-till : is_day_key header (Some named) ≡ false → is_logged_out known.core header.sale header.poi ≡ false → IsNewOfTill known header (Some named)
-  of-till no_day logged_in = record { new = new no_day; logged_in = logged_in }
-
-  -- an end of day, by the standing of its terminal
-  day-at : PassesUpToStanding known header named → (standing : Standing) → named.terminal.standing ≡ standing → step_result known header (requests.Reconciliation AcquirerReconciliation) (Some named) ≡ result_of_new AcquirerReconciliation standing false false false
-      → BeginsOrIsReplied known header AcquirerReconciliation (Some named)
-  day-at may standing is result = by-standing standing is result
+  -- an end of day, by the standing of its terminal, and whether as many wait for that as may
+  day-at : PassesUpToStanding known header named → (standing : Standing) (full : Bool) → named.terminal.standing ≡ standing → is_queue_full known (Some named) ≡ full
+      → step_result known header (requests.Reconciliation AcquirerReconciliation) (Some named) ≡ result_of_new AcquirerReconciliation standing false false full → BeginsOrIsReplied known header AcquirerReconciliation (Some named)
+  day-at may standing full is is_full result = by-standing standing full is is_full result
     where
       asks : AsksTerminal known header AcquirerReconciliation (Some named)
       asks = record { terminal = named; is_named = refl; may = may; day = refl }
 
-      by-standing : (of_it : Standing) → named.terminal.standing ≡ of_it → step_result known header (requests.Reconciliation AcquirerReconciliation) (Some named) ≡ result_of_new AcquirerReconciliation of_it false false false
-          → BeginsOrIsReplied known header AcquirerReconciliation (Some named)
-      by-standing (Unlinked due) is result = fails known header AcquirerReconciliation (Some named) UnavailableDevice named_is (inr (record { asks = asks; out = ap is_out_of_service is })) result
-      by-standing Registering is result = fails known header AcquirerReconciliation (Some named) UnavailableDevice named_is (inr (record { asks = asks; out = ap is_out_of_service is })) result
-      by-standing Enquiring is result = fails known header AcquirerReconciliation (Some named) UnavailableDevice named_is (inr (record { asks = asks; out = ap is_out_of_service is })) result
-      by-standing (Ready last) is result = inl (record { terminal = named; is_named = refl; may = may; at = inr (refl, (last, is)); no_reply = reply-by known header AcquirerReconciliation (Some named) Begins named_is result })
-      by-standing (Serving service last) is result = fails known header AcquirerReconciliation (Some named) Busy named_is (record { asks = asks; service = service; last = last; serves = is }) result
-      by-standing (Aside before reported) is result = fails known header AcquirerReconciliation (Some named) UnavailableDevice named_is (inr (record { asks = asks; out = ap is_out_of_service is })) result
+      by-standing : (of_it : Standing) (full : Bool) → named.terminal.standing ≡ of_it → is_queue_full known (Some named) ≡ full
+          → step_result known header (requests.Reconciliation AcquirerReconciliation) (Some named) ≡ result_of_new AcquirerReconciliation of_it false false full → BeginsOrIsReplied known header AcquirerReconciliation (Some named)
+      by-standing (Unlinked due) full is is_full result = fails known header AcquirerReconciliation (Some named) UnavailableDevice named_is (inr (record { asks = asks; out = ap is_out_of_service is })) result
+      by-standing Registering full is is_full result = fails known header AcquirerReconciliation (Some named) UnavailableDevice named_is (inr (record { asks = asks; out = ap is_out_of_service is })) result
+      by-standing Enquiring full is is_full result = fails known header AcquirerReconciliation (Some named) UnavailableDevice named_is (inr (record { asks = asks; out = ap is_out_of_service is })) result
+      by-standing (Ready last) full is is_full result =
+          inl (record { terminal = named; is_named = refl; may = may; at = inr (refl, (last, is)); no_reply = reply-by known header AcquirerReconciliation (Some named) Begins named_is result })
+      by-standing (Serving service last) true is is_full result =
+          fails known header AcquirerReconciliation (Some named) Busy named_is (record { asks = asks; service = service; last = last; serves = is }, is_full) result
+      by-standing (Serving service last) false is is_full result =
+          inr (inl (record {
+            serving = record { asks = asks; service = service; last = last; serves = is };
+            not_full = is_full;
+            waits = result;
+            no_reply = reply-by known header AcquirerReconciliation (Some named) Waits named_is result;
+          }))
+      by-standing (Aside before reported) full is is_full result = fails known header AcquirerReconciliation (Some named) UnavailableDevice named_is (inr (record { asks = asks; out = ap is_out_of_service is })) result
 
   -- by its type, where the till isn't logged out
-  type-at : (period : Period) (no_room : Bool) → is_day_key header (Some named) ≡ false → is_logged_out known.core header.sale header.poi ≡ false → lacks_room known.setup.slots known.kept known.core.terminals ≡ no_room
-      → step_result known header (requests.Reconciliation period) (Some named) ≡ result_of_new period named.terminal.standing false false no_room → BeginsOrIsReplied known header period (Some named)
-  type-at SaleReconciliation true no_day logged_in room result =
-      fails known header SaleReconciliation (Some named) UnavailableService named_is (inr (record { of_till = of-till no_day logged_in; served = refl }, room)) result
-  type-at SaleReconciliation false no_day logged_in room result =
+  type-at : (period : Period) (no_room : Bool) → is_logged_out known.core header.sale header.poi ≡ false → lacks_room known.setup.slots known.kept known.core ≡ no_room
+      → step_result known header (requests.Reconciliation period) (Some named) ≡ result_of_new period named.terminal.standing false no_room (is_queue_full known (Some named)) → BeginsOrIsReplied known header period (Some named)
+  type-at SaleReconciliation true logged_in room result =
+      fails known header SaleReconciliation (Some named) UnavailableService named_is (inr (record { of_till = of-till logged_in; served = refl }, room)) result
+  type-at SaleReconciliation false logged_in room result =
       inl (record {
         terminal = named;
         is_named = refl;
-        may = record { unknown = none; no_day = no_day; logged_in = logged_in; room = room };
+        may = record { unknown = none; not_pending = not_pending; logged_in = logged_in; room = room };
         at = inl refl;
         no_reply = reply-by known header SaleReconciliation (Some named) Begins named_is result;
       })
-  type-at AcquirerSynchronisation no_room no_day logged_in room result = fails known header AcquirerSynchronisation (Some named) UnavailableService named_is (inl (of-till no_day logged_in, refl)) result
-  type-at AcquirerReconciliation true no_day logged_in room result =
-      fails known header AcquirerReconciliation (Some named) UnavailableService named_is (inr (record { of_till = of-till no_day logged_in; served = refl }, room)) result
-  type-at AcquirerReconciliation false no_day logged_in room result = day-at (record { unknown = none; no_day = no_day; logged_in = logged_in; room = room }) named.terminal.standing refl result
-  type-at PreviousReconciliation no_room no_day logged_in room result = fails known header PreviousReconciliation (Some named) UnavailableService named_is (inl (of-till no_day logged_in, refl)) result
+  type-at AcquirerSynchronisation no_room logged_in room result = fails known header AcquirerSynchronisation (Some named) UnavailableService named_is (inl (of-till logged_in, refl)) result
+  type-at AcquirerReconciliation true logged_in room result =
+      fails known header AcquirerReconciliation (Some named) UnavailableService named_is (inr (record { of_till = of-till logged_in; served = refl }, room)) result
+  type-at AcquirerReconciliation false logged_in room result =
+      day-at (record { unknown = none; not_pending = not_pending; logged_in = logged_in; room = room }) named.terminal.standing (is_queue_full known (Some named)) refl refl result
+  type-at PreviousReconciliation no_room logged_in room result = fails known header PreviousReconciliation (Some named) UnavailableService named_is (inl (of-till logged_in, refl)) result
 
-  -- on the key of the end of day that is served
-  again-at : (period : Period) (again : Bool) → is_day_period period ≡ again → is_day_key header (Some named) ≡ true → step_result known header (requests.Reconciliation period) (Some named) ≡ (if again then Fails InProgress else Fails NotAllowed)
+  new-at : (period : Period) (out : Bool) → is_logged_out known.core header.sale header.poi ≡ out
+      → step_result known header (requests.Reconciliation period) (Some named) ≡ result_of_new period named.terminal.standing out (lacks_room known.setup.slots known.kept known.core) (is_queue_full known (Some named))
       → BeginsOrIsReplied known header period (Some named)
-  again-at period true again day result = fails known header period (Some named) InProgress named_is (record { unknown = none; day = day }, again) result
-  again-at period false again day result = fails known header period (Some named) NotAllowed named_is (inr (record { unknown = none; day = day }, again)) result
-
-  new-at : (period : Period) (day out : Bool) → is_day_key header (Some named) ≡ day → is_logged_out known.core header.sale header.poi ≡ out
-      → step_result known header (requests.Reconciliation period) (Some named) ≡ result_of_new period named.terminal.standing day out (lacks_room known.setup.slots known.kept known.core.terminals)
-      → BeginsOrIsReplied known header period (Some named)
-  new-at period true out day logged result = again-at period (is_day_period period) refl day result
-  new-at period false true day logged result = fails known header period (Some named) LoggedOut named_is (new day, logged) result
-  new-at period false false day logged result = type-at period (lacks_room known.setup.slots known.kept known.core.terminals) day logged refl result
+  new-at period true logged result = fails known header period (Some named) LoggedOut named_is (new, logged) result
+  new-at period false logged result = type-at period (lacks_room known.setup.slots known.kept known.core) logged refl result
 
 replied-at : (known : Known) (header : Header) (period : Period) (named : Option NamedTerminal) → named_terminal known.core header.poi ≡ named → found_for known.kept header ≡ None → BeginsOrIsReplied known header period named
-replied-at known header period None named_is none = fails known header period None UnavailableDevice named_is (inl (none, refl)) (result-unnamed known header period none)
-replied-at known header period (Some named) named_is none =
-    new-at known header named named_is none period (is_day_key header (Some named)) (is_logged_out known.core header.sale header.poi) refl refl (result-new known header period named none)
+replied-at known header period named named_is none = by-again (is_pending_again known header (requests.Reconciliation period) named) refl
+  where
+    by-named : (there : Option NamedTerminal) → named_terminal known.core header.poi ≡ there → is_pending_key known.core header there ≡ false → BeginsOrIsReplied known header period there
+    by-named None there_is not_pending =
+        fails known header period None UnavailableDevice there_is (inl (record { unknown = none; not_pending = not_pending; unnamed = refl })) (not-pending-result known header (requests.Reconciliation period) None none not_pending)
+    by-named (Some there) there_is not_pending =
+        new-at known header there there_is none not_pending period (is_logged_out known.core header.sale header.poi) refl (result-new known header period there none not_pending)
+
+    by-key : is_pending_again known header (requests.Reconciliation period) named ≡ false → (pending : Bool) → is_pending_key known.core header named ≡ pending → BeginsOrIsReplied known header period named
+    by-key other true pending =
+        fails known header period named NotAllowed named_is (inr (record { unknown = none; pending = pending; other = other })) (pending-otherwise-result known header (requests.Reconciliation period) named none pending other)
+    by-key other false not_pending = by-named named named_is not_pending
+
+    by-again : (again : Bool) → is_pending_again known header (requests.Reconciliation period) named ≡ again → BeginsOrIsReplied known header period named
+    by-again true again = fails known header period named InProgress named_is (record { unknown = none; again = again }) (pending-again-result known header (requests.Reconciliation period) named none again)
+    by-again false other = by-key other (is_pending_key known.core header named) refl
 
 -- a Reconciliation that is on record is finished
 closed-finished : (kept : List Record) (period : Period) (found : Found) → has_same_content kept (requests.Reconciliation period) found ≡ true → result_body_of found ≢ None
@@ -123,11 +135,11 @@ on-record : (known : Known) (header : Header) (period : Period) (found : Found) 
     → has_same_content known.kept (requests.Reconciliation period) found ≡ same → result_body_of found ≡ body → BeginsOrIsReplied known header period (named_terminal known.core header.poi)
 on-record known header period found true (Some body) there same kept =
     let replied = each-on-record-is-replied known header (requests.Reconciliation period) (named_terminal known.core header.poi) found there in
-    inr (inl (record { found = found; on_record = there; same = same; body = body; kept = kept; replied = replied.finished same body kept }))
+    inr (inr (inl (record { found = found; on_record = there; same = same; body = body; kept = kept; replied = replied.finished same body kept })))
 on-record known header period found true None there same kept = absurd (closed-finished known.kept period found same kept)
 on-record known header period found false body there other kept =
     let replied = each-on-record-is-replied known header (requests.Reconciliation period) (named_terminal known.core header.poi) found there in
-    inr (inr (record { condition = NotAllowed; cause = inl (record { found = found; on_record = there; other = other }); replied = replied.other_content other }))
+    inr (inr (inr (record { condition = NotAllowed; cause = inl (record { found = found; on_record = there; other = other }); replied = replied.other_content other })))
 
 pub each-reconciliation-replied : EachReconciliationIsReplied
 each-reconciliation-replied known header period = by-found (found_for known.kept header) refl
@@ -141,74 +153,76 @@ each-day-failure-has-cause known header period condition replied = by-case (each
   where
     by-case : BeginsOrIsReplied known header period (named_terminal known.core header.poi) → RefusesReconciliation known header period (named_terminal known.core header.poi) condition
     by-case (inl begins) = let none = begins.no_reply in absurd cc
-    by-case (inr (inl again)) = let kept = again.replied in absurd cc
-    by-case (inr (inr refused)) =
+    by-case (inr (inl waits)) = let none = waits.no_reply in absurd cc
+    by-case (inr (inr (inl again))) = let kept = again.replied in absurd cc
+    by-case (inr (inr (inr refused))) =
         subst (RefusesReconciliation known header period (named_terminal known.core header.poi)) (same-condition header refused.condition condition (sym refused.replied ∙ replied)) refused.cause
 
 -- ---- each cause is replied
 
--- the reply at the terminal that is named, on a new key, where the steps ask this
-reply-where : (known : Known) (header : Header) (period : Period) (named : NamedTerminal) → named_terminal known.core header.poi ≡ Some named → found_for known.kept header ≡ None
-    → (day out no_room : Bool) (standing : Standing) → is_day_key header (Some named) ≡ day → is_logged_out known.core header.sale header.poi ≡ out → lacks_room known.setup.slots known.kept known.core.terminals ≡ no_room
-    → named.terminal.standing ≡ standing → request_reply known header (requests.Reconciliation period) ≡ reply_of_result known.kept header (result_of_new period standing day out no_room)
-reply-where known header period named named_is none day out no_room standing d o r s =
-    reply-by known header period (Some named) (result_of_new period standing day out no_room) named_is
-    (result-new known header period named none
-    ∙ (ap (λ (b : Bool). result_of_new period named.terminal.standing b (is_logged_out known.core header.sale header.poi) (lacks_room known.setup.slots known.kept known.core.terminals)) d
-    ∙ (ap (λ (b : Bool). result_of_new period named.terminal.standing day b (lacks_room known.setup.slots known.kept known.core.terminals)) o
-    ∙ (ap (λ (b : Bool). result_of_new period named.terminal.standing day out b) r ∙ ap (λ (of_it : Standing). result_of_new period of_it day out no_room) s))))
+-- the reply at the terminal that is named, on a new key that doesn't wait and isn't that of an end of day that is served, where the steps ask this
+reply-where : (known : Known) (header : Header) (period : Period) (named : NamedTerminal) → named_terminal known.core header.poi ≡ Some named → found_for known.kept header ≡ None → is_pending_key known.core header (Some named) ≡ false
+    → (out no_room full : Bool) (standing : Standing) → is_logged_out known.core header.sale header.poi ≡ out → lacks_room known.setup.slots known.kept known.core ≡ no_room → is_queue_full known (Some named) ≡ full
+    → named.terminal.standing ≡ standing → request_reply known header (requests.Reconciliation period) ≡ reply_of_result known.kept header (result_of_new period standing out no_room full)
+reply-where known header period named named_is none not_pending out no_room full standing o r f s =
+    reply-by known header period (Some named) (result_of_new period standing out no_room full) named_is
+    (result-new known header period named none not_pending
+    ∙ (ap (λ (b : Bool). result_of_new period named.terminal.standing b (lacks_room known.setup.slots known.kept known.core) (is_queue_full known (Some named))) o
+    ∙ (ap (λ (b : Bool). result_of_new period named.terminal.standing out b (is_queue_full known (Some named))) r
+    ∙ (ap (λ (b : Bool). result_of_new period named.terminal.standing out no_room b) f ∙ ap (λ (of_it : Standing). result_of_new period of_it out no_room full) s))))
 
--- so an end of day that may begin is replied by the standing
-day-where : (known : Known) (header : Header) (period : Period) (asks : AsksTerminal known header period (named_terminal known.core header.poi)) (standing : Standing) → asks.terminal.terminal.standing ≡ standing
-    → request_reply known header (requests.Reconciliation period) ≡ reply_of_result known.kept header (result_of_new AcquirerReconciliation standing false false false)
-day-where known header period asks standing is =
-    reply-where known header period asks.terminal asks.is_named asks.may.unknown false false false standing asks.may.no_day asks.may.logged_in asks.may.room is
-    ∙ ap (λ (p : Period). reply_of_result known.kept header (result_of_new p standing false false false)) asks.day
-
--- on the key of an end of day
-key-where : (known : Known) (header : Header) (period : Period) (named : Option NamedTerminal) (again : Bool) → named_terminal known.core header.poi ≡ named → found_for known.kept header ≡ None → is_day_key header named ≡ true
-    → is_day_period period ≡ again → request_reply known header (requests.Reconciliation period) ≡ reply_of_result known.kept header (if again then Fails InProgress else Fails NotAllowed)
-key-where known header period None again named_is none day is = let e : true ≡ false = sym day ∙ unnamed-no-day header in absurd cc
-key-where known header period (Some named) again named_is none day is =
-    reply-where known header period named named_is none true (is_logged_out known.core header.sale header.poi) (lacks_room known.setup.slots known.kept known.core.terminals) named.terminal.standing day refl refl refl
-    ∙ ap (λ (b : Bool). reply_of_result known.kept header (if b then Fails InProgress else Fails NotAllowed)) is
+-- so an end of day that may begin is replied by the standing, and whether as many wait for the terminal as may
+day-where : (known : Known) (header : Header) (period : Period) (asks : AsksTerminal known header period (named_terminal known.core header.poi)) (standing : Standing) (full : Bool) → asks.terminal.terminal.standing ≡ standing
+    → is_queue_full known (named_terminal known.core header.poi) ≡ full
+    → request_reply known header (requests.Reconciliation period) ≡ reply_of_result known.kept header (result_of_new AcquirerReconciliation standing false false full)
+day-where known header period asks standing full is is_full =
+    reply-where known header period asks.terminal asks.is_named asks.may.unknown asks.may.not_pending false false full standing asks.may.logged_in asks.may.room (sym (ap (is_queue_full known) asks.is_named) ∙ is_full) is
+    ∙ ap (λ (p : Period). reply_of_result known.kept header (result_of_new p standing false false full)) asks.day
 
 -- at the terminal that is named, which is new
 new-where : (known : Known) (header : Header) (period : Period) (new : IsNewAtTerminal known header (named_terminal known.core header.poi)) (out no_room : Bool) → is_logged_out known.core header.sale header.poi ≡ out
-    → lacks_room known.setup.slots known.kept known.core.terminals ≡ no_room
-    → request_reply known header (requests.Reconciliation period) ≡ reply_of_result known.kept header (result_of_new period (IsNewAtTerminal.terminal new).terminal.standing false out no_room)
+    → lacks_room known.setup.slots known.kept known.core ≡ no_room
+    → request_reply known header (requests.Reconciliation period)
+    ≡ reply_of_result known.kept header (result_of_new period (IsNewAtTerminal.terminal new).terminal.standing out no_room (is_queue_full known (Some (IsNewAtTerminal.terminal new))))
 new-where known header period new out no_room o r =
-    reply-where known header period new.terminal new.is_named new.unknown false out no_room new.terminal.terminal.standing (subst (λ (n : Option NamedTerminal). is_day_key header n ≡ false) new.is_named new.no_day) o r refl
+    reply-where known header period new.terminal new.is_named new.unknown (subst (λ (n : Option NamedTerminal). is_pending_key known.core header n ≡ false) new.is_named new.not_pending) out no_room
+    (is_queue_full known (Some new.terminal)) new.terminal.terminal.standing o r refl refl
 
-out-reply : (standing : Standing) → is_out_of_service standing ≡ true → result_of_new AcquirerReconciliation standing false false false ≡ Fails UnavailableDevice
-out-reply (Unlinked due) out = refl
-out-reply Registering out = refl
-out-reply Enquiring out = refl
-out-reply (Ready last) out = absurd cc
-out-reply (Serving service last) out = absurd cc
-out-reply (Aside before reported) out = refl
+out-reply : (standing : Standing) (full : Bool) → is_out_of_service standing ≡ true → result_of_new AcquirerReconciliation standing false false full ≡ Fails UnavailableDevice
+out-reply (Unlinked due) full out = refl
+out-reply Registering full out = refl
+out-reply Enquiring full out = refl
+out-reply (Ready last) full out = absurd cc
+out-reply (Serving service last) full out = absurd cc
+out-reply (Aside before reported) full out = refl
 
 pub each-day-cause-is-replied : EachDayCauseIsReplied
 each-day-cause-is-replied known header period Aborted cause = absurd cause
-each-day-cause-is-replied known header period Busy cause = day-where known header period cause.asks (Serving cause.service cause.last) cause.serves
+each-day-cause-is-replied known header period Busy (finds, full) = day-where known header period finds.asks (Serving finds.service finds.last) true finds.serves full
 each-day-cause-is-replied known header period Cancel cause = absurd cause
-each-day-cause-is-replied known header period InProgress (day, again) = key-where known header period (named_terminal known.core header.poi) true refl day.unknown day.day again
+each-day-cause-is-replied known header period InProgress cause =
+    reply-by known header period (named_terminal known.core header.poi) (Fails InProgress) refl (pending-again-result known header (requests.Reconciliation period) (named_terminal known.core header.poi) cause.unknown cause.again)
 each-day-cause-is-replied known header period InsertedCard cause = absurd cause
 each-day-cause-is-replied known header period InvalidCard cause = absurd cause
-each-day-cause-is-replied known header period LoggedOut (new, out) = new-where known header period new true (lacks_room known.setup.slots known.kept known.core.terminals) out refl
+each-day-cause-is-replied known header period LoggedOut (new, out) = new-where known header period new true (lacks_room known.setup.slots known.kept known.core) out refl
 each-day-cause-is-replied known header period MessageFormat cause = absurd cause
 each-day-cause-is-replied known header period NotAllowed (inl otherwise) =
     let replied = each-on-record-is-replied known header (requests.Reconciliation period) (named_terminal known.core header.poi) otherwise.found otherwise.on_record in
     replied.other_content otherwise.other
-each-day-cause-is-replied known header period NotAllowed (inr (day, other)) = key-where known header period (named_terminal known.core header.poi) false refl day.unknown day.day other
+each-day-cause-is-replied known header period NotAllowed (inr cause) =
+    reply-by known header period (named_terminal known.core header.poi) (Fails NotAllowed) refl
+    (pending-otherwise-result known header (requests.Reconciliation period) (named_terminal known.core header.poi) cause.unknown cause.pending cause.other)
 each-day-cause-is-replied known header period NotFound cause = absurd cause
 each-day-cause-is-replied known header period Refusal cause = absurd cause
-each-day-cause-is-replied known header period UnavailableDevice (inl (none, unnamed)) = reply-by known header period None (Fails UnavailableDevice) unnamed (result-unnamed known header period none)
+each-day-cause-is-replied known header period UnavailableDevice (inl nowhere) =
+    reply-by known header period None (Fails UnavailableDevice) nowhere.unnamed
+    (not-pending-result known header (requests.Reconciliation period) None nowhere.unknown (subst (λ (n : Option NamedTerminal). is_pending_key known.core header n ≡ false) nowhere.unnamed nowhere.not_pending))
 each-day-cause-is-replied known header period UnavailableDevice (inr finds) =
-    day-where known header period finds.asks finds.asks.terminal.terminal.standing refl ∙ ap (reply_of_result known.kept header) (out-reply finds.asks.terminal.terminal.standing finds.out)
+    day-where known header period finds.asks finds.asks.terminal.terminal.standing (is_queue_full known (named_terminal known.core header.poi)) refl refl
+    ∙ ap (reply_of_result known.kept header) (out-reply finds.asks.terminal.terminal.standing (is_queue_full known (named_terminal known.core header.poi)) finds.out)
 each-day-cause-is-replied known header period UnavailableService (inl (of_till, unserved)) =
-    new-where known header period of_till.new false (lacks_room known.setup.slots known.kept known.core.terminals) of_till.logged_in refl
-    ∙ ap (λ (b : Bool). reply_of_result known.kept header (if b then Fails UnavailableService else (if lacks_room known.setup.slots known.kept known.core.terminals then Fails UnavailableService else (if is_sale_period period then Begins else (if is_out_of_service of_till.new.terminal.terminal.standing then Fails UnavailableDevice else (if is_ready_standing of_till.new.terminal.terminal.standing then Begins else Fails Busy)))))) unserved
+    new-where known header period of_till.new false (lacks_room known.setup.slots known.kept known.core) of_till.logged_in refl
+    ∙ ap (λ (b : Bool). reply_of_result known.kept header (if b then Fails UnavailableService else (if lacks_room known.setup.slots known.kept known.core then Fails UnavailableService else (if is_sale_period period then Begins else (if is_out_of_service of_till.new.terminal.terminal.standing then Fails UnavailableDevice else (if is_ready_standing of_till.new.terminal.terminal.standing then Begins else result_at_queue known (Some of_till.new.terminal))))))) unserved
 each-day-cause-is-replied known header period UnavailableService (inr (of_type, no_room)) =
     new-where known header period of_type.of_till.new false true of_type.of_till.logged_in no_room
     ∙ ap (λ (b : Bool). reply_of_result known.kept header (if b then Fails UnavailableService else Fails UnavailableService)) of_type.served
@@ -226,6 +240,7 @@ only-may-begins tills known till header period some = by-case (each-reconciliati
     by-named (Some terminal) KeptReply some = absurd (some refl)
     by-named (Some terminal) (Fails condition) some = absurd (some refl)
     by-named (Some terminal) Begins some = refl
+    by-named (Some terminal) Waits some = refl
 
     some_items : service_items known till header (requests.Reconciliation period) named ≢ []
     some_items none =
@@ -234,7 +249,8 @@ only-may-begins tills known till header period some = by-case (each-reconciliati
     none : request_reply known header (requests.Reconciliation period) ≡ None
     none = by-named named (step_result known header (requests.Reconciliation period) named) some_items
 
-    by-case : BeginsOrIsReplied known header period named → ReconciliationIsBegun known header period named
-    by-case (inl begins) = begins
-    by-case (inr (inl again)) = let e = sym none ∙ again.replied in absurd cc
-    by-case (inr (inr refused)) = let e = sym none ∙ refused.replied in absurd cc
+    by-case : BeginsOrIsReplied known header period named → ReconciliationIsBegun known header period named ⊎ ReconciliationWaits known header period named
+    by-case (inl begins) = inl begins
+    by-case (inr (inl waits)) = inr waits
+    by-case (inr (inr (inl again))) = let e = sym none ∙ again.replied in absurd cc
+    by-case (inr (inr (inr refused))) = let e = sym none ∙ refused.replied in absurd cc

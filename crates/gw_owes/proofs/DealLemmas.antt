@@ -33,7 +33,7 @@ use Rattle.gw_owes.specs.Deadlines.{late_row, due_row}
 use Rattle.gw_owes.specs.Displays.{serving_display}
 use Rattle.gw_owes.specs.Greeting.{greet_row, oversized_row}
 use Rattle.gw_owes.specs.Handling.{taken_as, meaning_at, taking, registering, enquiring, serving, consequence}
-use Rattle.gw_owes.specs.Items.{Crowded, Message, Asked, Unframed, Gone, Greet, Handle, Serve, NextWaiting, Oversized, LinkLost, Late, Overdue, Due}
+use Rattle.gw_owes.specs.Items.{Crowded, Message, Asked, Unframed, Gone, Greet, Handle, Serve, Queue, NextWaiting, Oversized, LinkLost, Late, Overdue, Due}
 use Rattle.gw_owes.specs.Links.{LinkIsMade, LinkHasFailed, LinkIsLost}
 use Rattle.gw_owes.specs.Reconciliations.{serving_day}
 use Rattle.gw_owes.specs.Reports.{Report, on_record, standing_reported, outcome_reported, report_of_open, report_against}
@@ -42,6 +42,7 @@ use Rattle.gw_owes.specs.Serving.{at_rest, done_with, approved_outcome, resolves
 use Rattle.gw_owes.specs.Terminals.{with_terminal, terminal_becomes, talk_of_command, link_lost, registers, unlinks}
 use Rattle.gw_owes.proofs.DialogueLemmas.{with-new}
 use Rattle.gw_owes.proofs.HandlingLemmas.{each-terminal, each-handled}
+use Rattle.gw_owes.proofs.NextLemmas.{each-next, known_without}
 use Rattle.gw_owes.proofs.PaymentLemmas.{each-served}
 use Rattle.gw_owes.proofs.RecordLemmas.{last-there, intent-stays}
 use Rattle.gw_owes.proofs.SetLemmas.{same-some}
@@ -271,7 +272,23 @@ rows-keep-deals known (Serve number till header request) all =
       day = λ terminal last at. becomes-deals known number _ _ all tt;
       displays = λ terminal last outputs command at. becomes-deals known number _ _ all tt;
     }))
-rows-keep-deals known (NextWaiting number) all = all-stay known.kept [] known.core all
+rows-keep-deals known (Queue number till header request) all = all-stay known.kept [] known.core all
+rows-keep-deals known (NextWaiting number) all =
+    KeepsDeals.all (each-next (KeepsDeals known) known number
+    (record {
+      none = nothing-deals known all;
+      refused = λ terminal last wait condition first is. record { all = all-stay known.kept [] known.core all };
+      begins = λ terminal last wait asking at. record {
+        all = becomes-with (known_without known wait) number _ (Intent asking.intent ∷ []) all
+            (record {
+              intent = asking.intent;
+              intent_is = ap (option_and_then as_intent) (last-there known.kept (Intent asking.intent));
+              kind_is = asked-kind asking.intent.what asking.intent asking.original terminal.pt.password terminal.pt known.moment;
+            });
+      };
+      day = λ terminal last wait at. record { all = becomes-with (known_without known wait) number _ [] all tt };
+      left = λ terminal last wait first. record { all = all-stay known.kept [] known.core all };
+    }))
 rows-keep-deals known (Oversized number) all = same-keeps known (oversized_row known number) all (oversized-same known number)
 rows-keep-deals known (LinkLost number) all = lost-keeps known number (records_kept (link_lost known number).calls) all
 rows-keep-deals known (Late number) all = same-keeps known (late_row known number) all (late-same known number)

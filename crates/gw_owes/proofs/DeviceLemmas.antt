@@ -36,7 +36,7 @@ use Rattle.gw_owes.specs.declared.terminal.Standing.{Standing}
 use Rattle.gw_owes.specs.declared.terminal.Standing.TheVariants.{Unlinked, Registering, Enquiring, Ready, Serving, Aside}
 use Rattle.gw_owes.specs.declared.terminal.Terminal.{Terminal}
 use Rattle.gw_owes.specs.Calls.{Sending, CutTill, LinkPt}
-use Rattle.gw_owes.specs.Days.{asks_day_served}
+use Rattle.gw_owes.specs.Waits.{asks_pending}
 use Rattle.gw_owes.specs.Deadlines.{is_due, is_late, due_row, late_row}
 use Rattle.gw_owes.specs.DeviceLaws.{owes_device_request, MeansToTill, GoesToTill, EachShownIsRequested, IsForTill, IsShownItem, OnlyShownIsRequested, NoLinkRequests, CountsRequest, EachRequestCounts, EachLinkLeavesNumber, EachTillGoneLeavesNumber, requests_in_step, requests_along, number_after, EachRunCounts}
 use Rattle.gw_owes.specs.DeviceRequests.{greatest_device_number, next_device_number, key_of_service, device_request_of, device_request_in, device_row, requests_device}
@@ -44,7 +44,7 @@ use Rattle.gw_owes.specs.Diagnosis.{NamedTerminal, diagnosis_reply, named_termin
 use Rattle.gw_owes.specs.Displays.{display_result, reply_of_display, serving_display}
 use Rattle.gw_owes.specs.Greeting.{greeting, sending_calls, greet_decoded}
 use Rattle.gw_owes.specs.Handling.{meaning_at, taking, registering, enquiring, consequence, taken_row, handle_row}
-use Rattle.gw_owes.specs.Items.{RoundItem, Crowded, Message, Asked, Unframed, Gone, Greet, Handle, Serve, NextWaiting, Oversized, LinkLost, Late, Overdue, Due}
+use Rattle.gw_owes.specs.Items.{RoundItem, Crowded, Message, Asked, Unframed, Gone, Greet, Handle, Serve, Queue, NextWaiting, Oversized, LinkLost, Late, Overdue, Due}
 use Rattle.gw_owes.specs.KeptReplies.{found_by_status, found_for, kept_reply, repeated_reply, status_reply_at}
 use Rattle.gw_owes.specs.Links.{LinkEvent, LinkIsMade, LinkHasFailed, LinkIsLost, cutting, is_linked, link_row}
 use Rattle.gw_owes.specs.PaymentLaws.{is_device_request}
@@ -58,12 +58,14 @@ use Rattle.gw_owes.specs.Requests.{abort_reply, reply_at, reply_to}
 use Rattle.gw_owes.specs.Row.{Known, Row, owing, owing_nothing, owing_where}
 use Rattle.gw_owes.specs.Rows.{asked_row, row_of}
 use Rattle.gw_owes.specs.Serving.{approved_outcome, approved_row, at_rest, breaking, reply_to_outcome, resolves, serving_transaction, staying}
-use Rattle.gw_owes.specs.Steps.{StepResult, KeptReply, Fails, Begins, reply_of_result}
+use Rattle.gw_owes.specs.Steps.{StepResult, KeptReply, Fails, Begins, Waits, reply_of_result}
 use Rattle.gw_owes.specs.TerminalLaws.{owes_cut}
 use Rattle.gw_owes.specs.TerminalRows.{terminal_of, terminal_row}
-use Rattle.gw_owes.specs.Transcript.{TerminalStep, HandlesItem, ChangesLink, StepAt, core_after, core_along, core_with_cut, known_after, known_before, known_new}
+use Rattle.gw_owes.specs.Transcript.{TerminalStep, HandlesItem, ChangesLink, ChangesWaits, StepAt, core_after, core_along, core_with_cut, known_after, known_before, known_new}
 use Rattle.gw_owes.specs.Terminals.{terminal_becomes, reply_calls_to, reply_to_lost, reply_to_unfinished, registers, unlinks}
 use Rattle.gw_owes.proofs.HandlingLemmas.{by-where, each-handled, each-linked, each-terminal, handled-is, means-taken}
+use Rattle.gw_owes.specs.WaitingRows.{next_waiting_row, overdue_row, queue_row}
+use Rattle.gw_owes.proofs.NextLemmas.{each-next, each-overdue, each-queued}
 use Rattle.gw_owes.proofs.PaymentLemmas.{each-served}
 use Rattle.gw_owes.proofs.SetLemmas.{new-is-there, same-some}
 
@@ -144,6 +146,7 @@ result-none : (kept : List Record) (header : Header) (result : StepResult) → i
 result-none kept header KeptReply = kept-none (found_for kept header)
 result-none kept header (Fails condition) = refl
 result-none kept header Begins = refl
+result-none kept header Waits = refl
 
 results-none : (header : Header) (results : Option (List Shown)) → is_device_reply (display_reply header results) ≡ false
 results-none header None = refl
@@ -153,6 +156,7 @@ display-none : (header : Header) (outputs : List Output) (result : StepResult) �
 display-none header outputs KeptReply = refl
 display-none header outputs (Fails condition) = results-none header (refused_results condition outputs)
 display-none header outputs Begins = refl
+display-none header outputs Waits = refl
 
 abort-none : (is_served : Bool) (known : Known) (header : Header) → is_device_reply (abort_reply is_served known header) ≡ false
 abort-none true known header = refl
@@ -177,7 +181,7 @@ reply-none named known header requests.Logout = result-none known.kept header _
 reply-none named known header (requests.Payment ask) = result-none known.kept header _
 reply-none named known header (requests.Reversal ask) = result-none known.kept header _
 reply-none named known header (requests.Abort reference) = abort-none _ known header
-reply-none named known header (requests.Status reference) = status-none header (found_by_status known.kept header reference) (asks_day_served known.core header reference)
+reply-none named known header (requests.Status reference) = status-none header (found_by_status known.kept header reference) (asks_pending known.core header reference)
 reply-none named known header (requests.Reconciliation period) = result-none known.kept header _
 reply-none named known header (requests.Display outputs) = display-none header outputs (display_result outputs named)
 reply-none named known header (requests.Print qualifier) = refl
@@ -402,6 +406,25 @@ served-none known number till header request = each-served (RequestsNone known) 
   displays = λ terminal last outputs command at. record { none = refl; same = refl };
 })
 
+queue-none : (known : Known) (number till : ℕ) (header : Header) (request : SaleRequest) → RequestsNone known (queue_row known number till header request)
+queue-none known number till header request = each-queued (RequestsNone known) known number till header request (record {
+  none = nothing-none known;
+  joins = λ terminal key at. record { none = refl; same = refl };
+  taken = λ wait at. record { none = refl; same = refl };
+})
+
+overdue-none : (known : Known) (key : Key) → RequestsNone known (overdue_row known key)
+overdue-none known key = each-overdue (RequestsNone known) known key (record { none = nothing-none known; taken = λ wait waits overdue. record { none = refl; same = refl } })
+
+next-none : (known : Known) (number : ℕ) → RequestsNone known (next_waiting_row known number)
+next-none known number = each-next (RequestsNone known) known number (record {
+  none = nothing-none known;
+  refused = λ terminal last wait condition first is. record { none = refl; same = refl };
+  begins = λ terminal last wait asking at. record { none = refl; same = refl };
+  day = λ terminal last wait at. record { none = refl; same = refl };
+  left = λ terminal last wait first. record { none = refl; same = refl };
+})
+
 service-reply-none : (service : Service) → is_device_reply (reply_to_unfinished service) ≡ false
 service-reply-none (Transaction slot) = refl
 service-reply-none (EndOfDay header period) = refl
@@ -444,11 +467,12 @@ row-requests tills known (Gone till) = inl (record { none = refl; same = refl })
 row-requests tills known (Greet number apdu) = inl (greet-none known number (decode_pt_message apdu))
 row-requests tills known (Handle number apdu) = handled known number apdu
 row-requests tills known (Serve number till header request) = inl (served-none known number till header request)
-row-requests tills known (NextWaiting number) = inl (nothing-none known)
+row-requests tills known (Queue number till header request) = inl (queue-none known number till header request)
+row-requests tills known (NextWaiting number) = inl (next-none known number)
 row-requests tills known (Oversized number) = inl (each-linked (RequestsNone known) known number (λ terminal. cutting known number) (nothing-none known) (λ terminal found linked. record { none = refl; same = refl }))
 row-requests tills known (LinkLost number) = inl (lost-none known number)
 row-requests tills known (Late number) = inl (late-none known number)
-row-requests tills known (Overdue key) = inl (nothing-none known)
+row-requests tills known (Overdue key) = inl (overdue-none known key)
 row-requests tills known (Due number) = inl (due-none known number)
 
 -- ---- the laws
@@ -506,7 +530,8 @@ terminal-requests known (Gone till) = inl (nothing-none known)
 terminal-requests known (Greet number apdu) = row-requests [] known (Greet number apdu)
 terminal-requests known (Handle number apdu) = row-requests [] known (Handle number apdu)
 terminal-requests known (Serve number till header request) = row-requests [] known (Serve number till header request)
-terminal-requests known (NextWaiting number) = inl (nothing-none known)
+terminal-requests known (Queue number till header request) = inl (nothing-none known)
+terminal-requests known (NextWaiting number) = row-requests [] known (NextWaiting number)
 terminal-requests known (Oversized number) = row-requests [] known (Oversized number)
 terminal-requests known (LinkLost number) = row-requests [] known (LinkLost number)
 terminal-requests known (Late number) = row-requests [] known (Late number)
@@ -533,6 +558,7 @@ step-counts known (HandlesItem item) = cut-leaves known (terminal_row known item
     by-either (inl none) = none.same ∙ ap (λ (owes : Bool). number_after (one_if owes) known.core.device_requests) (sym none.none)
     by-either (inr one) = one.next ∙ ap (λ (owes : Bool). number_after (one_if owes) known.core.device_requests) (sym one.one)
 step-counts known (ChangesLink number event) = each-link-leaves-number known number event
+step-counts known (ChangesWaits waits) = refl
 
 number-after-both : (owes : Bool) (more number : ℕ) → number_after more (number_after (one_if owes) number) ≡ number_after (one_if owes + more) number
 number-after-both true more number = let same : suc more ≡ 1 + more = omega arith in ap (λ (owed : ℕ). number_after owed number) same

@@ -37,7 +37,7 @@ use Rattle.gw_owes.specs.declared.terminal.Standing.TheVariants.{Unlinked, Regis
 use Rattle.gw_owes.specs.declared.terminal.Terminal.{Terminal}
 use Rattle.gw_owes.specs.AbortLaws.{IsStoppable}
 use Rattle.gw_owes.specs.Core.{Core, new_terminal}
-use Rattle.gw_owes.specs.Items.{Crowded, Message, Asked as AskedItem, Unframed, Gone, Greet, Handle, Serve, NextWaiting, Oversized, LinkLost, Late, Overdue, Due}
+use Rattle.gw_owes.specs.Items.{Crowded, Message, Asked as AskedItem, Unframed, Gone, Greet, Handle, Serve, Queue, NextWaiting, Oversized, LinkLost, Late, Overdue, Due}
 use Rattle.gw_owes.specs.Row.{Known, Row}
 use Rattle.gw_owes.specs.Terminals.{terminal_at, of_terminal, with_terminal, terminal_becomes, talk_of_command, link_made, link_lost, registers, unlinks, unlinked_terminal}
 use Rattle.gw_owes.specs.Links.{LinkIsMade, LinkHasFailed, LinkIsLost}
@@ -54,6 +54,7 @@ use Rattle.gw_owes.specs.Replies.{refused_results}
 use Rattle.gw_owes.specs.Dialogues.{AwaitedIn, RunsDialogue, runs_transaction, AwaitedServing, AwaitedShowing, IsKindOfService, AwaitedOfService, RunsService, IsDialogueOf, HasItsDialogue, AllHaveDialogues, OthersHaveDialogues, NewCoreHasDialogues, EachRowKeepsDialogues, EachLinkGivesDialogues}
 use Rattle.gw_owes.proofs.HandlingLemmas.{each-handled}
 use Rattle.gw_owes.proofs.CountLemmas.{more-some}
+use Rattle.gw_owes.proofs.NextLemmas.{each-next, known_without}
 use Rattle.gw_owes.proofs.PaymentLemmas.{StopsAt, each-served}
 use Rattle.gw_owes.proofs.TerminalLemmas.{greeting-changes-nothing, late-same, due-same, oversized-same}
 
@@ -703,7 +704,17 @@ rows-keep known (Serve number till header request) all =
           all-with known.core number _ (but-one known.core number all)
           (shown-runs header (refused_results UnavailableDevice outputs) outputs command terminal.pt known.moment terminal.awaited at.shown_is);
     })
-rows-keep known (NextWaiting number) all = λ no_cut. all
+rows-keep known (Queue number till header request) all = λ no_cut. all
+rows-keep known (NextWaiting number) all =
+    each-next Keeps known number
+    (record {
+      none = λ no_cut. all;
+      refused = λ terminal last wait condition first is no_cut. all;
+      begins = λ terminal last wait asking at no_cut.
+          all-with (known_without known wait).core number _ (but-one known.core number all) (asked-runs asking.intent.what asking.intent asking.original terminal.pt.password terminal.pt known.moment terminal.awaited (length known.kept));
+      day = λ terminal last wait at no_cut. all-with (known_without known wait).core number _ (but-one known.core number all) (record { facts = _; talk_is = refl; kind_is = refl; awaited_is = more-some terminal.awaited });
+      left = λ terminal last wait first no_cut. all;
+    })
 rows-keep known (Oversized number) all = same-keeps known (oversized_row known number) all (oversized-same known number)
 rows-keep known (LinkLost number) all = λ no_cut. lost-gives known number (but-one known.core number all)
 rows-keep known (Late number) all = same-keeps known (late_row known number) all (late-same known number)

@@ -544,13 +544,21 @@ becomes-alone known number old terminal row found same becomes =
 -- a device request changes no terminal more
 device-alone : (known : Known) (number : ℕ) (terminal : Terminal) (till : ℕ) (request : ReplyValue) → ChangesTerminalAlone number known.core (staying known number terminal).core
     → ChangesTerminalAlone number known.core (requests_device known number terminal till request).core
-device-alone known number terminal till request alone = record { others = alone.others; settings = alone.settings; count = alone.count; waits = alone.waits }
+device-alone known number terminal till request alone = record { others = alone.others; settings = alone.settings; count = alone.count }
 
 pub handle-alone : (known : Known) (number : ℕ) (apdu : ApduValue) → ChangesTerminalAlone number known.core (handle_row known number apdu).core
 handle-alone known number apdu =
     each-handled (λ (row : Row). ChangesTerminalAlone number known.core row.core) known number apdu (alone-same number known.core)
     (λ terminal message found linked is taken. becomes-alone known number terminal (taking terminal message known.moment) _ found refl (consequence-becomes known number _ (meaning_at terminal message) terminal.standing linked))
     (λ terminal message found linked is taken at stays. device-alone known number (taking terminal message known.moment) at.till at.request stays)
+
+-- what waits stays
+pub handle-leaves : (known : Known) (number : ℕ) (apdu : ApduValue) → (handle_row known number apdu).core.waits ≡ known.core.waits
+handle-leaves known number apdu =
+    each-handled (λ (row : Row). row.core.waits ≡ known.core.waits) known number apdu refl
+    (λ terminal message found linked is taken.
+    ap (λ (row : Row). row.core.waits) (Becomes.row_is (consequence-becomes known number (taking terminal message known.moment) (meaning_at terminal message) terminal.standing linked)))
+    (λ terminal message found linked is taken at stays. refl)
 
 becomes-ends : (known : Known) (number : ℕ) (terminal : Terminal) (row : Row) → Becomes known number terminal row → EndsInOne row
 becomes-ends known number terminal row becomes = subst EndsInOne (sym becomes.row_is) becomes.ends

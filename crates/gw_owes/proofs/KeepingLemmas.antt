@@ -37,6 +37,7 @@ use Rattle.gw_owes.specs.Reply.{ReplyValue}
 use Rattle.gw_owes.specs.Row.{Known, Row, owing, owing_nothing}
 use Rattle.gw_owes.specs.Serving.{staying}
 use Rattle.gw_owes.specs.TerminalLaws.{owes_cut, settings_of}
+use Rattle.gw_owes.specs.Waits.{slots_reserved}
 use Rattle.gw_owes.specs.Terminals.{talk_of_command, terminal_at, terminal_becomes, with_terminal, reply_calls_to}
 use Rattle.gw_owes.proofs.DayLemmas.{days-no-more, days_in}
 use Rattle.gw_owes.proofs.RecordLemmas.{LeavesTerminal, LedgerLaws, apart-keys, apart-texts, count-more, entry-of-open, folded-more, none-open, open-parts, other-leaves, same-text-itself, still-unknown}
@@ -94,7 +95,7 @@ command-read pt command moment = by-dialogue (dialogue_of command pt.none pt.ans
 -- ---- one more record
 
 -- the key of a request is one of its terminal
-own-key-poi : (header : Header) (key : Key) → own_key header ≡ Some key → key.poi ≡ header.poi
+pub own-key-poi : (header : Header) (key : Key) → own_key header ≡ Some key → key.poi ≡ header.poi
 own-key-poi header key is = by-service header.service is
   where
     by-service : (service : Option (List ℕ)) → option_map (λ (s : List ℕ). record { sale = header.sale; poi = header.poi; service = s }) service ≡ Some key → key.poi ≡ header.poi
@@ -182,13 +183,17 @@ replies-keep-nothing None reply = record { no_records = refl; no_cut = refl }
 replies-keep-nothing (Some till) None = record { no_records = refl; no_cut = refl }
 replies-keep-nothing (Some till) (Some reply) = record { no_records = refl; no_cut = refl }
 
--- room is left where no more ends of day are served
-pub same-room : (known : Known) → IsInOrder known → (core : Core) → days_served core.terminals ≤ days_served known.core.terminals → HasRoom known.setup.slots known.kept core
-same-room known order core days = let room = order.room in omega (arith, room, days)
+-- room is left where no more slots are reserved
+pub same-room : (known : Known) → IsInOrder known → (core : Core) → slots_reserved core ≤ slots_reserved known.core → HasRoom known.setup.slots known.kept core
+same-room known order core reserved = let room = order.room in omega (arith, room, reserved)
+
+-- no more are where no more ends of day are served, and no more wait
+pub no-more-reserved : (old new : Core) → days_served new.terminals ≤ days_served old.terminals → length new.waits ≤ length old.waits → slots_reserved new ≤ slots_reserved old
+no-more-reserved old new days waits = omega (arith, days, waits)
 
 module _ (known : Known) (order : IsInOrder known) (number : ℕ) where
   -- no record is kept
-  none-kept : (core : Core) → HasRoom known.setup.slots known.kept core → IsNumbered core → AreTerminalsInOrder known.kept core → KeepsInOrder known [] core
+  pub none-kept : (core : Core) → HasRoom known.setup.slots known.kept core → IsNumbered core → AreTerminalsInOrder known.kept core → KeepsInOrder known [] core
   none-kept core room numbered terminals = record {
     few = omega arith;
     folded = subst AreFolded (sym (append-nil known.kept)) order.folded;
@@ -220,7 +225,7 @@ module _ (known : Known) (order : IsInOrder known) (number : ℕ) where
   pub becomes-keeps : (old new : Terminal) (calls : List OwedCall) → terminal_at known number ≡ Some old → KeepNothing calls → days_in new.standing ≤ days_in old.standing → IsTerminalInOrder known.kept new
       → RowKeeps known number (terminal_becomes known number new calls)
   becomes-keeps old new calls here nothing days in_order =
-      begins-with new calls nothing (same-room known order (with_terminal known.core number new) (days-no-more known.core.terminals number old new here days)) in_order
+      begins-with new calls nothing (same-room known order (with_terminal known.core number new) (no-more-reserved known.core (with_terminal known.core number new) (days-no-more known.core.terminals number old new here days) (omega arith))) in_order
 
   -- the terminal's connection is cut, whatever it becomes, unless it is an end of day that begins
   pub breaking-keeps : (old new : Terminal) → terminal_at known number ≡ Some old → days_in new.standing ≤ days_in old.standing → RowKeeps known number (terminal_becomes known number new (CutPt number ∷ []))
@@ -228,7 +233,7 @@ module _ (known : Known) (order : IsInOrder known) (number : ℕ) where
     uncut = λ uncut. absurd cc;
     cut = λ cut. record {
       none_kept = refl;
-      room = same-room known order (with_terminal known.core number new) (days-no-more known.core.terminals number old new here days);
+      room = same-room known order (with_terminal known.core number new) (no-more-reserved known.core (with_terminal known.core number new) (days-no-more known.core.terminals number old new here days) (omega arith));
       numbered = order.numbered;
       others = λ other terminal apart found. order.terminals other terminal (sym (others-stay known.core.terminals number other new apart) ∙ found);
     };
@@ -262,22 +267,22 @@ module _ (known : Known) (order : IsInOrder known) (number : ℕ) where
 
   module _ (laws : LedgerLaws) (next : Record) (within : IsRecord next) (fitting : fits known.kept next ≡ true) where
     -- one record is kept, with which all terminals are in order
-    pub one-kept : (core : Core) → length known.kept + 1 + (open_with next (open_count_of known.kept) + days_served core.terminals) ≤ known.setup.slots → IsNumbered core → AreTerminalsInOrder (known.kept ++ next ∷ []) core
+    pub one-kept : (core : Core) → length known.kept + 1 + (open_with next (open_count_of known.kept) + slots_reserved core) ≤ known.setup.slots → IsNumbered core → AreTerminalsInOrder (known.kept ++ next ∷ []) core
         → KeepsInOrder known (next ∷ []) core
     one-kept core room numbered terminals = record {
       few = omega arith;
       folded = folded-more known.kept next order.folded within fitting;
       room =
           let more : length (known.kept ++ next ∷ []) ≡ length known.kept + 1 = length-append known.kept (next ∷ []) in
-          subst (λ (n : ℕ). length (known.kept ++ next ∷ []) + (n + days_served core.terminals) ≤ known.setup.slots) (sym (count-more laws known.kept next))
-          (subst (λ (n : ℕ). n + (open_with next (open_count_of known.kept) + days_served core.terminals) ≤ known.setup.slots) (sym more) room);
+          subst (λ (n : ℕ). length (known.kept ++ next ∷ []) + (n + slots_reserved core) ≤ known.setup.slots) (sym (count-more laws known.kept next))
+          (subst (λ (n : ℕ). n + (open_with next (open_count_of known.kept) + slots_reserved core) ≤ known.setup.slots) (sym more) room);
       numbered = numbered;
       terminals = terminals;
     }
 
     -- one record of the terminal is kept, with which it is in order
     pub record-keeps : (old new : Terminal) (tail : List OwedCall) → KeepNothing tail → terminal_at known number ≡ Some old
-        → length known.kept + 1 + (open_with next (open_count_of known.kept) + days_served (set known.core.terminals number new)) ≤ known.setup.slots → poi_of known.kept next ≡ Some old.pt.poi → IsTerminalInOrder (known.kept ++ next ∷ []) new
+        → length known.kept + 1 + (open_with next (open_count_of known.kept) + slots_reserved (with_terminal known.core number new)) ≤ known.setup.slots → poi_of known.kept next ≡ Some old.pt.poi → IsTerminalInOrder (known.kept ++ next ∷ []) new
         → RowKeeps known number (terminal_becomes known number new (keep_calls (length known.kept) next ++ tail))
     record-keeps old new tail nothing here room its_poi in_order = record {
       uncut = λ uncut. subst (λ (rest : List Record). KeepsInOrder known (next ∷ rest) (with_terminal known.core number new)) (sym nothing.no_records)
@@ -297,7 +302,7 @@ module _ (known : Known) (order : IsInOrder known) (number : ℕ) where
             }
 
     -- one record is kept, and no terminal becomes another; it leaves each that there is
-    pub owing-keeps : (tail : List OwedCall) → KeepNothing tail → length known.kept + 1 + (open_with next (open_count_of known.kept) + days_served known.core.terminals) ≤ known.setup.slots
+    pub owing-keeps : (tail : List OwedCall) → KeepNothing tail → length known.kept + 1 + (open_with next (open_count_of known.kept) + slots_reserved known.core) ≤ known.setup.slots
         → ((other : ℕ) (terminal : Terminal) → slice_get known.core.terminals other ≡ Some terminal → LeavesTerminal known.kept next terminal.pt.poi × LeavesDay terminal.standing next)
         → RowKeeps known number (owing known (keep_calls (length known.kept) next ++ tail))
     owing-keeps tail nothing room each = record {

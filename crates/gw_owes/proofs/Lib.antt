@@ -24,6 +24,8 @@ pub mod HeardLemmas
 pub mod KeepingLemmas
 pub mod LimitLemmas
 pub mod MemoryLemmas
+pub mod NextLemmas
+pub mod NextOrderLemmas
 pub mod OrderLemmas
 pub mod PaymentExampleLemmas
 pub mod PaymentLawLemmas
@@ -55,3 +57,11 @@ pub mod StopLemmas
 pub mod TerminalLemmas
 pub mod TranscriptExampleLemmas
 pub mod TranscriptLemmas
+pub mod WaitingCauseLemmas
+pub mod WaitingExampleLemmas
+pub mod WaitingFrameLemmas
+pub mod WaitingListLemmas
+pub mod WaitingOrderLemmas
+pub mod WaitingReplyLemmas
+pub mod WaitingRowLemmas
+pub mod WaitingStepLemmas

@@ -1,9 +1,10 @@
 -- How much memory the records take that a row keeps, and the ends of day that are served then.
-use Rattle.std.proofs.Common.{◌≡◌, ◌≤◌, ℕ, ◌+◌, Bool, true, false, ltb, leb, List, [], ◌∷◌, ◌++◌, length, refl, sym, ap, subst, arith}
+use Rattle.std.proofs.Common.{◌≡◌, ◌≤◌, ℕ, ◌+◌, Bool, true, false, eqb, ltb, leb, not, List, [], ◌∷◌, ◌++◌, length, refl, sym, ap, subst, arith}
 use Rattle.std.specs.Prelude.{Option, Some, None, if◌then◌else◌}
 use Rattle.gw_base.specs.declared.figures.Figures.{Figures}
 use Rattle.sale_values.specs.declared.header.Header.{Header}
 use Rattle.sale_values.specs.declared.names.Period.{Period}
+use Rattle.sale_values.specs.declared.request.SaleRequest.{SaleRequest}
 use Rattle.sale_reply.specs.declared.reply.Shown.{Shown}
 use Rattle.zvt_talk.specs.declared.meaning.Heard.{Heard}
 use Rattle.zvt_talk.specs.declared.meaning.Heard.TheVariants as heard
@@ -20,11 +21,10 @@ use Rattle.gw_owes.specs.declared.terminal.Standing.TheVariants.{Unlinked, Regis
 use Rattle.gw_owes.specs.declared.terminal.Terminal.{Terminal}
 use Rattle.gw_owes.specs.Awaited.{one_more_awaited}
 use Rattle.gw_owes.specs.Calls.{OwedCall, CutPt, keep_calls, records_kept}
-use Rattle.gw_owes.specs.Days.{days_served}
 use Rattle.gw_owes.specs.Displays.{asked_to_show, serving_display}
 use Rattle.gw_owes.specs.Handling.{consequence, enquires, enquiring, meaning_at, registering, serving, taking}
 use Rattle.gw_owes.specs.Links.{is_linked}
-use Rattle.gw_owes.specs.Payments.{asked_for}
+use Rattle.gw_owes.specs.Payments.{asked_for, serve_row}
 use Rattle.gw_owes.specs.RecordLaws.{EachMessageTakesItsMemory, EachRequestTakesOne, EachTillGoneLeavesDays, memory_after, memory_of, memory_taken}
 use Rattle.gw_owes.specs.Reconciliations.{asked_for_day, day_done, reply_to_settled, serving_day, settled_of}
 use Rattle.gw_owes.specs.Reply.{ReplyValue}
@@ -33,9 +33,12 @@ use Rattle.gw_owes.specs.Row.{Known, Row}
 use Rattle.gw_owes.specs.Serving.{approved_outcome, approved_row, at_rest, breaking, declined_outcome, done_with, last_after_decline, reply_to_outcome, resolves, serving_transaction, staying, stops, was_stopped}
 use Rattle.gw_owes.specs.Stops.{wishing}
 use Rattle.gw_owes.specs.Terminals.{reply_calls_to, terminal_at, terminal_becomes}
+use Rattle.gw_owes.specs.Core.{Wait}
+use Rattle.gw_owes.specs.Waits.{memory_reserved}
 use Rattle.gw_owes.proofs.DayLemmas.{days-forgotten, days-no-more, days-one-more, days-set, days_in}
 use Rattle.gw_owes.proofs.HandlingLemmas.{each-handled}
 use Rattle.gw_owes.proofs.KeepingLemmas.{KeepNothing, no-calls, replies-keep-nothing}
+use Rattle.gw_owes.proofs.NextOrderLemmas.{few-pass, queues-take-one}
 use Rattle.gw_owes.proofs.PaymentLemmas.{each-served}
 
 -- calls that keep no record take no memory
@@ -201,24 +204,25 @@ module _ (known : Known) (number : ℕ) (now : Terminal) where
   consequence-so meant (Aside before reported) linked is = stays-so
 
 -- the terminal was there
-spent : (known : Known) (number : ℕ) (old : Terminal) (row : Row) → terminal_at known number ≡ Some old → Spends known number old.standing row → memory_after row ≤ days_served known.core.terminals
+spent : (known : Known) (number : ℕ) (old : Terminal) (row : Row) → terminal_at known number ≡ Some old → Spends known number old.standing row → memory_after row ≤ memory_reserved known.core
 spent known number old row found spends =
     let days = days-set known.core.terminals number old spends.new found in
     let least = spends.least in
-    subst (λ (r : Row). memory_after r ≤ days_served known.core.terminals) (sym spends.row_is) (omega (arith, days, least))
+    subst (λ (r : Row). memory_after r ≤ memory_reserved known.core) (sym spends.row_is) (omega (arith, days, least))
 
 -- ---- the laws
 
 pub messages-take-theirs : EachMessageTakesItsMemory
 messages-take-theirs known number apdu =
-    each-handled (λ (row : Row). memory_after row ≤ days_served known.core.terminals) known number apdu (omega arith)
+    each-handled (λ (row : Row). memory_after row ≤ memory_reserved known.core) known number apdu (omega arith)
     (λ terminal message found linked is taken.
     spent known number terminal _ found (consequence-so known number (taking terminal message known.moment) (meaning_at terminal message) terminal.standing linked refl))
     (λ terminal message found linked is taken at stays. stays)
 
-pub requests-take-one : EachRequestTakesOne
-requests-take-one known number till header request =
-    each-served (λ (row : Row). memory_after row ≤ days_served known.core.terminals + 1) known number till header request (record {
+-- what begins takes one more at most
+serves-take-one : (known : Known) (number till : ℕ) (header : Header) (request : SaleRequest) → memory_after (serve_row known number till header request) ≤ memory_reserved known.core + 1
+serves-take-one known number till header request =
+    each-served (λ (row : Row). memory_after row ≤ memory_reserved known.core + 1) known number till header request (record {
       none = omega arith;
       begins = λ terminal last asking at. let days = days-set known.core.terminals number terminal (asked_for known till terminal last asking.intent asking.original) at.found in omega (arith, days);
       sent = λ terminal talk at may. let days = days-no-more known.core.terminals number terminal (record (wishing terminal talk) { awaited = one_more_awaited terminal.awaited }) at.found (omega arith) in omega (arith, days);
@@ -232,5 +236,8 @@ requests-take-one known number till header request =
       displays = λ terminal last outputs command at. let days = days-no-more known.core.terminals number terminal (asked_to_show known till terminal last header outputs command) at.found (omega arith) in omega (arith, days);
     })
 
+pub requests-take-one : EachRequestTakesOne
+requests-take-one known number till header request = (serves-take-one known number till header request, queues-take-one known number till header request)
+
 pub gone-leaves-days : EachTillGoneLeavesDays
-gone-leaves-days core till = days-forgotten till core.terminals
+gone-leaves-days core till = (days-forgotten till core.terminals, few-pass (λ (wait : Wait). not (eqb wait.till till)) core.waits)

@@ -1,5 +1,5 @@
 -- Each item, and each event of a link, keeps what is known in order.
-use Rattle.std.proofs.Common.{◌≡◌, ◌≢◌, ◌∙◌, ◌≤◌, ℕ, zero, suc, Bool, true, false, List, [], ◌∷◌, refl, sym, ap, subst, arith}
+use Rattle.std.proofs.Common.{◌≡◌, ◌≢◌, ◌∙◌, ◌≤◌, ℕ, zero, suc, Bool, true, false, List, [], ◌∷◌, length, refl, sym, ap, subst, arith}
 use Rattle.std.specs.Prelude.{All, map, slice_get, Option, Some, None, pos, Result, Ok, Err, unwrap_or}
 use Rattle.std.proofs.lemmas.List.Elements.{All-nil}
 use Rattle.std.proofs.lemmas.Option.{same_Some}
@@ -21,7 +21,7 @@ use Rattle.gw_owes.specs.Deadlines.{due_row, is_due, is_late, late_row}
 use Rattle.gw_owes.specs.DeviceRequests.{greatest_device_number}
 use Rattle.gw_owes.specs.Greeting.{greet_decoded, greeting, outside_row, sending_calls}
 use Rattle.gw_owes.specs.Handling.{handle_decoded, handle_message, meaning_at, taken_as, taken_row, taking}
-use Rattle.gw_owes.specs.Items.{RoundItem, Crowded, Message, Asked, Unframed, Gone, Greet, Handle, Serve, NextWaiting, Oversized, LinkLost, Late, Overdue, Due}
+use Rattle.gw_owes.specs.Items.{RoundItem, Crowded, Message, Asked, Unframed, Gone, Greet, Handle, Serve, Queue, NextWaiting, Oversized, LinkLost, Late, Overdue, Due}
 use Rattle.gw_owes.specs.Links.{cutting, is_linked, LinkIsMade, LinkHasFailed, LinkIsLost, of_linked}
 use Rattle.gw_owes.specs.Payments.{serve_row}
 use Rattle.gw_owes.specs.RecordLaws.{CutKeepsInOrder, EachCutKeepsInOrder, EachLinkKeepsInOrder, EachRowBringsReadItems, EachRowKeepsInOrder, IsInOrder, IsReadItem, IsTerminalInOrder, NewCoreIsInOrder, LinkKeepsInOrder}
@@ -29,12 +29,15 @@ use Rattle.gw_owes.specs.Row.{Known, Row, owing, owing_where}
 use Rattle.gw_owes.specs.Rows.{asked_row}
 use Rattle.gw_owes.specs.TerminalLaws.{owes_cut}
 use Rattle.gw_owes.specs.TerminalRows.{terminal_of, terminal_row}
+use Rattle.gw_owes.specs.WaitingRows.{next_waiting_row}
 use Rattle.gw_owes.specs.Terminals.{after_command, link_lost, link_made, of_terminal, registers, registration, reply_to_lost, terminal_at, unlinked_terminal, unlinks}
 use Rattle.gw_owes.proofs.BeginLemmas.{begun-read, serve-keeps, serve-never-cuts}
 use Rattle.gw_owes.proofs.DayLemmas.{days-no-more}
 use Rattle.gw_owes.proofs.HandlingLemmas.{taken-cases}
 use Rattle.gw_owes.proofs.HeardLemmas.{meant-fits, taken-read}
-use Rattle.gw_owes.proofs.KeepingLemmas.{KeepNothing, RowKeeps, command-read, cutting-keeps, device-keeps, in-order-keeps, no-calls, nothing-keeps, others-with, replies-keep-nothing, same-room}
+use Rattle.gw_owes.proofs.KeepingLemmas.{KeepNothing, RowKeeps, command-read, cutting-keeps, device-keeps, in-order-keeps, no-calls, nothing-keeps, no-more-reserved, others-with, replies-keep-nothing, same-room}
+use Rattle.gw_owes.proofs.NextLemmas.{each-overdue, each-queued}
+use Rattle.gw_owes.proofs.NextOrderLemmas.{next-never-cuts, next-read}
 use Rattle.gw_owes.proofs.RecordLemmas.{LedgerLaws}
 use Rattle.gw_owes.proofs.ServingLemmas.{consequence-keeps}
 
@@ -51,10 +54,11 @@ lost-in-order : (known : Known) (number : ℕ) → LinkKeepsInOrder known number
 lost-in-order known number = by-found (terminal_at known number) refl
   where
     by-found : (found : Option Terminal) → terminal_at known number ≡ found → LinkKeepsInOrder known number (of_terminal known (unlinks known number) found).core
-    by-found None none = record { terminals = λ others other terminal found. others other terminal (missing known number other terminal none found) found; days = omega arith; device_requests = refl }
+    by-found None none = record { terminals = λ others other terminal found. others other terminal (missing known number other terminal none found) found; days = omega arith; waits = refl; device_requests = refl }
     by-found (Some terminal) is = record {
       terminals = λ others. others-with known.kept known.core number (unlinked_terminal terminal known.moment) others (record { records = tt; read = tt });
       days = days-no-more known.core.terminals number terminal (unlinked_terminal terminal known.moment) is (omega arith);
+      waits = refl;
       device_requests = refl;
     }
 
@@ -62,12 +66,13 @@ made-in-order : (known : Known) (number : ℕ) → LinkKeepsInOrder known number
 made-in-order known number = by-found (terminal_at known number) refl
   where
     by-found : (found : Option Terminal) → terminal_at known number ≡ found → LinkKeepsInOrder known number (of_terminal known (registers known number) found).core
-    by-found None none = record { terminals = λ others other terminal found. others other terminal (missing known number other terminal none found) found; days = omega arith; device_requests = refl }
+    by-found None none = record { terminals = λ others other terminal found. others other terminal (missing known number other terminal none found) found; days = omega arith; waits = refl; device_requests = refl }
     by-found (Some terminal) is =
         let new : Terminal = after_command (record terminal { awaited = 0 }) (registration terminal.pt) Registering known.moment in
         record {
           terminals = λ others. others-with known.kept known.core number new others (record { records = tt; read = command-read terminal.pt (registration terminal.pt) known.moment });
           days = days-no-more known.core.terminals number terminal new is (omega arith);
+          waits = refl;
           device_requests = refl;
         }
 
@@ -125,7 +130,7 @@ module _ (known : Known) (order : IsInOrder known) (number : ℕ) where
   lost-keeps : RowKeeps known number (link_lost known number)
   lost-keeps =
       let left = lost-in-order known number in
-      in-order-keeps known order number (link_lost known number) nothing (same-room known order (link_lost known number).core left.days) (subst (λ (n : ℕ). n ≤ greatest_device_number) (sym left.device_requests) order.numbered)
+      in-order-keeps known order number (link_lost known number) nothing (same-room known order (link_lost known number).core (no-more-reserved known.core (link_lost known number).core left.days (let waits = ap length left.waits in omega (arith, waits)))) (subst (λ (n : ℕ). n ≤ greatest_device_number) (sym left.device_requests) order.numbered)
       (left.terminals (λ other terminal apart found. order.terminals other terminal found)) no_items
     where
       nothing : KeepNothing (link_lost known number).calls
@@ -161,25 +166,26 @@ module _ (known : Known) (order : IsInOrder known) (number : ℕ) where
 abbrev number_in : RoundItem → ℕ
 number_in item = unwrap_or (terminal_of item) 0
 
--- the row of each item
-row-keeps : (laws : LedgerLaws) (messages : MessagesFit) (known : Known) (order : IsInOrder known) (item : RoundItem) → IsReadItem known.setup item → RowKeeps known (number_in item) (terminal_row known item)
-row-keeps laws messages known order (Crowded till) read = nothing-keeps known order 0
-row-keeps laws messages known order (Message till bytes) read = nothing-keeps known order 0
-row-keeps laws messages known order (Asked till as_read) read = nothing-keeps known order 0
-row-keeps laws messages known order (Unframed till) read = nothing-keeps known order 0
-row-keeps laws messages known order (Gone till) read = nothing-keeps known order 0
-row-keeps laws messages known order (Greet number apdu) read = greet-keeps known order number (decode_pt_message apdu)
-row-keeps laws messages known order (Handle number apdu) read = handle-keeps known order number laws (decode_pt_message apdu) (messages apdu)
-row-keeps laws messages known order (Serve number till header request) read = serve-keeps laws known order number till header request read
-row-keeps laws messages known order (NextWaiting number) read = nothing-keeps known order number
-row-keeps laws messages known order (Oversized number) read = outside-keeps known order number
-row-keeps laws messages known order (LinkLost number) read = lost-keeps known order number
-row-keeps laws messages known order (Late number) read = late-keeps known order number
-row-keeps laws messages known order (Overdue key) read = nothing-keeps known order 0
-row-keeps laws messages known order (Due number) read = due-keeps known order number
+-- the row of each item but the beginning of one that has waited
+row-keeps : (laws : LedgerLaws) (messages : MessagesFit) (known : Known) (order : IsInOrder known) (item : RoundItem) → ((number : ℕ) → item ≢ NextWaiting number) → IsReadItem known.setup item → RowKeeps known (number_in item) (terminal_row known item)
+row-keeps laws messages known order (Crowded till) other read = nothing-keeps known order 0
+row-keeps laws messages known order (Message till bytes) other read = nothing-keeps known order 0
+row-keeps laws messages known order (Asked till as_read) other read = nothing-keeps known order 0
+row-keeps laws messages known order (Unframed till) other read = nothing-keeps known order 0
+row-keeps laws messages known order (Gone till) other read = nothing-keeps known order 0
+row-keeps laws messages known order (Greet number apdu) other read = greet-keeps known order number (decode_pt_message apdu)
+row-keeps laws messages known order (Handle number apdu) other read = handle-keeps known order number laws (decode_pt_message apdu) (messages apdu)
+row-keeps laws messages known order (Serve number till header request) other read = serve-keeps laws known order number till header request read
+row-keeps laws messages known order (Queue number till header request) other read = nothing-keeps known order 0
+row-keeps laws messages known order (NextWaiting number) other read = absurd (other number refl)
+row-keeps laws messages known order (Oversized number) other read = outside-keeps known order number
+row-keeps laws messages known order (LinkLost number) other read = lost-keeps known order number
+row-keeps laws messages known order (Late number) other read = late-keeps known order number
+row-keeps laws messages known order (Overdue key) other read = nothing-keeps known order 0
+row-keeps laws messages known order (Due number) other read = due-keeps known order number
 
 pub rows-in-order : LedgerLaws → MessagesFit → EachRowKeepsInOrder
-rows-in-order laws messages known item order read uncut = (row-keeps laws messages known order item read).uncut uncut
+rows-in-order laws messages known item other order read uncut = (row-keeps laws messages known order item other read).uncut uncut
 
 -- ---- cuts
 
@@ -197,7 +203,8 @@ cut-leaves laws messages known order (Gone till) cut = tt
 cut-leaves laws messages known order (Greet number apdu) cut = (greet-keeps known order number (decode_pt_message apdu)).cut cut
 cut-leaves laws messages known order (Handle number apdu) cut = (handle-keeps known order number laws (decode_pt_message apdu) (messages apdu)).cut cut
 cut-leaves laws messages known order (Serve number till header request) cut = let never : owes_cut (serve_row known number till header request).calls ≡ false = serve-never-cuts known number till header request in absurd cc
-cut-leaves laws messages known order (NextWaiting number) cut = absurd cc
+cut-leaves laws messages known order (Queue number till header request) cut = tt
+cut-leaves laws messages known order (NextWaiting number) cut = let never : owes_cut (next_waiting_row known number).calls ≡ false = next-never-cuts known number in absurd cc
 cut-leaves laws messages known order (Oversized number) cut = (outside-keeps known order number).cut cut
 cut-leaves laws messages known order (LinkLost number) cut = (lost-keeps known order number).cut cut
 cut-leaves laws messages known order (Late number) cut = (late-keeps known order number).cut cut
@@ -227,20 +234,22 @@ items-read laws messages tills known (Unframed till) order read = by-there (is_c
     by-there true = All-nil (IsReadItem known.setup)
     by-there false = All-nil (IsReadItem known.setup)
 items-read laws messages tills known (Gone till) order read = All-nil (IsReadItem known.setup)
-items-read laws messages tills known (Greet number apdu) order read = no-items-read known.setup _ (row-keeps laws messages known order (Greet number apdu) read).no_items
-items-read laws messages tills known (Handle number apdu) order read = no-items-read known.setup _ (row-keeps laws messages known order (Handle number apdu) read).no_items
-items-read laws messages tills known (Serve number till header request) order read = no-items-read known.setup _ (row-keeps laws messages known order (Serve number till header request) read).no_items
-items-read laws messages tills known (NextWaiting number) order read = All-nil (IsReadItem known.setup)
-items-read laws messages tills known (Oversized number) order read = no-items-read known.setup _ (row-keeps laws messages known order (Oversized number) read).no_items
-items-read laws messages tills known (LinkLost number) order read = no-items-read known.setup _ (row-keeps laws messages known order (LinkLost number) read).no_items
-items-read laws messages tills known (Late number) order read = no-items-read known.setup _ (row-keeps laws messages known order (Late number) read).no_items
-items-read laws messages tills known (Overdue key) order read = All-nil (IsReadItem known.setup)
-items-read laws messages tills known (Due number) order read = no-items-read known.setup _ (row-keeps laws messages known order (Due number) read).no_items
+items-read laws messages tills known (Greet number apdu) order read = no-items-read known.setup _ (row-keeps laws messages known order (Greet number apdu) (λ n e. absurd cc) read).no_items
+items-read laws messages tills known (Handle number apdu) order read = no-items-read known.setup _ (row-keeps laws messages known order (Handle number apdu) (λ n e. absurd cc) read).no_items
+items-read laws messages tills known (Serve number till header request) order read = no-items-read known.setup _ (row-keeps laws messages known order (Serve number till header request) (λ n e. absurd cc) read).no_items
+items-read laws messages tills known (Queue number till header request) order read =
+    no-items-read known.setup _ (each-queued (λ (row : Row). row.items ≡ []) known number till header request (record { none = refl; joins = λ terminal key at. refl; taken = λ wait at. refl }))
+items-read laws messages tills known (NextWaiting number) order read = next-read known number
+items-read laws messages tills known (Oversized number) order read = no-items-read known.setup _ (row-keeps laws messages known order (Oversized number) (λ n e. absurd cc) read).no_items
+items-read laws messages tills known (LinkLost number) order read = no-items-read known.setup _ (row-keeps laws messages known order (LinkLost number) (λ n e. absurd cc) read).no_items
+items-read laws messages tills known (Late number) order read = no-items-read known.setup _ (row-keeps laws messages known order (Late number) (λ n e. absurd cc) read).no_items
+items-read laws messages tills known (Overdue key) order read = no-items-read known.setup _ (each-overdue (λ (row : Row). row.items ≡ []) known key (record { none = refl; taken = λ wait found overdue. refl }))
+items-read laws messages tills known (Due number) order read = no-items-read known.setup _ (row-keeps laws messages known order (Due number) (λ n e. absurd cc) read).no_items
 
 -- ---- as a run begins
 
 pub new-in-order : NewCoreIsInOrder
-new-in-order setup kept = (λ number terminal found. in-list setup.terminals number terminal found, no-days setup.terminals)
+new-in-order setup kept = (λ number terminal found. in-list setup.terminals number terminal found, (let none = no-days setup.terminals in omega (arith, none)))
   where
     in-list : (pts : List Pt) (number : ℕ) (terminal : Terminal) → slice_get (map new_terminal pts) number ≡ Some terminal → IsTerminalInOrder kept terminal
     in-list [] number terminal f = absurd cc

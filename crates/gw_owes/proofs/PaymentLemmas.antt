@@ -29,7 +29,7 @@ use Rattle.gw_owes.specs.declared.terminal.Standing.TheVariants.{Unlinked, Regis
 use Rattle.gw_owes.specs.declared.terminal.Terminal.{Terminal}
 use Rattle.gw_owes.specs.AbortLaws.{IsStoppable}
 use Rattle.gw_owes.specs.Calls.{Ask, SendTill, SendPt}
-use Rattle.gw_owes.specs.Days.{is_day_again, is_day_key, serves_day}
+use Rattle.gw_owes.specs.Days.{serves_day}
 use Rattle.gw_owes.specs.Diagnosis.{NamedTerminal}
 use Rattle.gw_owes.specs.Displays.{asked_to_show, display_result, display_row, shows, shows_in}
 use Rattle.gw_owes.specs.KeptReplies.{found_for, own_key}
@@ -40,9 +40,10 @@ use Rattle.gw_owes.specs.Row.{Known, Row, owing, owing_nothing, becoming}
 use Rattle.gw_owes.specs.Serving.{staying, stops}
 use Rattle.gw_owes.specs.Sessions.{is_logged_out, is_session, pairs_after}
 use Rattle.gw_owes.specs.SessionRows.{session_result, session_row, success_reply}
-use Rattle.gw_owes.specs.Steps.{KeptReply, Fails, Begins, is_repeated, has_reply, is_unserved, asks_other_currency, asks_transaction, is_used_up, lacks_room, asks_settling, is_unavailable, is_ready, is_beginning, step_result}
+use Rattle.gw_owes.specs.Steps.{StepResult, KeptReply, Fails, Begins, Waits, is_repeated, has_reply, is_unserved, asks_other_currency, asks_transaction, is_used_up, lacks_room, asks_settling, is_unavailable, is_ready, is_beginning, is_waiting_result, step_result}
 use Rattle.gw_owes.specs.Stops.{serves_entry, serves_any, serves_key, stop_row, stops_key, wishes_stop, wishing}
 use Rattle.gw_owes.specs.Terminals.{terminal_at, of_terminal, terminal_becomes}
+use Rattle.gw_owes.specs.Waits.{is_pending_again, is_pending_key, is_queue_full}
 use Rattle.gw_owes.proofs.HandlingLemmas.{by-where, each-terminal}
 
 -- ---- what begins
@@ -323,10 +324,15 @@ each-served P known number till header requests.Diagnosis cases = cases.none
 
 -- ---- what the steps say of a request that begins
 
+-- the result of the seventeen steps, by whether each applies; the last two are about how many wait
+abbrev result-of-table : Bool → Bool → Bool → Bool → Bool → Bool → Bool → Bool → Bool → Bool → Bool → Bool → Bool → Bool → Bool → Bool → Bool → StepResult
+result-of-table kept in_progress other_content pending_again pending_key unnamed logged_out unserved other_currency no_original irreversible used_up no_room settling unavailable ready full =
+    if kept then KeptReply else (if in_progress then Fails InProgress else (if other_content then Fails NotAllowed else (if pending_again then Fails InProgress else (if pending_key then Fails NotAllowed else (if unnamed then Fails UnavailableDevice else (if logged_out then Fails LoggedOut else (if unserved then Fails UnavailableService else (if other_currency then Fails NotAllowed else (if no_original then Fails NotFound else (if irreversible then Fails NotAllowed else (if used_up then Fails UnavailableService else (if no_room then Fails UnavailableService else (if settling then Begins else (if unavailable then Fails UnavailableDevice else (if ready then Begins else (if full then Fails Busy else Waits))))))))))))))))
+
 -- no step before the last applies, and the terminal is ready, unless it isn't asked
 pub record PassesSteps (known : Known) (header : Header) (request : SaleRequest) (named : Option NamedTerminal) : Type 0 where
   pub unknown : found_for known.kept header ≡ None
-  pub no_day : is_day_key header named ≡ false
+  pub not_pending : is_pending_key known.core header named ≡ false
   pub there : is_some named ≡ true
   pub logged_in : is_logged_out known.core header.sale header.poi ≡ false
   pub served : is_unserved request ≡ false
@@ -334,16 +340,33 @@ pub record PassesSteps (known : Known) (header : Header) (request : SaleRequest)
   pub original : names_none known.kept header.poi request ≡ false
   pub reversible : names_irreversible known.kept header.poi request ≡ false
   pub number_left : (asks_transaction request && is_used_up known.kept header.poi named) ≡ false
-  pub room : lacks_room known.setup.slots known.kept known.core.terminals ≡ false
+  pub room : lacks_room known.setup.slots known.kept known.core ≡ false
   pub ready : (asks_settling request || is_ready named) ≡ true
 
--- of sixteen steps none applies before the last, or the one that asks no terminal
-record OnlyLast (kept in_progress other_content day_again day_key unnamed logged_out unserved other_currency no_original irreversible used_up no_room settling unavailable ready : Bool) : Type 0 where
+-- no step applies, and fewer requests wait for the terminal than may
+pub record WaitsSteps (known : Known) (header : Header) (request : SaleRequest) (named : Option NamedTerminal) : Type 0 where
+  pub unknown : found_for known.kept header ≡ None
+  pub not_pending : is_pending_key known.core header named ≡ false
+  pub there : is_some named ≡ true
+  pub logged_in : is_logged_out known.core header.sale header.poi ≡ false
+  pub served : is_unserved request ≡ false
+  pub currency : asks_other_currency request named ≡ false
+  pub original : names_none known.kept header.poi request ≡ false
+  pub reversible : names_irreversible known.kept header.poi request ≡ false
+  pub number_left : (asks_transaction request && is_used_up known.kept header.poi named) ≡ false
+  pub room : lacks_room known.setup.slots known.kept known.core ≡ false
+  pub own : asks_settling request ≡ false
+  pub available : is_unavailable named ≡ false
+  pub not_ready : is_ready named ≡ false
+  pub not_full : is_queue_full known named ≡ false
+
+-- of the first thirteen steps none applies
+record NoneApplies (kept in_progress other_content pending_again pending_key unnamed logged_out unserved other_currency no_original irreversible used_up no_room : Bool) : Type 0 where
   pub kept_is : kept ≡ false
   pub in_progress_is : in_progress ≡ false
   pub other_content_is : other_content ≡ false
-  pub day_again_is : day_again ≡ false
-  pub day_key_is : day_key ≡ false
+  pub pending_again_is : pending_again ≡ false
+  pub pending_key_is : pending_key ≡ false
   pub unnamed_is : unnamed ≡ false
   pub logged_out_is : logged_out ≡ false
   pub unserved_is : unserved ≡ false
@@ -352,26 +375,57 @@ record OnlyLast (kept in_progress other_content day_again day_key unnamed logged
   pub irreversible_is : irreversible ≡ false
   pub used_up_is : used_up ≡ false
   pub no_room_is : no_room ≡ false
-  pub ready_is : (settling || ready) ≡ true
 
-only-last : (kept in_progress other_content day_again day_key unnamed logged_out unserved other_currency no_original irreversible used_up no_room settling unavailable ready : Bool) → is_beginning (if kept then KeptReply else (if in_progress then Fails InProgress else (if other_content then Fails NotAllowed else (if day_again then Fails InProgress else (if day_key then Fails NotAllowed else (if unnamed then Fails UnavailableDevice else (if logged_out then Fails LoggedOut else (if unserved then Fails UnavailableService else (if other_currency then Fails NotAllowed else (if no_original then Fails NotFound else (if irreversible then Fails NotAllowed else (if used_up then Fails UnavailableService else (if no_room then Fails UnavailableService else (if settling then Begins else (if unavailable then Fails UnavailableDevice else (if ready then Begins else Fails Busy)))))))))))))))) ≡ true → OnlyLast kept in_progress other_content day_again day_key unnamed logged_out unserved other_currency no_original irreversible used_up no_room settling unavailable ready
-only-last true in_progress other_content day_again day_key unnamed logged_out unserved other_currency no_original irreversible used_up no_room settling unavailable ready begins_is = absurd cc
-only-last false true other_content day_again day_key unnamed logged_out unserved other_currency no_original irreversible used_up no_room settling unavailable ready begins_is = absurd cc
-only-last false false true day_again day_key unnamed logged_out unserved other_currency no_original irreversible used_up no_room settling unavailable ready begins_is = absurd cc
-only-last false false false true day_key unnamed logged_out unserved other_currency no_original irreversible used_up no_room settling unavailable ready begins_is = absurd cc
-only-last false false false false true unnamed logged_out unserved other_currency no_original irreversible used_up no_room settling unavailable ready begins_is = absurd cc
-only-last false false false false false true logged_out unserved other_currency no_original irreversible used_up no_room settling unavailable ready begins_is = absurd cc
-only-last false false false false false false true unserved other_currency no_original irreversible used_up no_room settling unavailable ready begins_is = absurd cc
-only-last false false false false false false false true other_currency no_original irreversible used_up no_room settling unavailable ready begins_is = absurd cc
-only-last false false false false false false false false true no_original irreversible used_up no_room settling unavailable ready begins_is = absurd cc
-only-last false false false false false false false false false true irreversible used_up no_room settling unavailable ready begins_is = absurd cc
-only-last false false false false false false false false false false true used_up no_room settling unavailable ready begins_is = absurd cc
-only-last false false false false false false false false false false false true no_room settling unavailable ready begins_is = absurd cc
-only-last false false false false false false false false false false false false true settling unavailable ready begins_is = absurd cc
-only-last false false false false false false false false false false false false false true unavailable ready begins_is = record { kept_is = refl; in_progress_is = refl; other_content_is = refl; day_again_is = refl; day_key_is = refl; unnamed_is = refl; logged_out_is = refl; unserved_is = refl; other_currency_is = refl; no_original_is = refl; irreversible_is = refl; used_up_is = refl; no_room_is = refl; ready_is = refl }
-only-last false false false false false false false false false false false false false false true ready begins_is = absurd cc
-only-last false false false false false false false false false false false false false false false false begins_is = absurd cc
-only-last false false false false false false false false false false false false false false false true begins_is = record { kept_is = refl; in_progress_is = refl; other_content_is = refl; day_again_is = refl; day_key_is = refl; unnamed_is = refl; logged_out_is = refl; unserved_is = refl; other_currency_is = refl; no_original_is = refl; irreversible_is = refl; used_up_is = refl; no_room_is = refl; ready_is = refl }
+-- where it begins, none of them applies, and the terminal isn't asked or is ready
+only-last : (kept in_progress other_content pending_again pending_key unnamed logged_out unserved other_currency no_original irreversible used_up no_room settling unavailable ready full : Bool) → is_beginning (result-of-table kept in_progress other_content pending_again pending_key unnamed logged_out unserved other_currency no_original irreversible used_up no_room settling unavailable ready full) ≡ true
+    → NoneApplies kept in_progress other_content pending_again pending_key unnamed logged_out unserved other_currency no_original irreversible used_up no_room × ((settling || ready) ≡ true)
+only-last true in_progress other_content pending_again pending_key unnamed logged_out unserved other_currency no_original irreversible used_up no_room settling unavailable ready full begins_is = absurd cc
+only-last false true other_content pending_again pending_key unnamed logged_out unserved other_currency no_original irreversible used_up no_room settling unavailable ready full begins_is = absurd cc
+only-last false false true pending_again pending_key unnamed logged_out unserved other_currency no_original irreversible used_up no_room settling unavailable ready full begins_is = absurd cc
+only-last false false false true pending_key unnamed logged_out unserved other_currency no_original irreversible used_up no_room settling unavailable ready full begins_is = absurd cc
+only-last false false false false true unnamed logged_out unserved other_currency no_original irreversible used_up no_room settling unavailable ready full begins_is = absurd cc
+only-last false false false false false true logged_out unserved other_currency no_original irreversible used_up no_room settling unavailable ready full begins_is = absurd cc
+only-last false false false false false false true unserved other_currency no_original irreversible used_up no_room settling unavailable ready full begins_is = absurd cc
+only-last false false false false false false false true other_currency no_original irreversible used_up no_room settling unavailable ready full begins_is = absurd cc
+only-last false false false false false false false false true no_original irreversible used_up no_room settling unavailable ready full begins_is = absurd cc
+only-last false false false false false false false false false true irreversible used_up no_room settling unavailable ready full begins_is = absurd cc
+only-last false false false false false false false false false false true used_up no_room settling unavailable ready full begins_is = absurd cc
+only-last false false false false false false false false false false false true no_room settling unavailable ready full begins_is = absurd cc
+only-last false false false false false false false false false false false false true settling unavailable ready full begins_is = absurd cc
+only-last false false false false false false false false false false false false false true unavailable ready full begins_is = (record { kept_is = refl; in_progress_is = refl; other_content_is = refl; pending_again_is = refl; pending_key_is = refl; unnamed_is = refl; logged_out_is = refl; unserved_is = refl; other_currency_is = refl; no_original_is = refl; irreversible_is = refl; used_up_is = refl; no_room_is = refl }, refl)
+only-last false false false false false false false false false false false false false false true ready full begins_is = absurd cc
+only-last false false false false false false false false false false false false false false false true full begins_is = (record { kept_is = refl; in_progress_is = refl; other_content_is = refl; pending_again_is = refl; pending_key_is = refl; unnamed_is = refl; logged_out_is = refl; unserved_is = refl; other_currency_is = refl; no_original_is = refl; irreversible_is = refl; used_up_is = refl; no_room_is = refl }, refl)
+only-last false false false false false false false false false false false false false false false false true begins_is = absurd cc
+only-last false false false false false false false false false false false false false false false false false begins_is = absurd cc
+
+-- what is so of the others where it waits
+record LastWaits (settling unavailable ready full : Bool) : Type 0 where
+  pub settling_is : settling ≡ false
+  pub unavailable_is : unavailable ≡ false
+  pub ready_is : ready ≡ false
+  pub full_is : full ≡ false
+
+-- where it waits, no step applies
+only-waits : (kept in_progress other_content pending_again pending_key unnamed logged_out unserved other_currency no_original irreversible used_up no_room settling unavailable ready full : Bool) → is_waiting_result (result-of-table kept in_progress other_content pending_again pending_key unnamed logged_out unserved other_currency no_original irreversible used_up no_room settling unavailable ready full) ≡ true
+    → NoneApplies kept in_progress other_content pending_again pending_key unnamed logged_out unserved other_currency no_original irreversible used_up no_room × LastWaits settling unavailable ready full
+only-waits true in_progress other_content pending_again pending_key unnamed logged_out unserved other_currency no_original irreversible used_up no_room settling unavailable ready full waits_is = absurd cc
+only-waits false true other_content pending_again pending_key unnamed logged_out unserved other_currency no_original irreversible used_up no_room settling unavailable ready full waits_is = absurd cc
+only-waits false false true pending_again pending_key unnamed logged_out unserved other_currency no_original irreversible used_up no_room settling unavailable ready full waits_is = absurd cc
+only-waits false false false true pending_key unnamed logged_out unserved other_currency no_original irreversible used_up no_room settling unavailable ready full waits_is = absurd cc
+only-waits false false false false true unnamed logged_out unserved other_currency no_original irreversible used_up no_room settling unavailable ready full waits_is = absurd cc
+only-waits false false false false false true logged_out unserved other_currency no_original irreversible used_up no_room settling unavailable ready full waits_is = absurd cc
+only-waits false false false false false false true unserved other_currency no_original irreversible used_up no_room settling unavailable ready full waits_is = absurd cc
+only-waits false false false false false false false true other_currency no_original irreversible used_up no_room settling unavailable ready full waits_is = absurd cc
+only-waits false false false false false false false false true no_original irreversible used_up no_room settling unavailable ready full waits_is = absurd cc
+only-waits false false false false false false false false false true irreversible used_up no_room settling unavailable ready full waits_is = absurd cc
+only-waits false false false false false false false false false false true used_up no_room settling unavailable ready full waits_is = absurd cc
+only-waits false false false false false false false false false false false true no_room settling unavailable ready full waits_is = absurd cc
+only-waits false false false false false false false false false false false false true settling unavailable ready full waits_is = absurd cc
+only-waits false false false false false false false false false false false false false true unavailable ready full waits_is = absurd cc
+only-waits false false false false false false false false false false false false false false true ready full waits_is = absurd cc
+only-waits false false false false false false false false false false false false false false false true full waits_is = absurd cc
+only-waits false false false false false false false false false false false false false false false false true waits_is = absurd cc
+only-waits false false false false false false false false false false false false false false false false false waits_is = (record { kept_is = refl; in_progress_is = refl; other_content_is = refl; pending_again_is = refl; pending_key_is = refl; unnamed_is = refl; logged_out_is = refl; unserved_is = refl; other_currency_is = refl; no_original_is = refl; irreversible_is = refl; used_up_is = refl; no_room_is = refl }, record { settling_is = refl; unavailable_is = refl; ready_is = refl; full_is = refl })
 
 none-found : (found : Option Found) → is_some found ≡ false → found ≡ None
 none-found None none = refl
@@ -384,19 +438,43 @@ not-none (Some named) none = refl
 pub passes-steps : (known : Known) (header : Header) (request : SaleRequest) (named : Option NamedTerminal) → is_beginning (step_result known header request named) ≡ true → PassesSteps known header request named
 passes-steps known header request named begins_is =
     let found = found_for known.kept header in
-    let last = only-last (is_repeated known.kept request found && has_reply found) (is_repeated known.kept request found) (is_some found) (is_day_again header request named) (is_day_key header named) (not (is_some named))
+    let last = only-last (is_repeated known.kept request found && has_reply found) (is_repeated known.kept request found) (is_some found) (is_pending_again known header request named) (is_pending_key known.core header named) (not (is_some named))
     (is_logged_out known.core header.sale header.poi) (is_unserved request) (asks_other_currency request named) (names_none known.kept header.poi request) (names_irreversible known.kept header.poi request)
-    (asks_transaction request && is_used_up known.kept header.poi named) (lacks_room known.setup.slots known.kept known.core.terminals) (asks_settling request) (is_unavailable named) (is_ready named) begins_is in
+    (asks_transaction request && is_used_up known.kept header.poi named) (lacks_room known.setup.slots known.kept known.core) (asks_settling request) (is_unavailable named) (is_ready named) (is_queue_full known named) begins_is in
     record {
-      unknown = none-found found last.other_content_is;
-      no_day = last.day_key_is;
-      there = not-none named last.unnamed_is;
-      logged_in = last.logged_out_is;
-      served = last.unserved_is;
-      currency = last.other_currency_is;
-      original = last.no_original_is;
-      reversible = last.irreversible_is;
-      number_left = last.used_up_is;
-      room = last.no_room_is;
-      ready = last.ready_is;
+      unknown = none-found found last.0.other_content_is;
+      not_pending = last.0.pending_key_is;
+      there = not-none named last.0.unnamed_is;
+      logged_in = last.0.logged_out_is;
+      served = last.0.unserved_is;
+      currency = last.0.other_currency_is;
+      original = last.0.no_original_is;
+      reversible = last.0.irreversible_is;
+      number_left = last.0.used_up_is;
+      room = last.0.no_room_is;
+      ready = last.1;
+    }
+
+-- what the steps say of a request that waits
+pub waits-steps : (known : Known) (header : Header) (request : SaleRequest) (named : Option NamedTerminal) → is_waiting_result (step_result known header request named) ≡ true → WaitsSteps known header request named
+waits-steps known header request named waits_is =
+    let found = found_for known.kept header in
+    let last = only-waits (is_repeated known.kept request found && has_reply found) (is_repeated known.kept request found) (is_some found) (is_pending_again known header request named) (is_pending_key known.core header named) (not (is_some named))
+    (is_logged_out known.core header.sale header.poi) (is_unserved request) (asks_other_currency request named) (names_none known.kept header.poi request) (names_irreversible known.kept header.poi request)
+    (asks_transaction request && is_used_up known.kept header.poi named) (lacks_room known.setup.slots known.kept known.core) (asks_settling request) (is_unavailable named) (is_ready named) (is_queue_full known named) waits_is in
+    record {
+      unknown = none-found found last.0.other_content_is;
+      not_pending = last.0.pending_key_is;
+      there = not-none named last.0.unnamed_is;
+      logged_in = last.0.logged_out_is;
+      served = last.0.unserved_is;
+      currency = last.0.other_currency_is;
+      original = last.0.no_original_is;
+      reversible = last.0.irreversible_is;
+      number_left = last.0.used_up_is;
+      room = last.0.no_room_is;
+      own = last.1.settling_is;
+      available = last.1.unavailable_is;
+      not_ready = last.1.ready_is;
+      not_full = last.1.full_is;
     }

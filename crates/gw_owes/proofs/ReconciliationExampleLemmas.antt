@@ -81,8 +81,8 @@ day-premises = record {
   there = refl;
   named = refl;
   found = refl;
-  may = record { unknown = refl; no_day = refl; logged_in = refl; room = refl };
-  serves = record { named = _; named_is = refl; header = _; period = _; last = _; standing_is = refl; key_is = refl; unknown = refl };
+  may = record { unknown = refl; not_pending = refl; logged_in = refl; room = refl };
+  serves = record { named = _; named_is = refl; header = _; period = _; last = _; standing_is = refl; key_is = refl; unknown = refl; no_wait = refl };
   done = record { terminal = _; means = record { found = refl; standing_is = refl; message = _; decoded = refl; means = refl } };
   declined = record { terminal = _; means = record { found = refl; standing_is = refl; message = _; decoded = refl; means = refl } };
   unclear = record { terminal = _; means = record { found = refl; standing_is = refl; message = _; decoded = refl; means = refl } };

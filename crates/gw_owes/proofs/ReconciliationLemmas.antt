@@ -48,12 +48,13 @@ use Rattle.gw_owes.specs.declared.terminal.Terminal.{Terminal}
 use Rattle.gw_owes.specs.Calls.{OwedCall, Sending, CutTill, LinkPt, records_kept}
 use Rattle.gw_owes.specs.Content.{is_same_period}
 use Rattle.gw_owes.specs.DayLaws.{SaysWhatIsSettled, PassesUpToStanding, EachReconciliationBegins, OtherPeriodIsUnserved, SettlesAtOnce, EachSaleIsSettled, BeginsDay, EachDayBegins, DoneIsSettled, DeclinedKeepsNothing, UnclearDayIsCut, LostKeepsNothing, ServesDayOf, EachServedDayIsReplied, SettledIsRepliedAgain, NextHasNoTotals, SettledIsNotReversed, IsSaleServed, IsDayDone, EachSettledHasCause}
-use Rattle.gw_owes.specs.Days.{asks_day, is_day_key, is_day_period, is_day_served, is_key_of_day, named_serves_day, serves_day}
+use Rattle.gw_owes.specs.Core.{Wait}
+use Rattle.gw_owes.specs.Days.{asks_day, is_day_key, is_day_served, is_key_of_day, named_serves_day, serves_day}
 use Rattle.gw_owes.specs.Deadlines.{is_due, is_late, due_row, late_row}
 use Rattle.gw_owes.specs.Diagnosis.{NamedTerminal, named_terminal}
 use Rattle.gw_owes.specs.Greeting.{greeting, sending_calls, greet_decoded}
 use Rattle.gw_owes.specs.Handling.{taken_as, handle_row}
-use Rattle.gw_owes.specs.Items.{RoundItem, Crowded, Message, Asked, Unframed, Gone, Greet, Handle, Serve, NextWaiting, Oversized, LinkLost, Late, Overdue, Due}
+use Rattle.gw_owes.specs.Items.{RoundItem, Crowded, Message, Asked, Unframed, Gone, Greet, Handle, Serve, Queue, NextWaiting, Oversized, LinkLost, Late, Overdue, Due}
 use Rattle.gw_owes.specs.KeptReplies.{own_key, found_for, is_open_found, status_reply_at}
 use Rattle.gw_owes.specs.Links.{LinkIsLost, cutting, link_row}
 use Rattle.gw_owes.specs.PaymentLaws.{KeepsAtEnd, outcome_calls}
@@ -65,42 +66,44 @@ use Rattle.gw_owes.specs.Requests.{abort_reply, reply_to}
 use Rattle.gw_owes.specs.Row.{Known, Row, owing, owing_where}
 use Rattle.gw_owes.specs.Rows.{asked_row, row_of}
 use Rattle.gw_owes.specs.Sessions.{is_logged_out}
-use Rattle.gw_owes.specs.Steps.{StepResult, Fails, Begins, first_result, is_beginning, is_out_of_service, is_ready_standing, is_sale_period, is_unserved_period, lacks_room, reply_of_result, service_reply, step_result, steps}
+use Rattle.gw_owes.specs.Steps.{StepResult, Fails, Begins, Waits, is_beginning, is_out_of_service, is_ready_standing, is_sale_period, is_unserved_period, lacks_room, reply_of_result, result_at_queue, service_reply, step_result}
 use Rattle.gw_owes.specs.TerminalLaws.{GoesOnTo}
 use Rattle.gw_owes.specs.Terminals.{terminal_at, of_terminal, reply_calls_to, reply_to_lost, unlinks}
+use Rattle.gw_owes.specs.WaitingRows.{next_waiting_row, overdue_row, queue_row}
+use Rattle.gw_owes.specs.Waits.{is_pending, is_pending_key, is_queue_full, repeats_waiting, waiting_for, waiting_with}
 use Rattle.gw_owes.proofs.AskedLemmas.{each-accepted-begins}
 use Rattle.gw_owes.proofs.DisplayLemmas.{lost-is}
 use Rattle.gw_owes.proofs.HandlingLemmas.{by-where, each-linked, each-terminal}
 use Rattle.gw_owes.proofs.KeepingLemmas.{replies-keep-nothing}
 use Rattle.gw_owes.proofs.LimitLemmas.{settled-key-is}
+use Rattle.gw_owes.proofs.NextLemmas.{each-next, each-overdue, each-queued}
 use Rattle.gw_owes.proofs.PaymentLawLemmas.{each-record-of-an-end, served-leads, stopped-same}
 use Rattle.gw_owes.proofs.PaymentLemmas.{each-served, passes-steps}
 use Rattle.gw_owes.proofs.RecordLemmas.{same-key-is}
 use Rattle.gw_owes.proofs.RefusalLemmas.{irreversible-is-not-allowed}
 use Rattle.gw_owes.proofs.SetLemmas.{new-is-there, same-some}
-use Rattle.gw_owes.proofs.StepLemmas.{each-on-record-is-replied, each-service-has-steps}
+use Rattle.gw_owes.proofs.StepLemmas.{each-on-record-is-replied, each-service-has-steps, new-result-is, not-pending-result, rest-of-steps, result-apart}
 
 -- ---- the steps
 
--- the result of the steps of a Reconciliation on a key that isn't on record
+-- the result of the steps of a Reconciliation on a key that isn't on record, doesn't wait and isn't that of an end of day that is served
 abbrev pub result_of_new : Period → Standing → Bool → Bool → Bool → StepResult
-result_of_new period standing of_day out no_room =
-    if of_day && is_day_period period then Fails InProgress else (if of_day then Fails NotAllowed else (if out then Fails LoggedOut else (if is_unserved_period period then Fails UnavailableService else
-    (if no_room then Fails UnavailableService else (if is_sale_period period then Begins else (if is_out_of_service standing then Fails UnavailableDevice else (if is_ready_standing standing then Begins else Fails Busy)))))))
+result_of_new period standing out no_room full =
+    if out then Fails LoggedOut else (if is_unserved_period period then Fails UnavailableService else (if no_room then Fails UnavailableService else (if is_sale_period period then Begins else
+    (if is_out_of_service standing then Fails UnavailableDevice else (if is_ready_standing standing then Begins else (if full then Fails Busy else Waits))))))
 
-pub result-new : (known : Known) (header : Header) (period : Period) (named : NamedTerminal) → found_for known.kept header ≡ None
+pub result-new : (known : Known) (header : Header) (period : Period) (named : NamedTerminal) → found_for known.kept header ≡ None → is_pending_key known.core header (Some named) ≡ false
     → step_result known header (requests.Reconciliation period) (Some named)
-    ≡ result_of_new period named.terminal.standing (is_day_key header (Some named)) (is_logged_out known.core header.sale header.poi) (lacks_room known.setup.slots known.kept known.core.terminals)
-result-new known header period named unknown = ap (λ (found : Option Found). first_result (Fails Busy) (steps known header (requests.Reconciliation period) found (Some named))) unknown
+    ≡ result_of_new period named.terminal.standing (is_logged_out known.core header.sale header.poi) (lacks_room known.setup.slots known.kept known.core) (is_queue_full known (Some named))
+result-new known header period named unknown not_pending = not-pending-result known header (requests.Reconciliation period) (Some named) unknown not_pending
 
--- where it may begin, that goes by the type and the standing
+-- where it may begin, that goes by the type, the standing and how many wait
 result-may : (known : Known) (header : Header) (period : Period) (named : NamedTerminal) → PassesUpToStanding known header named
-    → step_result known header (requests.Reconciliation period) (Some named) ≡ result_of_new period named.terminal.standing false false false
+    → step_result known header (requests.Reconciliation period) (Some named) ≡ result_of_new period named.terminal.standing false false (is_queue_full known (Some named))
 result-may known header period named may =
-    result-new known header period named may.unknown
-    ∙ (ap (λ (of_day : Bool). result_of_new period named.terminal.standing of_day (is_logged_out known.core header.sale header.poi) (lacks_room known.setup.slots known.kept known.core.terminals)) may.no_day
-    ∙ (ap (λ (out : Bool). result_of_new period named.terminal.standing false out (lacks_room known.setup.slots known.kept known.core.terminals)) may.logged_in
-    ∙ ap (result_of_new period named.terminal.standing false false) may.room))
+    result-new known header period named may.unknown may.not_pending
+    ∙ (ap (λ (out : Bool). result_of_new period named.terminal.standing out (lacks_room known.setup.slots known.kept known.core) (is_queue_full known (Some named))) may.logged_in
+    ∙ ap (λ (no_room : Bool). result_of_new period named.terminal.standing false no_room (is_queue_full known (Some named))) may.room)
 
 sale-begins : (known : Known) (header : Header) (named : NamedTerminal) → PassesUpToStanding known header named → step_result known header (requests.Reconciliation SaleReconciliation) (Some named) ≡ Begins
 sale-begins known header named may = result-may known header SaleReconciliation named may
@@ -108,7 +111,7 @@ sale-begins known header named may = result-may known header SaleReconciliation 
 day-begins : (known : Known) (header : Header) (named : NamedTerminal) (last : ℕ) → PassesUpToStanding known header named → named.terminal.standing ≡ Ready last
     → step_result known header (requests.Reconciliation AcquirerReconciliation) (Some named) ≡ Begins
 day-begins known header named last may ready =
-    result-may known header AcquirerReconciliation named may ∙ ap (λ (standing : Standing). result_of_new AcquirerReconciliation standing false false false) ready
+    result-may known header AcquirerReconciliation named may ∙ ap (λ (standing : Standing). result_of_new AcquirerReconciliation standing false false (is_queue_full known (Some named))) ready
 
 pub each-reconciliation-begins : EachReconciliationBegins
 each-reconciliation-begins tills known till header named there named_is may = record {
@@ -117,21 +120,20 @@ each-reconciliation-begins tills known till header named there named_is may = re
 }
 
 pub other-period-unserved : OtherPeriodIsUnserved
-other-period-unserved known header period named named_is unknown no_day logged_in unserved =
+other-period-unserved known header period named named_is unknown not_pending logged_in unserved =
     ap (λ (n : Option NamedTerminal). service_reply known header (requests.Reconciliation period) n) named_is ∙ ap (reply_of_result known.kept header) result_is
   where
     room : Bool
-    room = lacks_room known.setup.slots known.kept known.core.terminals
+    room = lacks_room known.setup.slots known.kept known.core
 
     standing : Standing
     standing = named.terminal.standing
 
     result_is : step_result known header (requests.Reconciliation period) (Some named) ≡ Fails UnavailableService
     result_is =
-        result-new known header period named unknown
-        ∙ (ap (λ (of_day : Bool). result_of_new period standing of_day (is_logged_out known.core header.sale header.poi) room) no_day
-        ∙ (ap (λ (out : Bool). result_of_new period standing false out room) logged_in
-        ∙ ap (λ (b : Bool). if b then Fails UnavailableService else (if room then Fails UnavailableService else (if is_sale_period period then Begins else (if is_out_of_service standing then Fails UnavailableDevice else (if is_ready_standing standing then Begins else Fails Busy))))) unserved))
+        result-new known header period named unknown not_pending
+        ∙ (ap (λ (out : Bool). result_of_new period standing out room (is_queue_full known (Some named))) logged_in
+        ∙ ap (λ (b : Bool). if b then Fails UnavailableService else (if room then Fails UnavailableService else (if is_sale_period period then Begins else (if is_out_of_service standing then Fails UnavailableDevice else (if is_ready_standing standing then Begins else result_at_queue known (Some named)))))) unserved)
 
 -- ---- what is settled at once
 
@@ -228,23 +230,33 @@ serves-it known key serves =
     ap (λ (standing : Standing). serves_day key standing) serves.standing_is ∙ (ap (is_key key) serves.key_is ∙ own-tie key)
 
 -- the result of the steps of a request on the key
+served-step : (known : Known) (key : Key) (serves : ServesDayOf known key) (asked : Header) (request : SaleRequest) → own_key asked ≡ Some key
+    → step_result known asked request (Some (ServesDayOf.named serves)) ≡ Fails (if asks_day request then InProgress else NotAllowed)
+served-step known key serves asked request own =
+    new-result-is known asked request (Some serves.named) (ap (option_and_then (found_of known.kept)) own ∙ serves.unknown)
+    ∙ by-parts (is_day_key asked (Some serves.named)) (waiting_for known.core asked) (asks_day request) (ap (λ (k : Option Key). is_key_of_day k (Some serves.named)) own ∙ serves-it known key serves)
+    (ap (option_and_then (λ (k : Key). waiting_with k known.core.waits)) own ∙ serves.no_wait)
+  where
+    by-parts : (of_day : Bool) (waiting : Option Wait) (day : Bool) → of_day ≡ true → waiting ≡ None
+        → result-apart ((of_day && day) || repeats_waiting known.kept asked.poi request waiting) (of_day || is_some waiting) (rest-of-steps known asked request (Some serves.named)) ≡ Fails (if day then InProgress else NotAllowed)
+    by-parts true None true is none = refl
+    by-parts true None false is none = refl
+    by-parts true (Some wait) day is none = absurd cc
+    by-parts false waiting day is none = absurd cc
+
 served-result : (known : Known) (key : Key) (serves : ServesDayOf known key) (asked : Header) (request : SaleRequest) → own_key asked ≡ Some key
     → service_reply known asked request (named_terminal known.core asked.poi) ≡ Some (failure_reply asked (if asks_day request then InProgress else NotAllowed))
 served-result known key serves asked request own =
     ap (λ (poi : List ℕ). service_reply known asked request (named_terminal known.core poi)) (poi-of-own asked key own)
-    ∙ (ap (service_reply known asked request) serves.named_is
-    ∙ (ap (λ (found : Option Found). reply_of_result known.kept asked (first_result (Fails Busy) (steps known asked request found (Some serves.named)))) (ap (option_and_then (found_of known.kept)) own ∙ serves.unknown)
-    ∙ by-day (is_day_key asked (Some serves.named)) (asks_day request) (ap (λ (k : Option Key). is_key_of_day k (Some serves.named)) own ∙ serves-it known key serves) _))
-  where
-    by-day : (of_day day : Bool) → of_day ≡ true → (rest : StepResult)
-        → reply_of_result known.kept asked (if of_day && day then Fails InProgress else (if of_day then Fails NotAllowed else rest)) ≡ Some (failure_reply asked (if day then InProgress else NotAllowed))
-    by-day true true is rest = refl
-    by-day true false is rest = refl
-    by-day false day is rest = absurd cc
+    ∙ (ap (service_reply known asked request) serves.named_is ∙ ap (reply_of_result known.kept asked) (served-step known key serves asked request own))
 
 -- it is the end of day that is served
 is-served : (known : Known) (key : Key) → ServesDayOf known key → is_day_served known.core key ≡ true
 is-served known key serves = ap (named_serves_day key) serves.named_is ∙ serves-it known key serves
+
+-- so that it is pending
+is-pending-there : (known : Known) (key : Key) → ServesDayOf known key → is_pending known.core key ≡ true
+is-pending-there known key serves = ap (λ (b : Bool). b || is_some (waiting_with key known.core.waits)) (is-served known key serves)
 
 pub each-served-day-replied : EachServedDayIsReplied
 each-served-day-replied known key serves = record {
@@ -253,13 +265,13 @@ each-served-day-replied known key serves = record {
       each-service-has-steps known asked request has
       ∙ (served-result known key serves asked request own ∙ ap (λ (day : Bool). Some (failure_reply asked (if day then InProgress else NotAllowed))) other);
   status = λ asking reference is.
-      ap (λ (k : Key). Some (status_reply_at asking (found_of known.kept k) (is_day_served known.core k))) is
-      ∙ (ap (λ (found : Option Found). Some (status_reply_at asking found (is_day_served known.core key))) serves.unknown
-      ∙ ap (λ (served : Bool). Some (status_reply_at asking None served)) (is-served known key serves));
+      ap (λ (k : Key). Some (status_reply_at asking (found_of known.kept k) (is_pending known.core k))) is
+      ∙ (ap (λ (found : Option Found). Some (status_reply_at asking found (is_pending known.core key))) serves.unknown
+      ∙ ap (λ (served : Bool). Some (status_reply_at asking None served)) (is-pending-there known key serves));
   abort = λ asking reference is.
-      ap (λ (k : Key). abort_reply (is_open_found (found_of known.kept k) || is_day_served known.core k) known asking) is
-      ∙ (ap (λ (found : Option Found). abort_reply (is_open_found found || is_day_served known.core key) known asking) serves.unknown
-      ∙ ap (λ (served : Bool). abort_reply served known asking) (is-served known key serves));
+      ap (λ (k : Key). abort_reply (is_open_found (found_of known.kept k) || is_pending known.core k) known asking) is
+      ∙ (ap (λ (found : Option Found). abort_reply (is_open_found found || is_pending known.core key) known asking) serves.unknown
+      ∙ ap (λ (served : Bool). abort_reply served known asking) (is-pending-there known key serves));
 }
 
 -- ---- the reply again
@@ -348,10 +360,10 @@ intent-of-entry kept slot entry = by-intent (intent_at kept slot)
     by-intent (Some intent) is = ap (λ (e : TheEntry). Some e.intent) (same-some (entry_with kept slot (ended_at kept slot) intent) entry is)
 
 pub settled-not-reversed : NamedIsEntry → SettledIsAfter → SettledIsNotReversed
-settled-not-reversed named_entry after known header reversal named original ended named_is unknown logged_in original_is what ended_is settled =
+settled-not-reversed named_entry after known header reversal named original ended named_is unknown not_pending logged_in original_is what ended_is settled =
     let of_slot = named_entry known.kept header.poi reversal.transaction original original_is in
     let is : is_settled known.kept original.slot ≡ true = (after known.kept original.slot ended original.intent (intent-of-entry known.kept original.slot original of_slot.0) what ended_is).1 settled in
-    irreversible-is-not-allowed known header reversal named named_is unknown logged_in (record {
+    irreversible-is-not-allowed known header reversal named named_is unknown not_pending logged_in (record {
       original = original;
       named = original_is;
       irreversible = λ approval reversible. let e : true ≡ false = sym is ∙ reversible.not_settled in cc;
@@ -423,7 +435,7 @@ module _ (known : Known) (settled : TheSettled) (more : List Record) where
       → PassesUpToStanding known header (record { number = number; terminal = terminal })
   may-begin number header request terminal begins =
       let passes = passes-steps known header request (Some (record { number = number; terminal = terminal })) begins in
-      record { unknown = passes.unknown; no_day = passes.no_day; logged_in = passes.logged_in; room = passes.room }
+      record { unknown = passes.unknown; not_pending = passes.not_pending; logged_in = passes.logged_in; room = passes.room }
 
   serve-explains : (number till : ℕ) (header : Header) (request : SaleRequest) → Explains (Serve number till header request) (serve_row known number till header request)
   serve-explains number till header request = each-served (Explains (Serve number till header request)) known number till header request (record {
@@ -448,6 +460,25 @@ module _ (known : Known) (settled : TheSettled) (more : List Record) where
     displays = λ terminal last outputs command at kept. absurd cc;
   })
 
+  next-explains : (number : ℕ) → Explains (NextWaiting number) (next_waiting_row known number)
+  next-explains number = each-next (Explains (NextWaiting number)) known number (record {
+    none = λ kept. absurd cc;
+    refused = λ terminal last wait condition first refused kept. absurd cc;
+    begins = λ terminal last wait asking at kept. absurd cc;
+    day = λ terminal last wait at kept. absurd cc;
+    left = λ terminal last wait first kept. absurd cc;
+  })
+
+  queue-explains : (number till : ℕ) (header : Header) (request : SaleRequest) → Explains (Queue number till header request) (queue_row known number till header request)
+  queue-explains number till header request = each-queued (Explains (Queue number till header request)) known number till header request (record {
+    none = λ kept. absurd cc;
+    joins = λ terminal key at kept. absurd cc;
+    taken = λ wait at kept. absurd cc;
+  })
+
+  overdue-explains : (key : Key) → Explains (Overdue key) (overdue_row known key)
+  overdue-explains key = each-overdue (Explains (Overdue key)) known key (record { none = λ kept. absurd cc; taken = λ wait waits overdue kept. absurd cc })
+
 pub each-settled-has-cause : EachSettledHasCause
 each-settled-has-cause tills known (Crowded till) settled more kept = absurd cc
 each-settled-has-cause tills known (Message till bytes) settled more kept = absurd cc
@@ -460,10 +491,11 @@ each-settled-has-cause tills known (Gone till) settled more kept = absurd cc
 each-settled-has-cause tills known (Greet number apdu) settled more kept = none-explains known settled more (Greet number apdu) (row_of tills known (Greet number apdu)) (greet-keeps-none known number (decode_pt_message apdu)) kept
 each-settled-has-cause tills known (Handle number apdu) settled more kept = handle-explains known settled more number apdu kept
 each-settled-has-cause tills known (Serve number till header request) settled more kept = serve-explains known settled more number till header request kept
-each-settled-has-cause tills known (NextWaiting number) settled more kept = absurd cc
+each-settled-has-cause tills known (Queue number till header request) settled more kept = queue-explains known settled more number till header request kept
+each-settled-has-cause tills known (NextWaiting number) settled more kept = next-explains known settled more number kept
 each-settled-has-cause tills known (Oversized number) settled more kept =
     none-explains known settled more (Oversized number) (row_of tills known (Oversized number)) (each-linked KeepsNone known number (λ terminal. cutting known number) refl (λ terminal found linked. refl)) kept
 each-settled-has-cause tills known (LinkLost number) settled more kept = none-explains known settled more (LinkLost number) (row_of tills known (LinkLost number)) (lost-keeps-none known number) kept
 each-settled-has-cause tills known (Late number) settled more kept = none-explains known settled more (Late number) (row_of tills known (Late number)) (late-keeps-none known number) kept
-each-settled-has-cause tills known (Overdue key) settled more kept = absurd cc
+each-settled-has-cause tills known (Overdue key) settled more kept = overdue-explains known settled more key kept
 each-settled-has-cause tills known (Due number) settled more kept = none-explains known settled more (Due number) (row_of tills known (Due number)) (due-keeps-none known number) kept

@@ -65,7 +65,7 @@ pt-within = record {
   command = (omega arith, omega arith);
 }
 
-setup-within : IsSetup (setup_with (day_pt ∷ []))
+pub setup-within : IsSetup (setup_with (day_pt ∷ []))
 setup-within = record {
   name = ident-tested 40 (codes "GATEWAY") refl;
   line = omega arith;
@@ -76,11 +76,11 @@ setup-within = record {
   distinct = (All-nil (λ (other : Pt). day_pt.poi ≢ other.poi), tt);
 }
 
-first-moment : IsMoment (pos 0)
+pub first-moment : IsMoment (pos 0)
 first-moment = (omega (arith, ints), omega (arith, ints))
 
 -- what holds of the one terminal holds of each
-one-terminal : (P : Terminal → Type 0) (one : Terminal) → P one → (number : ℕ) (terminal : Terminal) → slice_get (one ∷ []) number ≡ Some terminal → P terminal
+pub one-terminal : (P : Terminal → Type 0) (one : Terminal) → P one → (number : ℕ) (terminal : Terminal) → slice_get (one ∷ []) number ≡ Some terminal → P terminal
 one-terminal P one holds zero terminal found = subst P (same_Some one terminal found) holds
 one-terminal P one holds (suc number) terminal found = absurd cc
 
@@ -228,7 +228,7 @@ intent-is-kept facts = record {
   read = begins-read facts;
   uncut = intent-uncut;
   kept = intent-kept;
-  keeps = subst (λ (kept : List Record). KeepsInOrder ready_known kept (terminal_row ready_known fourth_begins).core) intent-kept (facts.rows ready_known fourth_begins (ready-in-order facts) (begins-read facts) intent-uncut);
+  keeps = subst (λ (kept : List Record). KeepsInOrder ready_known kept (terminal_row ready_known fourth_begins).core) intent-kept (facts.rows ready_known fourth_begins (λ n e. absurd cc) (ready-in-order facts) (begins-read facts) intent-uncut);
 }
 
 pub outcome-is-kept : RecordFacts → ExampleOutcomeKept
@@ -237,7 +237,7 @@ outcome-is-kept facts = record {
   uncut = outcome-uncut;
   kept = outcome-kept;
   keeps = subst (λ (kept : List Record). KeepsInOrder serving_known kept (terminal_row serving_known (sends 0x06 0x0F)).core) outcome-kept
-      (facts.rows serving_known (sends 0x06 0x0F) (serving-in-order facts) tt outcome-uncut);
+      (facts.rows serving_known (sends 0x06 0x0F) (λ n e. absurd cc) (serving-in-order facts) tt outcome-uncut);
 }
 
 pub key-stays-open : RecordFacts → ExampleKeyStaysOpen
@@ -258,7 +258,7 @@ reversal-is-kept facts = record {
   uncut = reversal-uncut;
   kept = reversal-kept;
   keeps = subst (λ (kept : List Record). KeepsInOrder ready_known kept (terminal_row ready_known second_reverses).core) reversal-kept
-      (facts.rows ready_known second_reverses (ready-in-order facts) (reverses-read facts) reversal-uncut);
+      (facts.rows ready_known second_reverses (λ n e. absurd cc) (ready-in-order facts) (reverses-read facts) reversal-uncut);
 }
 
 pub stop-keeps-nothing : RecordFacts → ExampleStopKeepsNothing
@@ -267,7 +267,7 @@ stop-keeps-nothing facts = record {
   read = stops-read facts;
   calls = stop-sent;
   keeps = subst (λ (calls : List OwedCall). KeepsInOrder serving_known (records_kept calls) (terminal_row serving_known fourth_stops).core) stop-sent
-      (facts.rows serving_known fourth_stops (serving-in-order facts) (stops-read facts) (ap owes_cut stop-sent));
+      (facts.rows serving_known fourth_stops (λ n e. absurd cc) (serving-in-order facts) (stops-read facts) (ap owes_cut stop-sent));
 }
 
 pub settled-is-kept : RecordFacts → ExampleSettledKept
@@ -276,5 +276,5 @@ settled-is-kept facts = record {
   uncut = settled-uncut;
   kept = settled-kept;
   keeps = subst (λ (kept : List Record). KeepsInOrder settling_known kept (terminal_row settling_known (sends 0x06 0x0F)).core) settled-kept
-      (facts.rows settling_known (sends 0x06 0x0F) (settling-in-order facts) tt settled-uncut);
+      (facts.rows settling_known (sends 0x06 0x0F) (λ n e. absurd cc) (settling-in-order facts) tt settled-uncut);
 }

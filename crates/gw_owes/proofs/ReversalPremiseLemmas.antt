@@ -1,7 +1,8 @@
 -- The premises of the laws of reversals and Aborts hold in closed examples, which are computed.
-use Rattle.std.proofs.Common.{◌≡◌, ◌∙◌, inl, inr, ℕ, true, false, List, refl, sym, ap, arith, Option, Some, None}
+use Rattle.std.proofs.Common.{◌≡◌, ◌∙◌, inl, inr, ℕ, true, false, List, refl, sym, ap, subst, arith, Option, Some, None}
 use Rattle.std.specs.Fmt.{digits}
 use Rattle.std.specs.Prelude.{codes}
+use Rattle.gw_owes.specs.PaymentExample.{till_header}
 use Rattle.std.proofs.lemmas.Option.{same_Some}
 use Rattle.gw_base.specs.Transaction.{transaction_text}
 use Rattle.gw_base.specs.declared.condition.Condition.TheVariants.{Cancel}
@@ -21,16 +22,21 @@ use Rattle.gw_owes.specs.declared.terminal.Service.TheVariants.{Transaction}
 use Rattle.gw_owes.specs.declared.terminal.Standing.{Standing}
 use Rattle.gw_owes.specs.declared.terminal.Standing.TheVariants.{Ready, Serving, Unlinked}
 use Rattle.gw_owes.specs.Core.{new_terminal}
-use Rattle.gw_owes.specs.Days.{is_day_key}
 use Rattle.gw_owes.specs.Diagnosis.{NamedTerminal}
 use Rattle.gw_owes.specs.Dialogues.{AwaitedServing}
 use Rattle.gw_owes.specs.PaymentExample.{approved_with_amount, declined_for, intent_after}
 use Rattle.gw_owes.specs.PaymentLaws.{IsReversible}
 use Rattle.gw_owes.specs.Payments.{asked_for}
 use Rattle.gw_owes.specs.ReversalExample.{declined_records, ended_records, payment_records, paid_text, reversal_ask_of, reversal_intent_kept, reversed_with_amount, settled_records}
-use Rattle.gw_owes.specs.ReversalLaws.{IsNewAtTerminal, IsNewOfTill, NamesReversible}
-use Rattle.gw_owes.specs.ReversalPremises.{ExampleReversalAccepted, ExampleIrreversible, ExampleReversalCauses, ExampleReversalMeans, ExampleMayStop, MayStopIn, header_to_reverse, known_ready, known_in_slots, original_entry, ready_with_paid, reversal_entry, reversing_records, reversing_talk, whole_reversal}
+use Rattle.gw_owes.specs.KeptReplies.{found_for}
+use Rattle.gw_owes.specs.ReversalLaws.{HasNumberAndRoom, IsNewAtTerminal, IsNewOfTill, NamesReversible, ServesAnother}
+use Rattle.gw_owes.specs.ReversalPremises.{ExampleReversalAccepted, ExampleIrreversible, ExampleReversalCauses, ExampleReversalMeans, ExampleReversalWaits, ExampleMayStop, MayStopIn, header_to_reverse, known_ready, known_in_slots, original_entry, ready_with_paid, reversal_entry, reversing_records, reversing_talk, whole_reversal, with_line, with_waiting}
+use Rattle.gw_owes.specs.Reversals.{original_of}
+use Rattle.gw_owes.specs.Row.{Known}
+use Rattle.gw_owes.specs.Sessions.{is_logged_out}
+use Rattle.gw_owes.specs.Steps.{is_used_up, lacks_room}
 use Rattle.gw_owes.specs.TerminalExample.{one_pt}
+use Rattle.gw_owes.specs.Waits.{is_pending_key}
 
 -- ---- one that may begin
 
@@ -59,7 +65,7 @@ reversal-accepted = record {
   named = refl;
   found = refl;
   unknown = refl;
-  no_day = refl;
+  not_pending = refl;
   logged_in = refl;
   original = refl;
   reversible = may-reverse;
@@ -180,14 +186,14 @@ may-reverse-yet = record {
 abbrev terminal-in : Standing → NamedTerminal
 terminal-in standing = record { number = 0; terminal = record (new_terminal one_pt) { standing = standing } }
 
--- the key isn't that of an end of day that is served there
+-- the key isn't that of an end of day that is served there; none waits
 abbrev ServesNoDay : Standing → Type 0
-ServesNoDay standing = is_day_key header_to_reverse (Some (terminal-in standing)) ≡ false
+ServesNoDay standing = is_pending_key (known_in_slots 0 payment_records standing).core header_to_reverse (Some (terminal-in standing)) ≡ false
 
 -- the key is new there
 is-new : (slots : ℕ) (standing : Standing) → ServesNoDay standing → IsNewAtTerminal (known_in_slots slots payment_records standing) header_to_reverse (Some (terminal-in standing))
 unfolding history
-is-new slots standing none = record { unknown = refl; no_day = none; terminal = terminal-in standing; is_named = refl }
+is-new slots standing none = record { unknown = refl; not_pending = none; terminal = terminal-in standing; is_named = refl }
 
 -- and the SaleID isn't logged out
 from-till : (slots : ℕ) (standing : Standing) → ServesNoDay standing → IsNewOfTill (known_in_slots slots payment_records standing) header_to_reverse (Some (terminal-in standing))
@@ -199,33 +205,59 @@ names-payment : (slots : ℕ) (standing : Standing) → ServesNoDay standing →
 unfolding history transaction_text digits
 names-payment slots standing none = record { new = from-till slots standing none; original = original_entry; original_is = refl; approval = approved_with_amount 1099; reversible = may-reverse }
 
+-- while the terminal serves another reversal, one with the ServiceID 3 passes its steps up to the last
+passes-yet : (known : Known) → known.kept ≡ reversing_records → is_pending_key known.core (till_header (codes "Reversal") (codes "3")) (Some (terminal-in (Serving (Transaction 2) 123))) ≡ false
+    → is_logged_out known.core (codes "S1") (codes "T1") ≡ false → lacks_room known.setup.slots reversing_records known.core ≡ false
+    → HasNumberAndRoom known (till_header (codes "Reversal") (codes "3")) whole_reversal (Some (terminal-in (Serving (Transaction 2) 123)))
+unfolding history transaction_text digits
+passes-yet known kept not_pending logged_in room = record {
+  names = record {
+    new = record {
+      new = record { unknown = ap (λ (k : List Record). found_for k (till_header (codes "Reversal") (codes "3"))) kept; not_pending = not_pending; terminal = terminal-in (Serving (Transaction 2) 123); is_named = refl };
+      logged_in = logged_in;
+    };
+    original = original_entry;
+    original_is = ap (λ (k : List Record). original_of k (codes "T1") whole_reversal) kept;
+    approval = approved_with_amount 1099;
+    reversible = subst (λ (k : List Record). IsReversible k whole_reversal original_entry (approved_with_amount 1099)) (sym kept) may-reverse-yet;
+  };
+  number = ap (λ (k : List Record). is_used_up k (codes "T1") (Some (terminal-in (Serving (Transaction 2) 123)))) kept;
+  room = ap (λ (k : List Record). lacks_room known.setup.slots k known.core) kept ∙ room;
+}
+
+serves-yet : ServesAnother (Some (terminal-in (Serving (Transaction 2) 123)))
+serves-yet = record { terminal = terminal-in (Serving (Transaction 2) 123); is_named = refl; service = Transaction 2; last = 123; serves = refl }
+
 pub causes : ExampleReversalCauses
 unfolding history transaction_text digits
 causes = record {
-  in_progress = record { found = Entry reversal_entry; on_record = refl; same = refl; is_open = refl };
+  in_progress = inl (record { found = Entry reversal_entry; on_record = refl; same = refl; is_open = refl });
   other_content = inl (record { found = Entry reversal_entry; on_record = refl; other = refl });
-  key_of_day = inr (inl (record { unknown = refl; day = refl }));
-  unconfigured = inl (refl, refl);
-  logged_out = (record { unknown = refl; no_day = refl; terminal = terminal-in (Ready 123); is_named = refl }, refl);
+  waits_again = inr (record { unknown = refl; again = refl });
+  waits_otherwise = inr (inl (record { unknown = refl; pending = refl; other = refl }));
+  key_of_day = inr (inl (record { unknown = refl; pending = refl; other = refl }));
+  unconfigured = inl (record { unknown = refl; not_pending = refl; unnamed = refl });
+  logged_out = (record { unknown = refl; not_pending = refl; terminal = terminal-in (Ready 123); is_named = refl }, refl);
   named_none = (from-till 1000000 (Ready 123) refl, refl);
   irreversible = inr (inr (from-till 1000000 (Ready 123) refl, record { original = original_entry; named = refl; irreversible = part }));
   used_up = (names-payment 1000000 (Ready 999999) refl, inl refl);
   no_room = (names-payment 3 (Ready 123) refl, inr refl);
   unlinked = inr (record { names = names-payment 4 (Unlinked None) refl; number = refl; room = refl }, record { terminal = terminal-in (Unlinked None); is_named = refl; out = refl });
-  busy = (
-    record {
-      names = record {
-        new = record { new = record { unknown = refl; no_day = refl; terminal = terminal-in (Serving (Transaction 2) 123); is_named = refl }; logged_in = refl };
-        original = original_entry;
-        original_is = refl;
-        approval = approved_with_amount 1099;
-        reversible = may-reverse-yet;
-      };
-      number = refl;
-      room = refl;
-    },
-    record { terminal = terminal-in (Serving (Transaction 2) 123); is_named = refl; service = Transaction 2; last = 123; serves = refl },
+  busy = (passes-yet (known_in_slots 1000000 reversing_records (Serving (Transaction 2) 123)) refl refl refl refl, (serves-yet, refl));
+  full = (
+    passes-yet (with_line 1 (with_waiting (known_in_slots 1000000 reversing_records (Serving (Transaction 2) 123)) (till_header (codes "Reversal") (codes "4")) whole_reversal)) refl refl refl refl,
+    (serves-yet, refl),
   );
+}
+
+pub reversal-waits : ExampleReversalWaits
+unfolding history transaction_text digits
+reversal-waits = record {
+  passes = passes-yet (with_line 1 (known_in_slots 1000000 reversing_records (Serving (Transaction 2) 123))) refl refl refl refl;
+  serving = serves-yet;
+  not_full = refl;
+  waits = refl;
+  no_reply = refl;
 }
 
 -- ---- dialogues that are to stop

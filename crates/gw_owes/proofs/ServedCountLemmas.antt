@@ -6,8 +6,9 @@ use Rattle.gw_owes.specs.declared.terminal.Terminal.{Terminal}
 use Rattle.gw_owes.specs.Awaited.{one_more_awaited, many_more}
 use Rattle.gw_owes.specs.Reconciliations.{settled_of, reply_to_settled}
 use Rattle.gw_owes.specs.Row.{Known}
-use Rattle.gw_owes.specs.TerminalLaws.{Awaits, EachServedCounts}
+use Rattle.gw_owes.specs.TerminalLaws.{Awaits, EachServedCounts, EachNextCounts}
 use Rattle.gw_owes.specs.Terminals.{terminal_at}
+use Rattle.gw_owes.proofs.NextLemmas.{each-next}
 use Rattle.gw_owes.proofs.PaymentLemmas.{each-served}
 use Rattle.gw_owes.proofs.RowLemmas.{reply-commands}
 use Rattle.gw_owes.proofs.SetLemmas.{new-is-there, same-some}
@@ -32,4 +33,24 @@ each-served-counts known number till header request terminal found =
       };
       day = λ one last at. record { terminal = _; found = new-is-there known.core.terminals number one _ at.found; count = ap one_more_awaited (same-awaited known number one terminal at.found found) };
       displays = λ one last outputs command at. record { terminal = _; found = new-is-there known.core.terminals number one _ at.found; count = ap one_more_awaited (same-awaited known number one terminal at.found found) };
+    })
+
+-- and so is that of what has waited
+pub each-next-counts : EachNextCounts
+each-next-counts known number terminal found =
+    each-next (Awaits number terminal.awaited) known number
+    (record {
+      none = record { terminal = terminal; found = found; count = refl };
+      refused = λ one last wait condition first is. record { terminal = terminal; found = found; count = refl };
+      begins = λ one last wait asking at. record {
+        terminal = _;
+        found = new-is-there known.core.terminals number one _ at.first.found;
+        count = ap one_more_awaited (same-awaited known number one terminal at.first.found found);
+      };
+      day = λ one last wait at. record {
+        terminal = _;
+        found = new-is-there known.core.terminals number one _ at.first.found;
+        count = ap one_more_awaited (same-awaited known number one terminal at.first.found found);
+      };
+      left = λ one last wait first. record { terminal = terminal; found = found; count = refl };
     })

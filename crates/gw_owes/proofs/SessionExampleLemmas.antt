@@ -107,7 +107,7 @@ session-premises = record {
   named = refl;
   found = refl;
   few = λ one. let full : most_logged_out ≤ 0 = one.full in absurd (omega (arith, full));
-  payment = record { steps = refl; unknown = refl; named = ready_named; named_is = refl; no_day = refl; logged_out = refl };
+  payment = record { steps = refl; unknown = refl; named = ready_named; named_is = refl; not_pending = refl; logged_out = refl };
   apart = λ sale poi. contradicts ((bytes_eq-Decides (codes "S2") (codes "S1")).1 sale);
   other_item = refl;
 }

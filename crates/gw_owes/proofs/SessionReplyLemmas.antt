@@ -17,7 +17,6 @@ use Rattle.jrn_record.specs.declared.records.Record.{Record}
 use Rattle.gw_ledger.specs.declared.entry.Found.{Found}
 use Rattle.xlate.specs.Reply.{header_of, result_body_of}
 use Rattle.gw_owes.specs.Content.{has_same_content}
-use Rattle.gw_owes.specs.Days.{asks_day, asks_day_served, is_day_again, is_day_key, is_day_served}
 use Rattle.gw_owes.specs.Diagnosis.{NamedTerminal, named_terminal, diagnosis_reply}
 use Rattle.gw_owes.specs.Displays.{display_result, reply_of_display}
 use Rattle.gw_owes.specs.Items.{Asked}
@@ -32,8 +31,10 @@ use Rattle.gw_owes.specs.SessionLaws.{IsOfLoggedOut, LoggedOutFails, OnlyLoggedO
 use Rattle.gw_owes.specs.SessionRows.{session_reply}
 use Rattle.gw_owes.specs.Sessions.{is_logged_out, is_one_too_many}
 use Rattle.gw_owes.specs.StepLaws.{has_steps}
-use Rattle.gw_owes.specs.Steps.{StepResult, RequestStep, KeptReply, Fails, Begins, first_result, items_of_result, reply_of_result, service_reply, step_result, steps}
+use Rattle.gw_owes.specs.Steps.{StepResult, RequestStep, KeptReply, Fails, Begins, Waits, first_result, items_of_result, reply_of_result, result_at_queue, service_reply, step_result, steps}
 use Rattle.gw_owes.specs.Terminals.{reply_calls_to}
+use Rattle.gw_owes.specs.Waits.{asks_pending, is_pending, is_pending_again, is_pending_key, is_queue_full}
+use Rattle.gw_owes.proofs.StepLemmas.{not-pending-result}
 
 -- ---- a till that is logged out
 
@@ -66,15 +67,10 @@ asked-is tills known till header requests.Diagnosis named there steps named_is =
 abbrev later_steps : Known → Header → SaleRequest → NamedTerminal → List RequestStep
 later_steps known header request named = drop 7 (steps known header request None (Some named))
 
--- the result of the steps, by whether the end of day is asked for again that is served, whether the key is that of one, and whether the till is logged out
+-- the result of the steps, by whether what waits or is served is asked for again, whether the key is that of it, and whether the till is logged out
 abbrev result_by : Known → Header → SaleRequest → NamedTerminal → Bool → Bool → Bool → StepResult
-result_by known header request named again of_day out =
-    if again then Fails InProgress else (if of_day then Fails NotAllowed else (if out then Fails LoggedOut else first_result (Fails Busy) (later_steps known header request named)))
-
-result-is : (known : Known) (header : Header) (request : SaleRequest) (named : NamedTerminal) → found_for known.kept header ≡ None
-    → step_result known header request (Some named)
-    ≡ result_by known header request named (is_day_again header request (Some named)) (is_day_key header (Some named)) (is_logged_out known.core header.sale header.poi)
-result-is known header request named unknown = ap (λ (found : Option Found). first_result (Fails Busy) (steps known header request found (Some named))) unknown
+result_by known header request named again pending out =
+    if again then Fails InProgress else (if pending then Fails NotAllowed else (if out then Fails LoggedOut else first_result (result_at_queue known (Some named)) (later_steps known header request named)))
 
 pub logged-out-fails : LoggedOutFails
 logged-out-fails tills known till header request there of_till = record { reply = ap (λ (row : Row). row.calls) row_is; none_more = ap (λ (row : Row). row.items) row_is }
@@ -86,9 +82,7 @@ logged-out-fails tills known till header request there of_till = record { reply 
     row_is =
         asked-is tills known till header request (Some named) there of_till.steps of_till.named_is
         ∙ ap (asked_steps known till header request (Some named))
-        (result-is known header request named of_till.unknown
-        ∙ (ap (λ (of_day : Bool). result_by known header request named (of_day && asks_day request) of_day (is_logged_out known.core header.sale header.poi)) of_till.no_day
-        ∙ ap (result_by known header request named false false) of_till.logged_out))
+        (not-pending-result known header request (Some named) of_till.unknown of_till.not_pending ∙ ap (result_by known header request named false false) of_till.logged_out)
 
 -- ---- no other
 
@@ -130,6 +124,7 @@ abbrev fails_logout : StepResult → Bool
 fails_logout KeptReply = false
 fails_logout (Fails condition) = is_logout condition
 fails_logout Begins = false
+fails_logout Waits = false
 
 -- where no step has that Failure, nor what comes after them, their result isn't it
 none-fails : (otherwise : StepResult) (table : List RequestStep) → fails_logout otherwise ≡ false → list_any (λ (step : RequestStep). fails_logout step.result) table ≡ false
@@ -158,6 +153,7 @@ result-says : (kept : List Record) (header : Header) (result : StepResult) → s
 result-says kept header KeptReply = kept-says (found_for kept header)
 result-says kept header (Fails condition) = refl
 result-says kept header Begins = refl
+result-says kept header Waits = refl
 
 -- steps with that result are of a till that is logged out
 steps-of : (known : Known) (header : Header) (request : SaleRequest) (named : Option NamedTerminal) → has_steps request ≡ true → named_terminal known.core header.poi ≡ named
@@ -169,24 +165,29 @@ steps-of known header request named asks named_is fails = by-found (found_for kn
     on-record true false = refl
     on-record false replied = refl
 
-    -- what holds where the till is logged out, and the key isn't that of an end of day
-    both : (there : NamedTerminal) (again of_day out : Bool) → fails_logout (result_by known header request there again of_day out) ≡ true → (of_day ≡ false) × (out ≡ true)
-    both there true of_day out so = absurd cc
+    -- what comes after the steps
+    full-says : (full : Bool) → fails_logout (if full then Fails Busy else Waits) ≡ false
+    full-says true = refl
+    full-says false = refl
+
+    -- what holds where the till is logged out, and the key doesn't wait and isn't that of an end of day
+    both : (there : NamedTerminal) (again pending out : Bool) → fails_logout (result_by known header request there again pending out) ≡ true → (pending ≡ false) × (out ≡ true)
+    both there true pending out so = absurd cc
     both there false true out so = absurd cc
     both there false false true so = (refl, refl)
-    both there false false false so = never _ (none-fails (Fails Busy) (later_steps known header request there) refl refl) so
+    both there false false false so = never _ (none-fails (result_at_queue known (Some there)) (later_steps known header request there) (full-says (is_queue_full known (Some there))) refl) so
 
-    nowhere : (again of_day : Bool) → fails_logout (if again then Fails InProgress else (if of_day then Fails NotAllowed else Fails UnavailableDevice)) ≡ false
-    nowhere true of_day = refl
+    nowhere : (again pending : Bool) → fails_logout (if again then Fails InProgress else (if pending then Fails NotAllowed else Fails UnavailableDevice)) ≡ false
+    nowhere true pending = refl
     nowhere false true = refl
     nowhere false false = refl
 
     by-found : (found : Option Found) → found_for known.kept header ≡ found → (there : Option NamedTerminal) → named_terminal known.core header.poi ≡ there
-        → fails_logout (first_result (Fails Busy) (steps known header request found there)) ≡ true → IsOfLoggedOut known header request
-    by-found None unknown None is so = never _ (nowhere (is_day_again header request None) (is_day_key header None)) so
+        → fails_logout (first_result (result_at_queue known there) (steps known header request found there)) ≡ true → IsOfLoggedOut known header request
+    by-found None unknown None is so = never _ (nowhere (is_pending_again known header request None) (is_pending_key known.core header None)) so
     by-found None unknown (Some there) is so =
-        let why = both there (is_day_again header request (Some there)) (is_day_key header (Some there)) (is_logged_out known.core header.sale header.poi) so in
-        record { steps = asks; unknown = unknown; named = there; named_is = is; no_day = why.0; logged_out = why.1 }
+        let why = both there (is_pending_again known header request (Some there)) (is_pending_key known.core header (Some there)) (is_logged_out known.core header.sale header.poi) so in
+        record { steps = asks; unknown = unknown; named = there; named_is = is; not_pending = why.0; logged_out = why.1 }
     by-found (Some found) unknown there is so = never _ (on-record (has_same_content known.kept request found) (is_finished found)) so
 
 service-of : (known : Known) (header : Header) (request : SaleRequest) → has_steps request ≡ true → says_logout (service_reply known header request (named_terminal known.core header.poi)) ≡ true → IsOfLoggedOut known header request
@@ -225,6 +226,7 @@ shown-says : (header : Header) (outputs : List Output) (result : StepResult) →
 shown-says header outputs KeptReply = refl
 shown-says header outputs (Fails condition) = display-says header (refused_results condition outputs)
 shown-says header outputs Begins = refl
+shown-says header outputs Waits = refl
 
 diagnosis-says : (header : Header) (named : Option NamedTerminal) → says_logout (Some (diagnosis_reply header named)) ≡ false
 diagnosis-says header None = refl
@@ -235,8 +237,8 @@ only-of known header requests.Login says = never _ (session-says known header re
 only-of known header requests.Logout says = never _ (session-says known header requests.Logout (named_terminal known.core header.poi)) says
 only-of known header (requests.Payment ask) says = service-of known header (requests.Payment ask) refl says
 only-of known header (requests.Reversal ask) says = service-of known header (requests.Reversal ask) refl says
-only-of known header (requests.Abort reference) says = never _ (abort-says known header (is_open_key known.kept header reference || is_day_served known.core (key_of header reference))) says
-only-of known header (requests.Status reference) says = never _ (status-says header (found_by_status known.kept header reference) (asks_day_served known.core header reference)) says
+only-of known header (requests.Abort reference) says = never _ (abort-says known header (is_open_key known.kept header reference || is_pending known.core (key_of header reference))) says
+only-of known header (requests.Status reference) says = never _ (status-says header (found_by_status known.kept header reference) (asks_pending known.core header reference)) says
 only-of known header (requests.Reconciliation period) says = service-of known header (requests.Reconciliation period) refl says
 only-of known header (requests.Display outputs) says = never _ (shown-says header outputs (display_result outputs (named_terminal known.core header.poi))) says
 only-of known header (requests.Print qualifier) says = absurd cc

@@ -11,7 +11,7 @@ use Rattle.sale_values.specs.declared.request.SaleRequest.TheVariants as request
 use Rattle.gw_owes.specs.declared.terminal.LoggedOut.{LoggedOut}
 use Rattle.gw_owes.specs.Calls.{CutTill}
 use Rattle.gw_owes.specs.Core.{Core}
-use Rattle.gw_owes.specs.Items.{RoundItem, Crowded, Message, Asked, Unframed, Gone, Greet, Handle, Serve, NextWaiting, Oversized, LinkLost, Late, Overdue, Due}
+use Rattle.gw_owes.specs.Items.{RoundItem, Crowded, Message, Asked, Unframed, Gone, Greet, Handle, Serve, Queue, NextWaiting, Oversized, LinkLost, Late, Overdue, Due}
 use Rattle.gw_owes.specs.Links.{LinkIsMade, LinkHasFailed, LinkIsLost, link_row}
 use Rattle.gw_owes.specs.Row.{Known, Row, owing}
 use Rattle.gw_owes.specs.Rows.{asked_row}
@@ -20,8 +20,10 @@ use Rattle.gw_owes.specs.Sessions.{has_pair, is_logged_out, is_one_too_many, is_
 use Rattle.gw_owes.specs.TerminalLaws.{owes_cut}
 use Rattle.gw_owes.specs.TerminalRows.{terminal_of, terminal_row}
 use Rattle.gw_owes.specs.Terminals.{registers, unlinks}
-use Rattle.gw_owes.specs.Transcript.{TerminalStep, HandlesItem, ChangesLink, StepAt, core_after, core_along, core_with_cut, known_after, known_before, known_new}
+use Rattle.gw_owes.specs.Transcript.{TerminalStep, HandlesItem, ChangesLink, ChangesWaits, StepAt, core_after, core_along, core_with_cut, known_after, known_before, known_new}
+use Rattle.gw_owes.specs.WaitingRows.{next_waiting_row}
 use Rattle.gw_owes.proofs.HandlingLemmas.{by-where, consequence-becomes, each-handled, each-terminal}
+use Rattle.gw_owes.proofs.NextLemmas.{each-next, each-overdue, each-queued}
 use Rattle.gw_owes.proofs.PaymentLemmas.{each-served}
 use Rattle.gw_owes.proofs.SessionLemmas.{after-other, each-session, logged-in-own, logged-out-own}
 use Rattle.gw_owes.proofs.TerminalLemmas.{due-same, greeting-changes-nothing, late-same, oversized-same}
@@ -37,6 +39,15 @@ pub link-keeps : EachLinkKeepsPairs
 link-keeps known number LinkIsMade = each-terminal (KeepsPairs known) known number (registers known number) refl (λ terminal found. refl)
 link-keeps known number LinkHasFailed = lost-keeps known number
 link-keeps known number LinkIsLost = lost-keeps known number
+
+next-keeps : (known : Known) (number : ℕ) → KeepsPairs known (next_waiting_row known number)
+next-keeps known number = each-next (KeepsPairs known) known number (record {
+  none = refl;
+  refused = λ terminal last wait condition first refused. refl;
+  begins = λ terminal last wait asking at. refl;
+  day = λ terminal last wait at. refl;
+  left = λ terminal last wait first. refl;
+})
 
 item-keeps : (known : Known) (item : RoundItem) → serves_session item ≡ false → KeepsPairs known (terminal_row known item)
 item-keeps known (Crowded till) other = refl
@@ -60,7 +71,8 @@ item-keeps known (Serve number till header request) other =
       day = λ terminal last at. refl;
       displays = λ terminal last outputs command at. refl;
     })
-item-keeps known (NextWaiting number) other = refl
+item-keeps known (Queue number till header request) other = refl
+item-keeps known (NextWaiting number) other = next-keeps known number
 item-keeps known (Oversized number) other = ap (λ (core : Core). core.logged_out) (oversized-same known number)
 item-keeps known (LinkLost number) other = lost-keeps known number
 item-keeps known (Late number) other = ap (λ (core : Core). core.logged_out) (late-same known number)
@@ -76,11 +88,13 @@ each-other-item-keeps tills known (Gone till) other = refl
 each-other-item-keeps tills known (Greet number apdu) other = item-keeps known (Greet number apdu) other
 each-other-item-keeps tills known (Handle number apdu) other = item-keeps known (Handle number apdu) other
 each-other-item-keeps tills known (Serve number till header request) other = item-keeps known (Serve number till header request) other
-each-other-item-keeps tills known (NextWaiting number) other = refl
+each-other-item-keeps tills known (Queue number till header request) other =
+    each-queued (KeepsPairs known) known number till header request (record { none = refl; joins = λ terminal key at. refl; taken = λ wait at. refl })
+each-other-item-keeps tills known (NextWaiting number) other = next-keeps known number
 each-other-item-keeps tills known (Oversized number) other = item-keeps known (Oversized number) other
 each-other-item-keeps tills known (LinkLost number) other = item-keeps known (LinkLost number) other
 each-other-item-keeps tills known (Late number) other = item-keeps known (Late number) other
-each-other-item-keeps tills known (Overdue key) other = refl
+each-other-item-keeps tills known (Overdue key) other = each-overdue (KeepsPairs known) known key (record { none = refl; taken = λ wait waits overdue. refl })
 each-other-item-keeps tills known (Due number) other = item-keeps known (Due number) other
 
 -- the cut that a row owes leaves the pairs as they are
@@ -175,7 +189,8 @@ item-follows sale poi known (Serve number till header request) = by-session (is_
     by-session true is =
         each-session (FollowsItem sale poi known (Serve number till header request)) known number till header request is refl (λ few. success-follows sale poi known.core header request is)
     by-session false other = keeps-follows sale poi known (Serve number till header request) (none-says sale poi header request other) (item-keeps known (Serve number till header request) other)
-item-follows sale poi known (NextWaiting number) = refl
+item-follows sale poi known (Queue number till header request) = refl
+item-follows sale poi known (NextWaiting number) = keeps-follows sale poi known (NextWaiting number) refl (item-keeps known (NextWaiting number) refl)
 item-follows sale poi known (Oversized number) = keeps-follows sale poi known (Oversized number) refl (item-keeps known (Oversized number) refl)
 item-follows sale poi known (LinkLost number) = keeps-follows sale poi known (LinkLost number) refl (item-keeps known (LinkLost number) refl)
 item-follows sale poi known (Late number) = keeps-follows sale poi known (Late number) refl (item-keeps known (Late number) refl)
@@ -186,6 +201,7 @@ step-follows : (sale poi : List ℕ) (known : Known) (step : TerminalStep) → i
 step-follows sale poi known (HandlesItem item) =
     ap (λ (pairs : List LoggedOut). has_pair pairs sale poi) (cut-keeps known (terminal_row known item) (terminal_of item)) ∙ item-follows sale poi known item
 step-follows sale poi known (ChangesLink number event) = ap (λ (pairs : List LoggedOut). has_pair pairs sale poi) (link-keeps known number event)
+step-follows sale poi known (ChangesWaits waits) = refl
 
 along-follows : (sale poi : List ℕ) (known : Known) (steps : List StepAt) (before : Bool) → is_logged_out known.core sale poi ≡ before
     → is_logged_out (core_along known steps) sale poi ≡ last_logs_out sale poi known before steps
@@ -239,7 +255,8 @@ item-few known (Greet number apdu) few true is = absurd cc
 item-few known (Handle number apdu) few true is = absurd cc
 item-few known (Serve number till header request) few true is =
     each-session (λ (row : Row). length row.core.logged_out ≤ most_logged_out) known number till header request is few (λ one. after-few known.core header request one few)
-item-few known (NextWaiting number) few true is = few
+item-few known (Queue number till header request) few true is = absurd cc
+item-few known (NextWaiting number) few true is = absurd cc
 item-few known (Oversized number) few true is = absurd cc
 item-few known (LinkLost number) few true is = absurd cc
 item-few known (Late number) few true is = absurd cc
@@ -250,6 +267,7 @@ step-few : (known : Known) (step : TerminalStep) → length known.core.logged_ou
 step-few known (HandlesItem item) few =
     subst (λ (pairs : List LoggedOut). length pairs ≤ most_logged_out) (sym (cut-keeps known (terminal_row known item) (terminal_of item))) (item-few known item few (serves_session item) refl)
 step-few known (ChangesLink number event) few = subst (λ (pairs : List LoggedOut). length pairs ≤ most_logged_out) (sym (link-keeps known number event)) few
+step-few known (ChangesWaits waits) few = few
 
 along-few : (known : Known) (steps : List StepAt) → length known.core.logged_out ≤ most_logged_out → length (core_along known steps).logged_out ≤ most_logged_out
 along-few known [] few = few

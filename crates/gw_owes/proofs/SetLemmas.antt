@@ -33,15 +33,14 @@ same-stays f (first ∷ rest) (suc at) old new found same = ap (λ b. f first �
 
 -- nothing is changed
 pub alone-same : (number : ℕ) (core : Core) → ChangesTerminalAlone number core core
-alone-same number core = record { others = λ other apart. refl; settings = refl; count = refl; waits = refl }
+alone-same number core = record { others = λ other apart. refl; settings = refl; count = refl }
 
--- no terminal is changed, and none that waits
-pub terminals-same : (number : ℕ) (old new : Core) → new.terminals ≡ old.terminals → new.waits ≡ old.waits → ChangesTerminalAlone number old new
-terminals-same number old new same waits = record {
+-- no terminal is changed
+pub terminals-same : (number : ℕ) (old new : Core) → new.terminals ≡ old.terminals → ChangesTerminalAlone number old new
+terminals-same number old new same = record {
   others = λ other apart. ap (λ (terminals : List Terminal). slice_get terminals other) same;
   settings = ap (λ (terminals : List Terminal). map (λ (terminal : Terminal). terminal.pt) terminals) same;
   count = ap (λ (terminals : List Terminal). length terminals) same;
-  waits = waits;
 }
 
 -- one terminal is changed, and not its settings
@@ -50,5 +49,4 @@ alone-set number core old new found same = record {
   others = λ other apart. others-stay core.terminals number other new apart;
   settings = same-stays (λ (terminal : Terminal). terminal.pt) core.terminals number old new found same;
   count = length-set core.terminals number new;
-  waits = refl;
 }

@@ -49,7 +49,7 @@ use Rattle.gw_owes.specs.Dialogues.{runs_transaction, IsKindOfService, RunsServi
 use Rattle.gw_owes.specs.Displays.{serving_display}
 use Rattle.gw_owes.specs.Greeting.{greeting, sending_calls, greet_decoded}
 use Rattle.gw_owes.specs.Handling.{awaited_after, taken_as, meaning_for, meaning_at, taking, registering, enquiring, serving, consequence, handle_row}
-use Rattle.gw_owes.specs.Items.{Crowded, Message, Asked as AskedItem, Unframed, Gone, Greet, Handle, Serve, NextWaiting, Oversized, LinkLost, Late, Overdue, Due}
+use Rattle.gw_owes.specs.Items.{Crowded, Message, Asked as AskedItem, Unframed, Gone, Greet, Handle, Serve, Queue, NextWaiting, Oversized, LinkLost, Late, Overdue, Due}
 use Rattle.gw_owes.specs.Links.{is_linked, cutting}
 use Rattle.gw_owes.specs.PaymentLaws.{MeansServed}
 use Rattle.gw_owes.specs.Payments.{Asking, beginning_row}
@@ -63,8 +63,10 @@ use Rattle.gw_owes.specs.Stops.{stop_row, stops_key, wishes_stop, wishing}
 use Rattle.gw_owes.specs.TerminalLaws.{GoesOnTo}
 use Rattle.gw_owes.specs.TerminalRows.{terminal_row}
 use Rattle.gw_owes.specs.Terminals.{terminal_at, of_terminal, terminal_becomes, reply_calls_to, reply_to_lost, unlinks}
+use Rattle.gw_owes.specs.WaitingRows.{next_waiting_row}
 use Rattle.gw_owes.proofs.DialogueLemmas.{shown-lines}
 use Rattle.gw_owes.proofs.HandlingLemmas.{IsShown, by-where, each-terminal, each-linked, each-handled, plain-row}
+use Rattle.gw_owes.proofs.NextLemmas.{each-next, known_without}
 use Rattle.gw_owes.proofs.PaymentLawLemmas.{served-leads, stopped-same}
 use Rattle.gw_owes.proofs.PaymentLemmas.{StopsAt, each-served, each-stopped}
 use Rattle.gw_owes.proofs.SetLemmas.{new-is-there, same-some}
@@ -489,6 +491,16 @@ serve-first known number till header request =
       displays = λ terminal last outputs command at. none-first known number _ (ap (λ (b : Bool). b || false) (shown-no-stop outputs command at.shown_is));
     })
 
+-- what has waited and begins sends none
+next-no-stop : (known : Known) (number : ℕ) → NoStop (next_waiting_row known number)
+next-no-stop known number = each-next NoStop known number (record {
+  none = refl;
+  refused = λ terminal last wait condition first refused. refl;
+  begins = λ terminal last wait asking at. begun-no-stop (known_without known wait) number wait.till terminal last asking;
+  day = λ terminal last wait at. refl;
+  left = λ terminal last wait first. refl;
+})
+
 same-number : (one other : ℕ) → Some one ≡ Some other → one ≡ other
 same-number one other e = cc
 
@@ -506,7 +518,8 @@ each-stop-is-first known (Handle at apdu) number about has =
     (λ terminal message found linked is taken at stays sends. absurd cc))
 each-stop-is-first known (Serve at till header request) number about has =
     subst (λ (n : ℕ). StopsFirst known number (terminal_row known (Serve n till header request))) (sym (same-number at number about)) (serve-first known number till header request)
-each-stop-is-first known (NextWaiting at) number about has = λ sends. absurd cc
+each-stop-is-first known (Queue at till header request) number about has = λ sends. absurd cc
+each-stop-is-first known (NextWaiting at) number about has = none-first known number _ (next-no-stop known at)
 each-stop-is-first known (Oversized at) number about has = none-first known number _ (each-linked NoStop known at (λ terminal. cutting known at) refl (λ terminal found linked. refl))
 each-stop-is-first known (LinkLost at) number about has = none-first known number _ (lost-no-stop known at)
 each-stop-is-first known (Late at) number about has = none-first known number _ (late-no-stop known at)

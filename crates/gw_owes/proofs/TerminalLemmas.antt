@@ -14,7 +14,8 @@ use Rattle.gw_owes.specs.Awaited.{many_more}
 use Rattle.gw_owes.specs.Calls.{SendPt, CutPt, LinkPt, Ask, Acknowledge, Refuse}
 use Rattle.gw_owes.specs.declared.terminal.Standing.TheVariants.{Unlinked, Registering}
 use Rattle.gw_owes.specs.declared.terminal.Terminal.{Terminal}
-use Rattle.gw_owes.specs.Items.{RoundItem, Crowded, Message, Asked, Unframed, Gone, Greet, Handle, Serve, NextWaiting, Oversized, LinkLost, Late, Overdue, Due}
+use Rattle.gw_owes.specs.Items.{RoundItem, Crowded, Message, Asked, Unframed, Gone, Greet, Handle, Serve, Queue, NextWaiting, Oversized, LinkLost, Late, Overdue, Due}
+use Rattle.gw_owes.specs.Core.{Core, Wait}
 use Rattle.gw_owes.specs.Row.{Known, Row, owing, owing_nothing, owing_where}
 use Rattle.gw_owes.specs.Terminals.{terminal_at, of_terminal, registers, registration, unlinks, unlinked_terminal, reply_to_lost}
 use Rattle.gw_owes.specs.Links.{is_linked, of_linked, cutting, LinkEvent, LinkIsMade, LinkHasFailed, LinkIsLost, link_row}
@@ -25,11 +26,13 @@ use Rattle.gw_owes.specs.Reconciliations.{settled_of, reply_to_settled}
 use Rattle.gw_owes.specs.Deadlines.{is_late, is_due, late_row, due_row}
 use Rattle.gw_owes.specs.TerminalRows.{terminal_row}
 use Rattle.gw_owes.specs.Laws.{ends_in_one, EndsInOne}
-use Rattle.gw_owes.specs.TerminalLaws.{ChangesTerminalAlone, EachRowChangesItsTerminal, EachLinkChangesItsTerminal, GreetingChangesNothing, UnlinkedIsOwedNothing, AbsentIsOwedNothing, Awaits, EachLinkCountsAnew, owes_cut, BreaksDialogue, IsLateAt, EachCutHasCause, EachCauseCuts, EachMessageIsGreeted, NoLinkEventCuts, GoesOnTo, DueIsLinked, LinkedIsRegistered}
+use Rattle.gw_owes.specs.TerminalLaws.{ChangesTerminalAlone, EachRowChangesItsTerminal, EachLinkChangesItsTerminal, EachRowLeavesWaits, EachLinkLeavesWaits, GreetingChangesNothing, UnlinkedIsOwedNothing, AbsentIsOwedNothing, Awaits, EachLinkCountsAnew, owes_cut, BreaksDialogue, IsLateAt, EachCutHasCause, EachCauseCuts, EachMessageIsGreeted, NoLinkEventCuts, GoesOnTo, DueIsLinked, LinkedIsRegistered}
+use Rattle.gw_owes.specs.WaitingRows.{next_waiting_row}
+use Rattle.gw_owes.proofs.NextLemmas.{each-next, known_without}
 use Rattle.gw_owes.proofs.PaymentLemmas.{each-served}
 use Rattle.gw_owes.proofs.RowLemmas.{links-end, reply-commands, reply-ends, reply-no-cut}
 use Rattle.gw_owes.proofs.SetLemmas.{new-is-there, alone-same, alone-set, terminals-same}
-use Rattle.gw_owes.proofs.HandlingLemmas.{breaks-cut, by-where, linked-row, each-terminal, each-linked, handle-alone, handle-ends, handle-cuts}
+use Rattle.gw_owes.proofs.HandlingLemmas.{breaks-cut, by-where, linked-row, each-terminal, each-linked, handle-alone, handle-leaves, handle-ends, handle-cuts}
 
 -- ---- the calls
 
@@ -69,6 +72,16 @@ serve-ends known number till header request =
       displays = λ terminal last outputs command at. refl;
     })
 
+next-ends : (known : Known) (number : ℕ) → EndsInOne (next_waiting_row known number)
+next-ends known number =
+    each-next EndsInOne known number (record {
+      none = refl;
+      refused = λ terminal last wait condition first is. refl;
+      begins = λ terminal last wait asking at. refl;
+      day = λ terminal last wait at. refl;
+      left = λ terminal last wait first. refl;
+    })
+
 pub link-rows-end : (known : Known) (number : ℕ) (event : LinkEvent) → EndsInOne (link_row known number event)
 link-rows-end known number LinkIsMade = let ends = links-end known number in ends.made
 link-rows-end known number LinkHasFailed = let ends = links-end known number in ends.lost
@@ -83,7 +96,8 @@ terminal-rows-end known (Gone till) = refl
 terminal-rows-end known (Greet number apdu) = greet-decoded-ends known number (decode_pt_message apdu)
 terminal-rows-end known (Handle number apdu) = handle-ends known number apdu
 terminal-rows-end known (Serve number till header request) = serve-ends known number till header request
-terminal-rows-end known (NextWaiting number) = refl
+terminal-rows-end known (Queue number till header request) = refl
+terminal-rows-end known (NextWaiting number) = next-ends known number
 terminal-rows-end known (Oversized number) = each-linked EndsInOne known number (λ terminal. cutting known number) refl (λ terminal found linked. refl)
 terminal-rows-end known (LinkLost number) = link-rows-end known number LinkIsLost
 terminal-rows-end known (Late number) = late-ends known number
@@ -133,10 +147,25 @@ serve-alone known number till header request =
       begins = λ terminal last asking at. alone-set number known.core terminal _ at.found refl;
       sent = λ terminal talk at may. alone-set number known.core terminal _ at.found refl;
       wished = λ terminal talk at may. alone-set number known.core terminal _ at.found refl;
-      session = λ success. terminals-same number known.core _ refl refl;
+      session = λ success. terminals-same number known.core _ refl;
       settles = λ terminal at. alone-same number known.core;
       day = λ terminal last at. alone-set number known.core terminal _ at.found refl;
       displays = λ terminal last outputs command at. alone-set number known.core terminal _ at.found refl;
+    })
+
+-- another list of what waits changes no terminal
+without-alone : (number : ℕ) (known : Known) (wait : Wait) (new : Core) → ChangesTerminalAlone number (known_without known wait).core new → ChangesTerminalAlone number known.core new
+without-alone number known wait new alone = record { others = alone.others; settings = alone.settings; count = alone.count }
+
+-- a request that a terminal begins once it has waited changes it alone
+pub next-alone : (known : Known) (number : ℕ) → ChangesTerminalAlone number known.core (next_waiting_row known number).core
+next-alone known number =
+    each-next (λ (row : Row). ChangesTerminalAlone number known.core row.core) known number (record {
+      none = alone-same number known.core;
+      refused = λ terminal last wait condition first is. without-alone number known wait _ (alone-same number (known_without known wait).core);
+      begins = λ terminal last wait asking at. without-alone number known wait _ (alone-set number (known_without known wait).core terminal _ at.first.found refl);
+      day = λ terminal last wait at. without-alone number known wait _ (alone-set number (known_without known wait).core terminal _ at.first.found refl);
+      left = λ terminal last wait first. without-alone number known wait _ (alone-same number (known_without known wait).core);
     })
 
 pub row-changes-alone : EachRowChangesItsTerminal
@@ -148,12 +177,56 @@ row-changes-alone known (Gone till) number is = absurd cc
 row-changes-alone known (Greet pt apdu) number is = same-alone number known (greet_row known pt apdu) (greeting-changes-nothing known pt apdu)
 row-changes-alone known (Handle pt apdu) number is = let e : pt ≡ number = cc in subst (λ n. ChangesTerminalAlone n known.core (handle_row known pt apdu).core) e (handle-alone known pt apdu)
 row-changes-alone known (Serve pt till header request) number is = let e : pt ≡ number = cc in subst (λ n. ChangesTerminalAlone n known.core (serve_row known pt till header request).core) e (serve-alone known pt till header request)
-row-changes-alone known (NextWaiting pt) number is = alone-same number known.core
+row-changes-alone known (Queue pt till header request) number is = absurd cc
+row-changes-alone known (NextWaiting pt) number is = let e : pt ≡ number = cc in subst (λ n. ChangesTerminalAlone n known.core (next_waiting_row known pt).core) e (next-alone known pt)
 row-changes-alone known (Oversized pt) number is = same-alone number known (oversized_row known pt) (oversized-same known pt)
 row-changes-alone known (LinkLost pt) number is = let e : pt ≡ number = cc in subst (λ n. ChangesTerminalAlone n known.core (link_row known pt LinkIsLost).core) e (lost-alone known pt)
 row-changes-alone known (Late pt) number is = same-alone number known (late_row known pt) (late-same known pt)
 row-changes-alone known (Overdue key) number is = absurd cc
 row-changes-alone known (Due pt) number is = same-alone number known (due_row known pt) (due-same known pt)
+
+-- ---- what waits
+
+greet-leaves : (known : Known) (number : ℕ) (apdu : ApduValue) → (greet_row known number apdu).core.waits ≡ known.core.waits
+greet-leaves known number apdu = ap (λ (core : Core). core.waits) (greeting-changes-nothing known number apdu)
+
+serve-leaves : (known : Known) (number till : ℕ) (header : Header) (request : SaleRequest) → (serve_row known number till header request).core.waits ≡ known.core.waits
+serve-leaves known number till header request =
+    each-served (λ (row : Row). row.core.waits ≡ known.core.waits) known number till header request (record {
+      none = refl;
+      begins = λ terminal last asking at. refl;
+      sent = λ terminal talk at may. refl;
+      wished = λ terminal talk at may. refl;
+      session = λ success. refl;
+      settles = λ terminal at. refl;
+      day = λ terminal last at. refl;
+      displays = λ terminal last outputs command at. refl;
+    })
+
+lost-leaves : (known : Known) (number : ℕ) → (of_terminal known (unlinks known number) (terminal_at known number)).core.waits ≡ known.core.waits
+lost-leaves known number = each-terminal (λ (row : Row). row.core.waits ≡ known.core.waits) known number (unlinks known number) refl (λ terminal found. refl)
+
+pub link-leaves-waits : EachLinkLeavesWaits
+link-leaves-waits known number LinkIsMade = each-terminal (λ (row : Row). row.core.waits ≡ known.core.waits) known number (registers known number) refl (λ terminal found. refl)
+link-leaves-waits known number LinkHasFailed = lost-leaves known number
+link-leaves-waits known number LinkIsLost = lost-leaves known number
+
+pub row-leaves-waits : EachRowLeavesWaits
+row-leaves-waits known (Crowded till) other = refl
+row-leaves-waits known (Message till bytes) other = refl
+row-leaves-waits known (Asked till as_read) other = refl
+row-leaves-waits known (Unframed till) other = refl
+row-leaves-waits known (Gone till) other = refl
+row-leaves-waits known (Greet number apdu) other = greet-leaves known number apdu
+row-leaves-waits known (Handle number apdu) other = handle-leaves known number apdu
+row-leaves-waits known (Serve number till header request) other = serve-leaves known number till header request
+row-leaves-waits known (Queue number till header request) other = refl
+row-leaves-waits known (NextWaiting number) other = absurd cc
+row-leaves-waits known (Oversized number) other = ap (λ (core : Core). core.waits) (oversized-same known number)
+row-leaves-waits known (LinkLost number) other = lost-leaves known number
+row-leaves-waits known (Late number) other = ap (λ (core : Core). core.waits) (late-same known number)
+row-leaves-waits known (Overdue key) other = refl
+row-leaves-waits known (Due number) other = ap (λ (core : Core). core.waits) (due-same known number)
 
 -- ---- terminals that aren't linked
 
@@ -282,6 +355,16 @@ serve-no-cut known number till header request =
       displays = λ terminal last outputs command at. refl;
     })
 
+next-no-cut : (known : Known) (number : ℕ) → owes_cut (next_waiting_row known number).calls ≡ false
+next-no-cut known number =
+    each-next (λ (row : Row). owes_cut row.calls ≡ false) known number (record {
+      none = refl;
+      refused = λ terminal last wait condition first is. refl;
+      begins = λ terminal last wait asking at. refl;
+      day = λ terminal last wait at. refl;
+      left = λ terminal last wait first. refl;
+    })
+
 pub cuts-have-cause : EachCutHasCause
 cuts-have-cause known (Crowded till) cuts = absurd cc
 cuts-have-cause known (Message till bytes) cuts = absurd cc
@@ -291,7 +374,8 @@ cuts-have-cause known (Gone till) cuts = absurd cc
 cuts-have-cause known (Greet number apdu) cuts = greet-cuts known number apdu cuts
 cuts-have-cause known (Handle number apdu) cuts = handle-cuts known number apdu cuts
 cuts-have-cause known (Serve number till header request) cuts = never _ (serve-no-cut known number till header request) cuts
-cuts-have-cause known (NextWaiting number) cuts = absurd cc
+cuts-have-cause known (Queue number till header request) cuts = absurd cc
+cuts-have-cause known (NextWaiting number) cuts = never _ (next-no-cut known number) cuts
 cuts-have-cause known (Oversized number) cuts = tt
 cuts-have-cause known (LinkLost number) cuts = never _ (lost-no-cut known number) cuts
 cuts-have-cause known (Late number) cuts = late-cuts known number cuts
@@ -314,6 +398,7 @@ causes-cut known (Handle pt apdu) number is there cause =
     let e : pt ≡ number = cc in
     subst (λ n. (handle_row known n apdu).calls ≡ CutPt number ∷ []) (sym e) (breaks-cut known number apdu there (subst (λ n. BreaksDialogue known n apdu) e cause))
 causes-cut known (Serve pt till header request) number is there cause = absurd cause
+causes-cut known (Queue pt till header request) number is there cause = absurd cause
 causes-cut known (NextWaiting pt) number is there cause = absurd cause
 causes-cut known (Oversized pt) number is there cause =
     let e : pt ≡ number = cc in

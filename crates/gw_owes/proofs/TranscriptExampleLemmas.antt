@@ -6,7 +6,7 @@ use Rattle.gw_base.specs.Transaction.{transaction_text}
 use Rattle.zvt_bmp.specs.Decode.{decode_field_value, decode_status_field, decode_status_within, decode_status}
 use Rattle.zvt_msg.specs.MessageDecode.{decode_pt_message}
 use Rattle.gw_ledger.specs.History.{history}
-use Rattle.gw_owes.specs.TranscriptExample.{ExampleReadyTranscript, ExamplePaymentTranscript, ExampleReversalTranscript, ExampleStopTranscript, ExampleDayTranscript, ExampleTranscript}
+use Rattle.gw_owes.specs.TranscriptExample.{ExampleReadyTranscript, ExamplePaymentTranscript, ExampleWaitingTranscript, ExampleReversalTranscript, ExampleStopTranscript, ExampleDayTranscript, ExampleTranscript}
 
 ready-transcript : ExampleReadyTranscript
 unfolding decode_pt_message history
@@ -36,6 +36,13 @@ payment-transcript = record {
   refused = record { transcript_is = refl; carried_is = refl; standing_is = refl; follows = record { terminal = _; found = refl; talk_is = refl; awaited_is = refl; standing_is = refl } };
   aside = record { transcript_is = refl; carried_is = refl; standing_is = refl; follows = record { terminal = _; found = refl; talk_is = refl; awaited_is = refl; standing_is = refl } };
   unclear = record { transcript_is = refl; carried_is = refl; standing_is = refl; follows = record { terminal = _; found = refl; talk_is = refl; awaited_is = refl; standing_is = refl } };
+}
+
+waiting-transcript : ExampleWaitingTranscript
+unfolding decode_pt_message decode_status decode_status_within decode_status_field decode_field_value history
+waiting-transcript = record {
+  begun = record { transcript_is = refl; carried_is = refl; standing_is = refl; follows = record { terminal = _; found = refl; talk_is = refl; awaited_is = refl; standing_is = refl } };
+  none_left = refl;
 }
 
 reversal-transcript : ExampleReversalTranscript
@@ -73,4 +80,4 @@ day-transcript = record {
 }
 
 pub example-transcript : ExampleTranscript
-example-transcript = record { ready = ready-transcript; payments = payment-transcript; reversal = reversal-transcript; stop = stop-transcript; days = day-transcript }
+example-transcript = record { ready = ready-transcript; payments = payment-transcript; waiting = waiting-transcript; reversal = reversal-transcript; stop = stop-transcript; days = day-transcript }

@@ -45,8 +45,8 @@ use Rattle.gw_owes.specs.declared.terminal.Service.TheVariants as services
 use Rattle.gw_owes.specs.declared.terminal.Standing.{Standing}
 use Rattle.gw_owes.specs.declared.terminal.Standing.TheVariants.{Unlinked, Registering, Enquiring, Ready, Serving, Aside}
 use Rattle.gw_owes.specs.declared.terminal.Terminal.{Terminal}
-use Rattle.gw_owes.specs.Core.{Core, new_terminal}
-use Rattle.gw_owes.specs.Items.{RoundItem, Crowded, Message, Asked, Unframed, Gone, Greet, Handle, Serve, NextWaiting, Oversized, LinkLost, Late, Overdue, Due}
+use Rattle.gw_owes.specs.Core.{Wait, Core, new_terminal}
+use Rattle.gw_owes.specs.Items.{RoundItem, Crowded, Message, Asked, Unframed, Gone, Greet, Handle, Serve, Queue, NextWaiting, Oversized, LinkLost, Late, Overdue, Due}
 use Rattle.gw_owes.specs.Row.{Known, Row, owing, owing_nothing, owing_where}
 use Rattle.gw_owes.specs.Calls.{LinkPt}
 use Rattle.gw_owes.specs.Terminals.{terminal_at, of_terminal, with_terminal, talk_of_command, registers, unlinks, unlinked_terminal, link_lost, link_made, reply_calls_to, reply_to_lost, terminal_becomes}
@@ -63,9 +63,11 @@ use Rattle.gw_owes.specs.Greeting.{greeting, sending_calls, greet_decoded, greet
 use Rattle.gw_owes.specs.Deadlines.{is_late, late_row, is_due, due_row}
 use Rattle.gw_owes.specs.TerminalLaws.{owes_cut, ChangesTerminalAlone}
 use Rattle.gw_owes.specs.TerminalRows.{terminal_of, terminal_row}
-use Rattle.gw_owes.specs.Transcript.{Carried, Commanded, Took, Wished, TerminalStep, StepAt, HandlesItem, ChangesLink, awaited_by, dialogue_by, came_by, talk_by, standing_taken, some_transaction, some_day, some_display, standing_asked, standing_commanded, standing_by, as_carried, FollowsTranscript, commanded_by, took_decoded, took_of, wished_of, wished_for, took_by, transcript_after, transcript_anew, core_with_cut, core_after, is_number, transcript_with_cut, transcript_after_step, known_before, known_after, core_along, transcript_along, known_new, NewCoreFollowsTranscript, EachRowFollowsTranscript, EachLinkBeginsTranscript, EachStepFollowsTranscript}
+use Rattle.gw_owes.specs.Transcript.{Carried, Commanded, Took, Wished, TerminalStep, StepAt, HandlesItem, ChangesLink, ChangesWaits, awaited_by, dialogue_by, came_by, talk_by, standing_taken, some_transaction, some_day, some_display, standing_asked, standing_commanded, standing_by, as_carried, FollowsTranscript, commanded_by, took_decoded, took_of, wished_of, wished_for, took_by, transcript_after, transcript_anew, core_with_cut, core_after, is_number, transcript_with_cut, transcript_after_step, known_before, known_after, core_along, transcript_along, known_new, NewCoreFollowsTranscript, EachRowFollowsTranscript, EachLinkBeginsTranscript, EachStepFollowsTranscript}
+use Rattle.gw_owes.specs.WaitingRows.{next_waiting_row}
 use Rattle.gw_owes.proofs.DialogueLemmas.{shown-lines}
 use Rattle.gw_owes.proofs.HandlingLemmas.{by-where, each-terminal, each-linked, taken-cases}
+use Rattle.gw_owes.proofs.NextLemmas.{each-next, known_without}
 use Rattle.gw_owes.proofs.PaymentLemmas.{session-served, day_row, each-reconciled, shown_row, each-shown}
 use Rattle.gw_owes.proofs.SetLemmas.{new-is-there, same-some}
 use Rattle.gw_owes.proofs.StandingLemmas.{DialogueLaws, talk-is, GoesOn, talk-goes, ended-rests, rests-more, standing-took, rests-unended, runs-ends, wished-talk, StandsIn, stands-in}
@@ -588,6 +590,28 @@ serve-follows laws known number till header (requests.Display outputs) transcrip
 serve-follows laws known number till header (requests.Print qualifier) transcript has = λ no_cut. has
 serve-follows laws known number till header requests.Diagnosis transcript has = λ no_cut. has
 
+-- ---- a request that has waited
+
+-- another list of what waits changes no terminal
+waits-follow : (number : ℕ) (transcript : List Carried) (core : Core) (waits : List Wait) → FollowsTranscript number transcript core → FollowsTranscript number transcript (record core { waits = waits })
+waits-follow number transcript core waits has = record { terminal = has.terminal; found = has.found; talk_is = has.talk_is; awaited_is = has.awaited_is; standing_is = has.standing_is }
+
+next-follows : (known : Known) (number : ℕ) (transcript : List Carried) → FollowsTranscript number transcript known.core → Follows known number transcript (next_waiting_row known number)
+next-follows known number transcript has =
+    each-next (Follows known number transcript) known number (record {
+      none = λ no_cut. has;
+      refused = λ terminal last wait condition first is no_cut. without wait;
+      begins = λ terminal last wait asking at. asking-follows (known_without known wait) number wait.till transcript terminal last (Some asking) (carried wait terminal at.first.found) (without wait) at.first.standing_is;
+      day = λ terminal last wait at. day-asked (known_without known wait) number wait.till wait.header transcript terminal last (carried wait terminal at.first.found) at.first.standing_is;
+      left = λ terminal last wait first no_cut. without wait;
+    })
+  where
+    without : (wait : Wait) → FollowsTranscript number transcript (known_without known wait).core
+    without wait = waits-follow number transcript known.core _ has
+
+    carried : (wait : Wait) (terminal : Terminal) → terminal_at known number ≡ Some terminal → IsAsCarried (known_without known wait) number transcript terminal
+    carried wait terminal found = carried-there (known_without known wait) number transcript terminal (without wait) found
+
 -- ---- rows that send no command
 
 -- nothing is changed, and no command is sent
@@ -666,7 +690,11 @@ rows-follow laws known (Serve pt till header request) number transcript is has n
     let e : pt ≡ number = cc in
     subst (λ (n : ℕ). FollowsTranscript n transcript known.core → FollowsTranscript n (commanded_by known.moment (serve_row known pt till header request).calls ++ (wished_for known pt header request ++ transcript)) (serve_row known pt till header request).core) e
     (λ there. serve-follows laws known pt till header request transcript there no_cut) has
-rows-follow laws known (NextWaiting pt) number transcript is has no_cut = has
+rows-follow laws known (Queue pt till header request) number transcript is has no_cut = absurd cc
+rows-follow laws known (NextWaiting pt) number transcript is has no_cut =
+    let e : pt ≡ number = cc in
+    subst (λ (n : ℕ). FollowsTranscript n transcript known.core → FollowsTranscript n (commanded_by known.moment (next_waiting_row known pt).calls ++ ([] ++ transcript)) (next_waiting_row known pt).core) e
+    (λ there. next-follows known pt transcript there no_cut) has
 rows-follow laws known (Oversized pt) number transcript is has no_cut =
     quiet-follows known number transcript (oversized_row known pt)
     (each-linked (IsQuiet known) known pt (λ terminal. cutting known pt) (record { core_is = refl; none = refl }) (λ terminal found linked. record { core_is = refl; none = refl })) has
@@ -721,6 +749,7 @@ none-same known (Gone till) is = refl
 none-same known (Greet pt apdu) is = absurd cc
 none-same known (Handle pt apdu) is = absurd cc
 none-same known (Serve pt till header request) is = absurd cc
+none-same known (Queue pt till header request) is = refl
 none-same known (NextWaiting pt) is = absurd cc
 none-same known (Oversized pt) is = absurd cc
 none-same known (LinkLost pt) is = absurd cc
@@ -783,6 +812,7 @@ pub step-follows : (laws : DialogueLaws) (known : Known) (step : TerminalStep) (
     → FollowsTranscript number (transcript_after_step number known step transcript) (core_after known step)
 step-follows laws known (HandlesItem item) number transcript has = item-follows laws known item number transcript has
 step-follows laws known (ChangesLink other event) number transcript has = link-follows known other event number transcript has
+step-follows laws known (ChangesWaits waits) number transcript has = waits-follow number transcript known.core waits has
 
 along-follows : (laws : DialogueLaws) (known : Known) (steps : List StepAt) (number : ℕ) (transcript : List Carried) → FollowsTranscript number transcript known.core
     → FollowsTranscript number (transcript_along number known transcript steps) (core_along known steps)

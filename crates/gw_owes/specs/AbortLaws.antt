@@ -30,11 +30,12 @@ use Rattle.gw_owes.specs.declared.terminal.Standing.TheVariants.{Ready, Serving}
 use Rattle.gw_owes.specs.declared.terminal.Terminal.{Terminal}
 use Rattle.gw_owes.specs.Awaited.{one_more_awaited, one_less_awaited}
 use Rattle.gw_owes.specs.Calls.{Sending, Ask, Acknowledge, Refuse, OwedCall, SendTill, SendPt, CutTill, CutPt, LinkPt, WriteBody, WriteGate, WriteFirstGate, Sync, records_kept}
-use Rattle.gw_owes.specs.Days.{is_day_served}
+use Rattle.gw_owes.specs.Waits.{is_pending, waiting_with}
 use Rattle.gw_owes.specs.Diagnosis.{NamedTerminal, named_terminal}
 use Rattle.gw_owes.specs.Dialogues.{HasItsDialogue}
 use Rattle.gw_owes.specs.Handling.{handle_row}
-use Rattle.gw_owes.specs.Items.{RoundItem, Asked, Serve}
+use Rattle.gw_owes.specs.Core.{Wait}
+use Rattle.gw_owes.specs.Items.{RoundItem, Asked, Serve, Queue}
 use Rattle.gw_owes.specs.KeptReplies.{is_open_key}
 use Rattle.gw_owes.specs.PaymentLaws.{MeansAt, MeansServed, outcome_calls, sends_till}
 use Rattle.gw_owes.specs.ReadAs.{NoMessage, Request}
@@ -52,12 +53,12 @@ use Rattle.gw_owes.specs.Transcript.{Carried, FollowsTranscript, awaited_by}
 
 -- ---- what a till gets
 
--- an Abort of a key that is open, or that of an end of day that is served, gets no reply, and each other a Reject
+-- an Abort of a key that is open, that waits, or that of an end of day that is served, gets no reply of its own, and each other a Reject
 pub record GetsRejectOrNothing (known : Known) (header : Header) (reference : Reference) : Type 0 where
   pub of_open : is_open_key known.kept header reference ≡ true → request_reply known header (requests.Abort reference) ≡ None
-  pub of_day : is_day_served known.core (key_of header reference) ≡ true → request_reply known header (requests.Abort reference) ≡ None
+  pub of_pending : is_pending known.core (key_of header reference) ≡ true → request_reply known header (requests.Abort reference) ≡ None
   pub reject :
-      is_open_key known.kept header reference ≡ false → is_day_served known.core (key_of header reference) ≡ false
+      is_open_key known.kept header reference ≡ false → is_pending known.core (key_of header reference) ≡ false
       → request_reply known header (requests.Abort reference) ≡ Some (Reject header.sale header.poi (pos known.moment) details.Abort)
 
 -- so it is with each
@@ -79,22 +80,33 @@ EachMalformedAbortGetsReject = (known : Known) (header : Header) (path : List �
 abbrev pub IsToStop : ℕ → ℕ → Header → Reference → Row → Type 0
 IsToStop number till header reference row = (row.items ≡ Serve number till header (requests.Abort reference) ∷ []) × (row.calls ≡ [])
 
--- an Abort of a till that is there, of a key that the terminal which the key's POIID names serves, is a stop at that terminal
+-- an Abort of a till that is there, of a key that doesn't wait, and that the terminal which the key's POIID names serves, is a stop at that terminal
 abbrev pub ServedIsToStop : Type 0
 ServedIsToStop =
     (tills : List Connection) (known : Known) (till : ℕ) (header : Header) (reference : Reference) (named : NamedTerminal) → is_connected tills till ≡ true
-    → named_terminal known.core (key_of header reference).poi ≡ Some named → serves_key known.kept (key_of header reference) named.terminal ≡ true
+    → waiting_with (key_of header reference) known.core.waits ≡ None → named_terminal known.core (key_of header reference).poi ≡ Some named → serves_key known.kept (key_of header reference) named.terminal ≡ true
     → IsToStop named.number till header reference (row_of tills known (Asked till (Request header (requests.Abort reference))))
+
+-- what waits is to be taken out
+abbrev pub IsToBeTakenOut : ℕ → ℕ → Header → Reference → Row → Type 0
+IsToBeTakenOut number till header reference row = (row.items ≡ Queue number till header (requests.Abort reference) ∷ []) × (row.calls ≡ [])
+
+-- an Abort of a till that is there, of a key that waits, takes out what waits, whatever a terminal serves
+abbrev pub WaitingIsToBeTakenOut : Type 0
+WaitingIsToBeTakenOut =
+    (tills : List Connection) (known : Known) (till : ℕ) (header : Header) (reference : Reference) (wait : Wait) → is_connected tills till ≡ true
+    → waiting_with (key_of header reference) known.core.waits ≡ Some wait
+    → IsToBeTakenOut wait.pt till header reference (row_of tills known (Asked till (Request header (requests.Abort reference))))
 
 -- the terminal that the key's POIID names, where there is one, doesn't serve it
 abbrev pub IsUnserved : Known → Header → Reference → Type 0
 IsUnserved known header reference =
     (named : NamedTerminal) → named_terminal known.core (key_of header reference).poi ≡ Some named → serves_key known.kept (key_of header reference) named.terminal ≡ false
 
--- one of a key that no terminal serves begins nothing
+-- one of a key that doesn't wait, and that no terminal serves, begins nothing
 abbrev pub UnservedStopsNothing : Type 0
 UnservedStopsNothing =
-    (tills : List Connection) (known : Known) (till : ℕ) (header : Header) (reference : Reference) → IsUnserved known header reference
+    (tills : List Connection) (known : Known) (till : ℕ) (header : Header) (reference : Reference) → waiting_with (key_of header reference) known.core.waits ≡ None → IsUnserved known header reference
     → (row_of tills known (Asked till (Request header (requests.Abort reference)))).items ≡ []
 
 -- ---- what may be stopped

@@ -8,9 +8,9 @@ use Rattle.gw_owes.specs.declared.terminal.Service.{Service}
 use Rattle.gw_owes.specs.declared.terminal.Standing.TheVariants.{Unlinked, Ready, Serving}
 use Rattle.gw_owes.specs.declared.terminal.Terminal.{Terminal}
 use Rattle.gw_owes.specs.Calls.{OwedCall, SendTill, SendPt, CutTill, CutPt, LinkPt, WriteBody, WriteGate, WriteFirstGate, Sync}
-use Rattle.gw_owes.specs.Core.{Core}
+use Rattle.gw_owes.specs.Core.{Wait, Core}
 use Rattle.gw_owes.specs.DeviceExample.{status_0A}
-use Rattle.gw_owes.specs.Items.{RoundItem, Crowded, Message, Asked, Unframed, Gone, Greet, Handle, Serve, NextWaiting, Oversized, LinkLost, Late, Overdue, Due}
+use Rattle.gw_owes.specs.Items.{RoundItem, Crowded, Message, Asked, Unframed, Gone, Greet, Handle, Serve, Queue, NextWaiting, Oversized, LinkLost, Late, Overdue, Due}
 use Rattle.gw_owes.specs.Links.{LinkEvent, LinkIsLost, link_row}
 use Rattle.gw_owes.specs.PaymentExample.{Since, since_item, since_linked, since_payment, since_ready, since_sent}
 use Rattle.gw_owes.specs.Row.{Known}
@@ -19,6 +19,7 @@ use Rattle.gw_owes.specs.TerminalExample.{abort, ack}
 use Rattle.gw_owes.specs.TerminalLaws.{HasNoTrace}
 use Rattle.gw_owes.specs.TerminalRows.{terminal_of}
 use Rattle.gw_owes.specs.Terminals.{terminal_at, core_without}
+use Rattle.gw_owes.specs.Waits.{queue_of, first_waiting}
 
 -- ---- whose it is
 
@@ -42,16 +43,31 @@ pub record NeedsNoTill (core : Core) (number : ℕ) (new : Terminal) : Type 0 wh
   pub none : new.asker ≡ None
   pub over : IsOver old new
 
--- it was ready, and begins to serve what this till asks, whose request the item is
+-- the item is that the terminal begins to serve a request of this till
+pub record ServesRequestOf (item : RoundItem) (number till : ℕ) : Type 0 where
+  pub header : Header
+  pub request : SaleRequest
+  pub item_is : item ≡ Serve number till header request
+
+-- the item is that the first request is begun or refused that waits for the terminal, which is this till's
+pub record TakesFirstOf (core : Core) (item : RoundItem) (number till : ℕ) : Type 0 where
+  pub wait : Wait
+  pub item_is : item ≡ NextWaiting number
+  pub first_is : first_waiting (queue_of number core.waits) ≡ Some wait
+  pub till_is : wait.till ≡ till
+
+-- so the item is about a request of this till, which comes now or has waited
+abbrev pub IsAboutRequestOf : Core → RoundItem → ℕ → ℕ → Type 0
+IsAboutRequestOf core item number till = ServesRequestOf item number till ⊎ TakesFirstOf core item number till
+
+-- it was ready, and begins to serve what this till asks, whose request the item is about
 pub record BeginsFor (core : Core) (item : RoundItem) (number : ℕ) (new : Terminal) : Type 0 where
   pub old : Terminal
   pub last : ℕ
   pub found : slice_get core.terminals number ≡ Some old
   pub ready : old.standing ≡ Ready last
   pub till : ℕ
-  pub header : Header
-  pub request : SaleRequest
-  pub item_is : item ≡ Serve number till header request
+  pub asked : IsAboutRequestOf core item number till
   pub for_till : new.asker ≡ Some till
 
 -- the item says that a till is gone
@@ -64,6 +80,7 @@ is_till_gone (Gone till) = true
 is_till_gone (Greet number apdu) = false
 is_till_gone (Handle number apdu) = false
 is_till_gone (Serve number till header request) = false
+is_till_gone (Queue number till header request) = false
 is_till_gone (NextWaiting number) = false
 is_till_gone (Oversized number) = false
 is_till_gone (LinkLost number) = false
@@ -132,19 +149,17 @@ pub record SendsItsTill (known : Known) (number : ℕ) (calls : List OwedCall) :
   pub asker_is : terminal.asker ≡ Some till
   pub sent : tills_sent calls ≡ till ∷ []
 
--- or the one whose request the item is
-pub record SendsAsking (item : RoundItem) (number : ℕ) (calls : List OwedCall) : Type 0 where
+-- or the one whose request the item is about
+pub record SendsAsking (core : Core) (item : RoundItem) (number : ℕ) (calls : List OwedCall) : Type 0 where
   pub till : ℕ
-  pub header : Header
-  pub request : SaleRequest
-  pub item_is : item ≡ Serve number till header request
+  pub asked : IsAboutRequestOf core item number till
   pub sent : tills_sent calls ≡ till ∷ []
 
 -- what an item of a terminal owes any till goes to one of these two
 abbrev pub EachSendIsToIts : Type 0
 EachSendIsToIts =
     (tills : List Connection) (known : Known) (item : RoundItem) (number : ℕ) → terminal_of item ≡ Some number
-    → (tills_sent (row_of tills known item).calls ≡ []) ⊎ (SendsItsTill known number (row_of tills known item).calls ⊎ SendsAsking item number (row_of tills known item).calls)
+    → (tills_sent (row_of tills known item).calls ≡ []) ⊎ (SendsItsTill known number (row_of tills known item).calls ⊎ SendsAsking known.core item number (row_of tills known item).calls)
 
 -- and what an event of its link owes goes to the terminal's till
 abbrev pub EachLinkSendsIts : Type 0

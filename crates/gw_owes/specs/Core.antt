@@ -1,18 +1,22 @@
 -- What the gateway remembers of a run, beside its records.
-use Rattle.std.specs.Prelude.{ℕ, List, [], None, map}
+use Rattle.std.specs.Prelude.{ℕ, ℤ, List, [], None, map}
 use Rattle.gw_base.specs.declared.key.Key.{Key}
 use Rattle.gw_base.specs.declared.setup.Pt.{Pt}
 use Rattle.gw_base.specs.declared.setup.Setup.{Setup}
+use Rattle.sale_values.specs.declared.header.Header.{Header}
+use Rattle.sale_values.specs.declared.request.SaleRequest.{SaleRequest}
 use Rattle.gw_owes.specs.declared.terminal.LoggedOut.{LoggedOut}
 use Rattle.gw_owes.specs.declared.terminal.Standing.TheVariants.{Unlinked}
 use Rattle.gw_owes.specs.declared.terminal.Terminal.{Terminal}
 
--- a request that waits for a terminal, by the terminal's number, with its till and its deadline
+-- a request of a till that waits for the terminal of this number, with its key and the moment from which on its till gets a Failure
 pub record Wait : Type 0 where
   pub key : Key
   pub pt : ℕ
   pub till : ℕ
-  pub deadline : ℕ
+  pub deadline : ℤ
+  pub header : Header
+  pub request : SaleRequest
 
 -- what is remembered: nothing of it outlasts the run
 pub record Core : Type 0 where

@@ -36,7 +36,8 @@ use Rattle.gw_owes.specs.declared.terminal.Service.TheVariants.{EndOfDay}
 use Rattle.gw_owes.specs.declared.terminal.Standing.TheVariants.{Unlinked, Ready, Serving}
 use Rattle.gw_owes.specs.declared.terminal.Terminal.{Terminal}
 use Rattle.gw_owes.specs.Calls.{OwedCall, Ask, SendPt, CutPt, keep_calls, records_kept}
-use Rattle.gw_owes.specs.Days.{asks_day, is_day_key}
+use Rattle.gw_owes.specs.Days.{asks_day}
+use Rattle.gw_owes.specs.Waits.{is_pending_key, waiting_with}
 use Rattle.gw_owes.specs.Diagnosis.{NamedTerminal, named_terminal}
 use Rattle.gw_owes.specs.Handling.{handle_row}
 use Rattle.gw_owes.specs.Items.{RoundItem, Asked, Handle, Serve}
@@ -79,12 +80,12 @@ calls_of_settled kept asker settled = keep_calls (length kept) (Settled settled)
 
 -- ---- which begins
 
--- a Reconciliation passes its steps up to those about its terminal's standing: its key isn't on record, and isn't that of the end of day that the terminal serves, the till isn't logged out there, and there is room: two free slots, and one more for each key that is open and each end of day that is served
+-- a Reconciliation passes its steps up to those about its terminal's standing: its key isn't on record, doesn't wait, and isn't that of the end of day that the terminal serves, the till isn't logged out there, and there is room: two free slots, and one more for each key that is open and each end of day that is served, and two for each request that waits
 pub record PassesUpToStanding (known : Known) (header : Header) (named : NamedTerminal) : Type 0 where
   pub unknown : found_for known.kept header ≡ None
-  pub no_day : is_day_key header (Some named) ≡ false
+  pub not_pending : is_pending_key known.core header (Some named) ≡ false
   pub logged_in : is_logged_out known.core header.sale header.poi ≡ false
-  pub room : lacks_room known.setup.slots known.kept known.core.terminals ≡ false
+  pub room : lacks_room known.setup.slots known.kept known.core ≡ false
 
 -- a till's own begins in every standing of its terminal, and an end of day at one that is ready
 pub record ReconciliationBegins (known : Known) (till : ℕ) (header : Header) (named : NamedTerminal) (row_for : Period → Row) : Type 0 where
@@ -100,7 +101,7 @@ EachReconciliationBegins =
 -- the two other types aren't served
 abbrev pub OtherPeriodIsUnserved : Type 0
 OtherPeriodIsUnserved =
-    (known : Known) (header : Header) (period : Period) (named : NamedTerminal) → named_terminal known.core header.poi ≡ Some named → found_for known.kept header ≡ None → is_day_key header (Some named) ≡ false
+    (known : Known) (header : Header) (period : Period) (named : NamedTerminal) → named_terminal known.core header.poi ≡ Some named → found_for known.kept header ≡ None → is_pending_key known.core header (Some named) ≡ false
     → is_logged_out known.core header.sale header.poi ≡ false → is_unserved_period period ≡ true
     → request_reply known header (requests.Reconciliation period) ≡ Some (failure_reply header UnavailableService)
 
@@ -169,7 +170,7 @@ LostKeepsNothing =
 
 -- ---- its key again
 
--- the terminal that a key names serves the end of day of this key, which is not on record
+-- the terminal that a key names serves the end of day of this key, which is not on record and doesn't wait
 pub record ServesDayOf (known : Known) (key : Key) : Type 0 where
   pub named : NamedTerminal
   pub named_is : named_terminal known.core key.poi ≡ Some named
@@ -179,6 +180,7 @@ pub record ServesDayOf (known : Known) (key : Key) : Type 0 where
   pub standing_is : named.terminal.standing ≡ Serving (EndOfDay header period) last
   pub key_is : own_key header ≡ Some key
   pub unknown : found_of known.kept key ≡ None
+  pub no_wait : waiting_with key known.core.waits ≡ None
 
 -- While it is served, the same request is in progress, and one on its key that asks for anything else isn't allowed; a TransactionStatus that names the key says that it is in progress, and an Abort that names it gets no reply.
 pub record IsRepliedWhileServed (known : Known) (key : Key) : Type 0 where
@@ -208,11 +210,11 @@ NextHasNoTotals =
     ≡ Finished (record { class = classes.Service; category = codes "Reconciliation"; kind = kinds.Response; service = Some next.service; device = None; sale = next.sale; poi = next.poi })
     (Reconciled (period_of next.how) next.currency (0, 0) (0, 0))
 
--- a payment whose Outcome comes before a Settled of its POIID can't be reversed any more
+-- a payment whose Outcome comes before a Settled of its POIID can't be reversed any more, on a key that doesn't wait
 abbrev pub SettledIsNotReversed : Type 0
 SettledIsNotReversed =
     (known : Known) (header : Header) (reversal : ReversalAsk) (named : NamedTerminal) (original : TheEntry) (ended : ℕ) → named_terminal known.core header.poi ≡ Some named → found_for known.kept header ≡ None
-    → is_logged_out known.core header.sale header.poi ≡ false → original_of known.kept header.poi reversal ≡ Some original → original.intent.what ≡ deals.Payment
+    → is_pending_key known.core header (Some named) ≡ false → is_logged_out known.core header.sale header.poi ≡ false → original_of known.kept header.poi reversal ≡ Some original → original.intent.what ≡ deals.Payment
     → ended_at known.kept original.slot ≡ Some ended → IsSettledAfter known.kept original.intent.poi ended
     → request_reply known header (requests.Reversal reversal) ≡ Some (failure_reply header NotAllowed)
 

@@ -30,7 +30,7 @@ use Rattle.gw_owes.specs.Rows.{row_of}
 use Rattle.gw_owes.specs.TerminalLaws.{GoesOnTo}
 use Rattle.gw_owes.specs.TerminalRows.{terminal_row}
 use Rattle.gw_owes.specs.Terminals.{core_without}
-use Rattle.gw_owes.specs.Transcript.{TerminalStep, HandlesItem, ChangesLink, StepAt, core_along, known_after, known_before, known_new}
+use Rattle.gw_owes.specs.Transcript.{TerminalStep, HandlesItem, ChangesLink, ChangesWaits, StepAt, core_along, known_after, known_before, known_new}
 
 -- ---- what is owed
 
@@ -145,6 +145,7 @@ EachTillGoneLeavesNumber = (core : Core) (till : ℕ) → (core_without core til
 abbrev pub requests_in_step : Known → TerminalStep → Bool
 requests_in_step known (HandlesItem item) = owes_device_request (terminal_row known item).calls
 requests_in_step known (ChangesLink number event) = false
+requests_in_step known (ChangesWaits waits) = false
 
 -- how many are owed in these steps
 abbrev pub requests_along : Known → List StepAt → ℕ

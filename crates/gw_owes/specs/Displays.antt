@@ -22,7 +22,7 @@ use Rattle.gw_owes.specs.Replies.{failure, success, refused_results, display_rep
 use Rattle.gw_owes.specs.Reply.{ReplyValue}
 use Rattle.gw_owes.specs.Row.{Known, Row, owing_nothing, owing_where}
 use Rattle.gw_owes.specs.Serving.{staying, breaking, was_stopped, done_with}
-use Rattle.gw_owes.specs.Steps.{StepResult, KeptReply, Fails, Begins, RequestStep, first_result, is_beginning, is_unavailable, is_ready, items_of_result}
+use Rattle.gw_owes.specs.Steps.{StepResult, KeptReply, Fails, Begins, Waits, RequestStep, first_result, is_beginning, is_unavailable, is_ready, items_of_result}
 use Rattle.gw_owes.specs.Terminals.{terminal_becomes, after_command, reply_calls_to}
 
 -- ---- the steps
@@ -45,6 +45,7 @@ abbrev pub reply_of_display : Header → List Output → StepResult → Option R
 reply_of_display header outputs KeptReply = None
 reply_of_display header outputs (Fails condition) = display_refusal condition header outputs
 reply_of_display header outputs Begins = None
+reply_of_display header outputs Waits = None
 
 -- the reply to a Display that doesn't begin
 abbrev pub display_reply_at : Header → List Output → Option NamedTerminal → Option ReplyValue

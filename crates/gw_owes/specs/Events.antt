@@ -1,5 +1,5 @@
 -- The items of a round: what its event brings, and then what may be due.
-use Rattle.std.specs.Prelude.{ℕ, ◌+◌, Bool, true, false, nat_le, nat_lt, ◌&&◌, not, if◌then◌else◌, List, [], ◌∷◌, ◌++◌, length, map, fold}
+use Rattle.std.specs.Prelude.{ℕ, ◌+◌, Bool, true, false, int_lt, nat_le, nat_lt, ◌&&◌, not, if◌then◌else◌, List, [], ◌∷◌, ◌++◌, length, map, fold}
 use Rattle.std.specs.List.{flat_map}
 use Rattle.gw_site.specs.Outside.{Connection}
 use Rattle.sale_frame.specs.Decode.{DecodedFrames, spelled_length, decode_after, decode_frames}
@@ -59,7 +59,7 @@ for_each_terminal number item (terminal ∷ terminals) = item number ∷ for_eac
 -- a request among those that wait: after all whose deadline isn't later
 abbrev pub among_waits : List Wait → Wait → List Wait
 among_waits [] wait = wait ∷ []
-among_waits (other ∷ others) wait = if nat_lt wait.deadline other.deadline then wait ∷ other ∷ others else other ∷ among_waits others wait
+among_waits (other ∷ others) wait = if int_lt wait.deadline other.deadline then wait ∷ other ∷ others else other ∷ among_waits others wait
 
 -- the waiting requests by their deadline, and then by their acceptance
 abbrev pub waits_by_deadline : List Wait → List Wait

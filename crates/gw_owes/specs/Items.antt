@@ -24,6 +24,8 @@ pub data RoundItem : Type 0 where
   Handle : ℕ → ApduValue → RoundItem
   -- a terminal begins to serve a request of a till, or is to stop what it serves
   Serve : ℕ → ℕ → Header → SaleRequest → RoundItem
+  -- a request of a till joins those that wait for a terminal, or one of them is taken out by a till's Abort
+  Queue : ℕ → ℕ → Header → SaleRequest → RoundItem
   -- the first request that waits for a terminal is begun or refused
   NextWaiting : ℕ → RoundItem
   -- bytes of a terminal that begin an APDU above the limit

@@ -61,3 +61,8 @@ pub mod TerminalRows
 pub mod Terminals
 pub mod Transcript
 pub mod TranscriptExample
+pub mod WaitingCauses
+pub mod WaitingExample
+pub mod WaitingLaws
+pub mod WaitingRows
+pub mod Waits

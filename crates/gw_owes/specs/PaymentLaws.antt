@@ -1,7 +1,7 @@
 -- Laws of payments and reversals: each begins with its Intent kept, each ends with its Outcome kept before its till gets the reply, or has it by a report, and a repeated request asks no terminal.
-use Rattle.std.specs.Prelude.{◌≡◌, ◌≢◌, ◌⊎◌, ◌<◌, ◌≤◌, ℕ, pos, Bool, true, false, ◌||◌, bytes_eq, List, [], ◌∷◌, ◌++◌, length, slice_get, Option, Some, None, Ok}
+use Rattle.std.specs.Prelude.{◌≡◌, ◌≢◌, ◌⊎◌, ◌<◌, ◌≤◌, ℕ, pos, Bool, true, false, ◌||◌, List, [], ◌∷◌, ◌++◌, length, slice_get, Option, Some, None, Ok}
 use Rattle.std.specs.Option.{option_map}
-use Rattle.gw_base.specs.Currency.{currency_letters, currency_number}
+use Rattle.gw_base.specs.Currency.{currency_number}
 use Rattle.gw_base.specs.declared.condition.Condition.TheVariants.{Aborted, NotAllowed}
 use Rattle.gw_base.specs.declared.figures.Figures.{Figures}
 use Rattle.gw_base.specs.declared.key.Key.{Key}
@@ -40,10 +40,12 @@ use Rattle.gw_owes.specs.declared.terminal.Service.TheVariants.{Transaction, End
 use Rattle.gw_owes.specs.declared.terminal.Standing.TheVariants.{Ready, Serving, Aside}
 use Rattle.gw_owes.specs.declared.terminal.Terminal.{Terminal}
 use Rattle.gw_owes.specs.Calls.{Sending, Ask, Acknowledge, Refuse, OwedCall, SendTill, SendPt, CutTill, CutPt, LinkPt, WriteBody, WriteGate, WriteFirstGate, Sync, keep_calls, records_kept}
+use Rattle.gw_owes.specs.Core.{Wait}
 use Rattle.gw_owes.specs.Days.{is_day_key}
+use Rattle.gw_owes.specs.Waits.{first_waiting, is_pending_key, queue_of, waiting_for, waiting_with}
 use Rattle.gw_owes.specs.Diagnosis.{NamedTerminal, named_terminal}
 use Rattle.gw_owes.specs.Handling.{meaning_at, handle_row}
-use Rattle.gw_owes.specs.Items.{RoundItem, Crowded, Message, Asked, Unframed, Gone, Greet, Handle, Serve, NextWaiting, Oversized, LinkLost, Late, Overdue, Due}
+use Rattle.gw_owes.specs.Items.{RoundItem, Crowded, Message, Asked, Unframed, Gone, Greet, Handle, Serve, Queue, NextWaiting, Oversized, LinkLost, Late, Overdue, Due}
 use Rattle.gw_owes.specs.KeptReplies.{own_key, found_for}
 use Rattle.gw_owes.specs.ReadAs.{ReadAs, Request}
 use Rattle.gw_owes.specs.Reconciliations.{settle_calls, settled_of}
@@ -57,7 +59,7 @@ use Rattle.gw_owes.specs.Rows.{row_of}
 use Rattle.gw_owes.specs.Sessions.{is_session}
 use Rattle.gw_owes.specs.Serving.{was_stopped, reply_to_outcome, last_after_decline}
 use Rattle.gw_owes.specs.StepLaws.{has_steps}
-use Rattle.gw_owes.specs.Steps.{Begins, step_result}
+use Rattle.gw_owes.specs.Steps.{Begins, Waits, asks_other_currency, refused_again, step_result}
 use Rattle.gw_owes.specs.Stops.{serves_key}
 use Rattle.gw_owes.specs.TerminalLaws.{GoesOnTo, ReportsAt}
 use Rattle.gw_owes.specs.Terminals.{terminal_at, reply_calls_to}
@@ -133,19 +135,35 @@ pub record SaysWhatIsAsked (moment : ℕ) (header : Header) (payment : PaymentAs
   pub original : intent.original ≡ None
   pub moment_is : intent.moment ≡ pos moment
 
--- An item begins a payment: a till asks it of a terminal that is ready, under a key that is not on record, and in the terminal's currency. The Intent is kept in the next slot; then the terminal is asked, for the same amount, and nothing else is owed.
+-- a till asks this of the terminal of this number now, under a key that is not on record and doesn't wait, and in the terminal's currency, where it names one
+pub record IsAskedNow (known : Known) (item : RoundItem) (number till : ℕ) (header : Header) (request : SaleRequest) (terminal : Terminal) : Type 0 where
+  pub item_is : item ≡ Serve number till header request
+  pub unknown : found_for known.kept header ≡ None
+  pub not_pending : is_pending_key known.core header (Some (record { number = number; terminal = terminal })) ≡ false
+  pub currency : asks_other_currency request (Some (record { number = number; terminal = terminal })) ≡ false
+
+-- it was asked before, and is the first that waits for the terminal; the steps that are asked again don't refuse it
+pub record IsFirstInQueue (known : Known) (item : RoundItem) (number till : ℕ) (header : Header) (request : SaleRequest) (terminal : Terminal) : Type 0 where
+  pub item_is : item ≡ NextWaiting number
+  pub wait : Wait
+  pub first : first_waiting (queue_of number known.core.waits) ≡ Some wait
+  pub till_is : wait.till ≡ till
+  pub header_is : wait.header ≡ header
+  pub request_is : wait.request ≡ request
+  pub passes : refused_again known header request (Some (record { number = number; terminal = terminal })) ≡ None
+
+-- An item begins a payment: a till asks it of a terminal that is ready, or it has waited for it; what waits is in order (`law_waits`). The Intent is kept in the next slot; then the terminal is asked, for the same amount, and nothing else is owed.
 pub record BeginsPayment (known : Known) (item : RoundItem) (calls : List OwedCall) : Type 0 where
   pub number : ℕ
   pub till : ℕ
   pub header : Header
   pub payment : PaymentAsk
-  pub item_is : item ≡ Serve number till header (requests.Payment payment)
   pub terminal : Terminal
+  pub comes :
+      IsAskedNow known item number till header (requests.Payment payment) terminal ⊎ IsFirstInQueue known item number till header (requests.Payment payment) terminal
   pub found : terminal_at known number ≡ Some terminal
   pub last : ℕ
   pub ready : terminal.standing ≡ Ready last
-  pub unknown : found_for known.kept header ≡ None
-  pub currency : bytes_eq payment.currency (currency_letters terminal.pt.currency) ≡ true
   pub intent : TheIntent
   pub says : SaysWhatIsAsked known.moment header payment terminal last intent
   pub calls_are : calls ≡ keep_calls (length known.kept) (Intent intent) ++ SendPt number (Ask (commands.Authorise payment.amount (currency_number terminal.pt.currency))) ∷ []
@@ -171,18 +189,18 @@ pub record IsReversible (kept : List Record) (reversal : ReversalAsk) (original 
   pub not_reversed : is_reversed kept original.slot ≡ false
   pub not_settled : is_settled kept original.slot ≡ false
 
--- An item begins a reversal: a till asks it of a terminal that is ready, under a key that is not on record, and its text names an entry of the terminal that may be reversed. The Intent is kept in the next slot; then the terminal is asked to reverse the original by its receipt number, and nothing else is owed.
+-- An item begins a reversal: a till asks it of a terminal that is ready, or it has waited for it, and its text names an entry of the terminal that may be reversed. The Intent is kept in the next slot; then the terminal is asked to reverse the original by its receipt number, and nothing else is owed.
 pub record BeginsReversal (known : Known) (item : RoundItem) (calls : List OwedCall) : Type 0 where
   pub number : ℕ
   pub till : ℕ
   pub header : Header
   pub reversal : ReversalAsk
-  pub item_is : item ≡ Serve number till header (requests.Reversal reversal)
   pub terminal : Terminal
+  pub comes :
+      IsAskedNow known item number till header (requests.Reversal reversal) terminal ⊎ IsFirstInQueue known item number till header (requests.Reversal reversal) terminal
   pub found : terminal_at known number ≡ Some terminal
   pub last : ℕ
   pub ready : terminal.standing ≡ Ready last
-  pub unknown : found_for known.kept header ≡ None
   pub original : TheEntry
   pub named : original_of known.kept header.poi reversal ≡ Some original
   pub approval : TheOutcome
@@ -255,6 +273,22 @@ EachBegunIsReversed =
     (tills : List Connection) (known : Known) (till : ℕ) (header : Header) (reversal : ReversalAsk) (number : ℕ) (terminal : Terminal) (last : ℕ) → terminal_at known number ≡ Some terminal → terminal.standing ≡ Ready last
     → step_result known header (requests.Reversal reversal) (Some (record { number = number; terminal = terminal })) ≡ Begins
     → BeginsToReverse known till header reversal number terminal last (row_of tills known (Serve number till header (requests.Reversal reversal)))
+
+-- where a payment is the first that waits for a terminal that is ready, and the steps that are asked again don't refuse it, it is served as one that begins at once
+abbrev pub EachNextIsServed : Type 0
+EachNextIsServed =
+    (tills : List Connection) (known : Known) (wait : Wait) (payment : PaymentAsk) (number : ℕ) (terminal : Terminal) (last : ℕ) → terminal_at known number ≡ Some terminal → terminal.standing ≡ Ready last
+    → first_waiting (queue_of number known.core.waits) ≡ Some wait → wait.request ≡ requests.Payment payment
+    → refused_again known wait.header wait.request (Some (record { number = number; terminal = terminal })) ≡ None
+    → BeginsToServe known wait.till wait.header payment number terminal last (row_of tills known (NextWaiting number))
+
+-- so is a reversal
+abbrev pub EachNextIsReversed : Type 0
+EachNextIsReversed =
+    (tills : List Connection) (known : Known) (wait : Wait) (reversal : ReversalAsk) (number : ℕ) (terminal : Terminal) (last : ℕ) → terminal_at known number ≡ Some terminal → terminal.standing ≡ Ready last
+    → first_waiting (queue_of number known.core.waits) ≡ Some wait → wait.request ≡ requests.Reversal reversal
+    → refused_again known wait.header wait.request (Some (record { number = number; terminal = terminal })) ≡ None
+    → BeginsToReverse known wait.till wait.header reversal number terminal last (row_of tills known (NextWaiting number))
 
 -- ---- a payment or a reversal ends
 
@@ -471,13 +505,13 @@ is_transaction_request (requests.Display outputs) = false
 is_transaction_request (requests.Print qualifier) = false
 is_transaction_request requests.Diagnosis = false
 
--- a Payment or a Reversal on a key that is not on record, but is that of the end of day that its terminal serves, isn't allowed: a key asks for one thing
+-- a Payment or a Reversal on a key that is not on record and doesn't wait, but is that of the end of day that its terminal serves, isn't allowed: a key asks for one thing
 abbrev pub KeyOfDayIsNotAllowed : Type 0
 KeyOfDayIsNotAllowed =
     (known : Known) (header : Header) (request : SaleRequest) (named : NamedTerminal) → is_transaction_request request ≡ true → named_terminal known.core header.poi ≡ Some named → found_for known.kept header ≡ None
-    → is_day_key header (Some named) ≡ true → request_reply known header request ≡ Some (failure_reply header NotAllowed)
+    → waiting_for known.core header ≡ None → is_day_key header (Some named) ≡ true → request_reply known header request ≡ Some (failure_reply header NotAllowed)
 
--- a till's Payment or Reversal, on a key that is not on record and isn't that of the end of day that is served there, begins at the terminal that its POIID names, and there is no reply yet
+-- a till's Payment or Reversal, on a key that is not on record, doesn't wait and isn't that of the end of day that is served there, begins at the terminal that its POIID names, and there is no reply yet
 pub record BeginsAtNamed (known : Known) (till : ℕ) (as_read : ReadAs) (row : Row) : Type 0 where
   pub header : Header
   pub request : SaleRequest
@@ -486,17 +520,18 @@ pub record BeginsAtNamed (known : Known) (till : ℕ) (as_read : ReadAs) (row : 
   pub unknown : found_for known.kept header ≡ None
   pub named : NamedTerminal
   pub named_is : named_terminal known.core header.poi ≡ Some named
-  pub no_day : is_day_key header (Some named) ≡ false
+  pub not_pending : is_pending_key known.core header (Some named) ≡ false
   pub items_are : row.items ≡ Serve named.number till header request ∷ []
   pub no_reply : row.calls ≡ []
 
--- a till's Abort stops what the terminal of the key that it names serves, which has this key, and there is no reply
+-- a till's Abort stops what the terminal of the key that it names serves, which has this key and doesn't wait, and there is no reply
 pub record StopsAtNamed (known : Known) (till : ℕ) (as_read : ReadAs) (row : Row) : Type 0 where
   pub header : Header
   pub reference : Reference
   pub request_is : as_read ≡ Request header (requests.Abort reference)
   pub named : NamedTerminal
   pub named_is : named_terminal known.core (key_of header reference).poi ≡ Some named
+  pub no_wait : waiting_with (key_of header reference) known.core.waits ≡ None
   pub serves : serves_key known.kept (key_of header reference) named.terminal ≡ true
   pub items_are : row.items ≡ Serve named.number till header (requests.Abort reference) ∷ []
   pub no_reply : row.calls ≡ []
@@ -520,7 +555,7 @@ pub record ReconcilesAtNamed (known : Known) (till : ℕ) (as_read : ReadAs) (ro
   pub unknown : found_for known.kept header ≡ None
   pub named : NamedTerminal
   pub named_is : named_terminal known.core header.poi ≡ Some named
-  pub no_day : is_day_key header (Some named) ≡ false
+  pub not_pending : is_pending_key known.core header (Some named) ≡ false
   pub items_are : row.items ≡ Serve named.number till header (requests.Reconciliation period) ∷ []
   pub no_reply : row.calls ≡ []
 
@@ -534,10 +569,35 @@ pub record ShowsAtNamed (known : Known) (till : ℕ) (as_read : ReadAs) (row : R
   pub items_are : row.items ≡ Serve named.number till header (requests.Display outputs) ∷ []
   pub no_reply : row.calls ≡ []
 
--- what a message of a till begins: a payment or a reversal, the stop of what is served, a Login or Logout, a reconciliation, or a display
+-- a till's Payment, Reversal or end of day, on such a key, joins those that wait for the terminal that its POIID names, and there is no reply yet
+pub record QueuesAtNamed (known : Known) (till : ℕ) (as_read : ReadAs) (row : Row) : Type 0 where
+  pub header : Header
+  pub request : SaleRequest
+  pub request_is : as_read ≡ Request header request
+  pub steps : has_steps request ≡ true
+  pub unknown : found_for known.kept header ≡ None
+  pub named : NamedTerminal
+  pub named_is : named_terminal known.core header.poi ≡ Some named
+  pub not_pending : is_pending_key known.core header (Some named) ≡ false
+  pub waits : step_result known header request (Some named) ≡ Waits
+  pub items_are : row.items ≡ Queue named.number till header request ∷ []
+  pub no_reply : row.calls ≡ []
+
+-- a till's Abort takes out the request that waits under the key that it names, and there is no reply to the Abort
+pub record WithdrawsAtNamed (known : Known) (till : ℕ) (as_read : ReadAs) (row : Row) : Type 0 where
+  pub header : Header
+  pub reference : Reference
+  pub request_is : as_read ≡ Request header (requests.Abort reference)
+  pub wait : Wait
+  pub waits : waiting_with (key_of header reference) known.core.waits ≡ Some wait
+  pub items_are : row.items ≡ Queue wait.pt till header (requests.Abort reference) ∷ []
+  pub no_reply : row.calls ≡ []
+
+-- what a message of a till begins: a payment or a reversal, the stop of what is served, a Login or Logout, a reconciliation, or a display; or a request joins those that wait, or is taken out
 abbrev pub BeginsSomething : Known → ℕ → ReadAs → Row → Type 0
 BeginsSomething known till as_read row =
-    BeginsAtNamed known till as_read row ⊎ (StopsAtNamed known till as_read row ⊎ (LogsAtNamed known till as_read row ⊎ (ReconcilesAtNamed known till as_read row ⊎ ShowsAtNamed known till as_read row)))
+    BeginsAtNamed known till as_read row ⊎ (StopsAtNamed known till as_read row ⊎ (LogsAtNamed known till as_read row ⊎ (ReconcilesAtNamed known till as_read row
+    ⊎ (ShowsAtNamed known till as_read row ⊎ (QueuesAtNamed known till as_read row ⊎ WithdrawsAtNamed known till as_read row)))))
 
 -- a message of a till begins nothing, or one of these
 abbrev pub EachAskedBegins : Type 0
@@ -555,6 +615,7 @@ is_asked_item (Gone till) = false
 is_asked_item (Greet number apdu) = false
 is_asked_item (Handle number apdu) = false
 is_asked_item (Serve number till header request) = false
+is_asked_item (Queue number till header request) = false
 is_asked_item (NextWaiting number) = false
 is_asked_item (Oversized number) = false
 is_asked_item (LinkLost number) = false
@@ -562,6 +623,13 @@ is_asked_item (Late number) = false
 is_asked_item (Overdue key) = false
 is_asked_item (Due number) = false
 
--- no other item brings another
+-- a request that has waited is refused, and the next one that waits for its terminal is looked at
+pub record LooksAtNext (item : RoundItem) (row : Row) : Type 0 where
+  pub number : ℕ
+  pub item_is : item ≡ NextWaiting number
+  pub items_are : row.items ≡ NextWaiting number ∷ []
+
+-- no other item brings another, but one that refuses a request that has waited
 abbrev pub OnlyAskedBegins : Type 0
-OnlyAskedBegins = (tills : List Connection) (known : Known) (item : RoundItem) → is_asked_item item ≡ false → (row_of tills known item).items ≡ []
+OnlyAskedBegins =
+    (tills : List Connection) (known : Known) (item : RoundItem) → is_asked_item item ≡ false → ((row_of tills known item).items ≡ []) ⊎ LooksAtNext item (row_of tills known item)

@@ -10,6 +10,7 @@ use Rattle.gw_site.specs.Outside.{Connection}
 use Rattle.sale_values.specs.declared.header.Header.{Header}
 use Rattle.sale_values.specs.declared.names.Period.{Period}
 use Rattle.sale_values.specs.declared.names.Period.TheVariants.{AcquirerReconciliation}
+use Rattle.sale_values.specs.declared.request.Reference.{Reference}
 use Rattle.sale_values.specs.declared.request.SaleRequest.{SaleRequest}
 use Rattle.sale_values.specs.declared.request.SaleRequest.TheVariants as requests
 use Rattle.sale_values.specs.Key.{key_of}
@@ -36,9 +37,11 @@ use Rattle.gw_owes.specs.declared.terminal.Terminal.{Terminal}
 use Rattle.gw_owes.specs.Calls.{records_kept}
 use Rattle.gw_owes.specs.Core.{Core, new_core}
 use Rattle.gw_owes.specs.Days.{days_served}
+use Rattle.gw_owes.specs.WaitingRows.{next_waiting_row, overdue_row, queue_row}
+use Rattle.gw_owes.specs.Waits.{memory_reserved, slots_reserved}
 use Rattle.gw_owes.specs.DeviceRequests.{greatest_device_number}
 use Rattle.gw_owes.specs.Handling.{handle_row}
-use Rattle.gw_owes.specs.Items.{RoundItem, Crowded, Message, Asked, Unframed, Gone, Greet, Handle, Serve, NextWaiting, Oversized, LinkLost, Late, Overdue, Due}
+use Rattle.gw_owes.specs.Items.{RoundItem, Crowded, Message, Asked, Unframed, Gone, Greet, Handle, Serve, Queue, NextWaiting, Oversized, LinkLost, Late, Overdue, Due}
 use Rattle.gw_owes.specs.KeptReplies.{own_key}
 use Rattle.gw_owes.specs.Links.{LinkEvent, link_row}
 use Rattle.gw_owes.specs.Payments.{serve_row}
@@ -153,6 +156,11 @@ pub record IsReadRequest (setup : Setup) (number : ℕ) (header : Header) (reque
   pub read : IsReadFromTill (Request header request)
   pub names : (pt : Pt) → slice_get setup.terminals number ≡ Some pt → pt.poi ≡ poi_asked header request
 
+-- a request that waits for a terminal of this number was read from a till's bytes, and is about this terminal; so was an Abort, which takes out another that waits
+pub record IsReadQueued (setup : Setup) (number : ℕ) (header : Header) (request : SaleRequest) : Type 0 where
+  pub read : IsReadFromTill (Request header request)
+  pub names : ((reference : Reference) → request ≢ requests.Abort reference) → (pt : Pt) → slice_get setup.terminals number ≡ Some pt → pt.poi ≡ poi_asked header request
+
 -- what an item has of a till was read from its bytes
 abbrev pub IsReadItem : Setup → RoundItem → Type 0
 IsReadItem setup (Crowded till) = Unit {0}
@@ -163,6 +171,7 @@ IsReadItem setup (Gone till) = Unit {0}
 IsReadItem setup (Greet number apdu) = Unit {0}
 IsReadItem setup (Handle number apdu) = Unit {0}
 IsReadItem setup (Serve number till header request) = IsReadRequest setup number header request
+IsReadItem setup (Queue number till header request) = IsReadQueued setup number header request
 IsReadItem setup (NextWaiting number) = Unit {0}
 IsReadItem setup (Oversized number) = Unit {0}
 IsReadItem setup (LinkLost number) = Unit {0}
@@ -174,9 +183,9 @@ IsReadItem setup (Due number) = Unit {0}
 abbrev pub AreOthersInOrder : ℕ → List Record → Core → Type 0
 AreOthersInOrder but kept core = (number : ℕ) (terminal : Terminal) → number ≢ but → slice_get core.terminals number ≡ Some terminal → IsTerminalInOrder kept terminal
 
--- a slot is left for the Outcome of each open key, and for the Settled of each end of day that is served
+-- a slot is left for the Outcome of each open key, and those that are reserved for what is served or waits
 abbrev pub HasRoom : ℕ → List Record → Core → Type 0
-HasRoom slots kept core = length kept + (open_count_of kept + days_served core.terminals) ≤ slots
+HasRoom slots kept core = length kept + (open_count_of kept + slots_reserved core) ≤ slots
 
 -- the number of the next device request has at most ten digits
 abbrev pub IsNumbered : Core → Type 0
@@ -193,9 +202,9 @@ pub record IsInOrder (known : Known) : Type 0 where
   pub numbered : IsNumbered known.core
   pub terminals : AreTerminalsInOrder known.kept known.core
 
--- as a run begins, whatever the records; no end of day is served then
+-- as a run begins, whatever the records; nothing is reserved then
 abbrev pub NewCoreIsInOrder : Type 0
-NewCoreIsInOrder = (setup : Setup) (kept : List Record) → AreTerminalsInOrder kept (new_core setup) × (days_served (new_core setup).terminals ≡ 0)
+NewCoreIsInOrder = (setup : Setup) (kept : List Record) → AreTerminalsInOrder kept (new_core setup) × (slots_reserved (new_core setup) ≡ 0)
 
 -- what is known stays in order with the records that a row keeps
 pub record KeepsInOrder (known : Known) (kept : List Record) (core : Core) : Type 0 where
@@ -208,11 +217,21 @@ pub record KeepsInOrder (known : Known) (kept : List Record) (core : Core) : Typ
   -- and they have what each terminal's standing says, as the row leaves it
   pub terminals : AreTerminalsInOrder (known.kept ++ kept) core
 
--- each item keeps what is known in order, where it cuts no terminal
+-- each item keeps what is known in order, where it cuts no terminal; the beginning of a request that has waited has a law of its own
 abbrev pub EachRowKeepsInOrder : Type 0
 EachRowKeepsInOrder =
-    (known : Known) (item : RoundItem) → IsInOrder known → IsReadItem known.setup item → owes_cut (terminal_row known item).calls ≡ false
+    (known : Known) (item : RoundItem) → ((number : ℕ) → item ≢ NextWaiting number) → IsInOrder known → IsReadItem known.setup item → owes_cut (terminal_row known item).calls ≡ false
     → KeepsInOrder known (records_kept (terminal_row known item).calls) (terminal_row known item).core
+
+-- so does what a till's request changes of those that wait
+abbrev pub EachQueueKeepsInOrder : Type 0
+EachQueueKeepsInOrder =
+    (known : Known) (number till : ℕ) (header : Header) (request : SaleRequest) → IsInOrder known
+    → KeepsInOrder known (records_kept (queue_row known number till header request).calls) (queue_row known number till header request).core
+
+-- and what has waited for too long
+abbrev pub EachOverdueKeepsInOrder : Type 0
+EachOverdueKeepsInOrder = (known : Known) (key : Key) → IsInOrder known → KeepsInOrder known (records_kept (overdue_row known key).calls) (overdue_row known key).core
 
 -- a row that cuts the terminal of this number keeps no record, and leaves every other in order
 pub record CutKeepsInOrder (known : Known) (number : ℕ) (row : Row) : Type 0 where
@@ -231,6 +250,7 @@ EachCutKeepsInOrder =
 pub record LinkKeepsInOrder (known : Known) (number : ℕ) (core : Core) : Type 0 where
   pub terminals : AreOthersInOrder number known.kept known.core → AreTerminalsInOrder known.kept core
   pub days : days_served core.terminals ≤ days_served known.core.terminals
+  pub waits : core.waits ≡ known.core.waits
   pub device_requests : core.device_requests ≡ known.core.device_requests
 
 -- so does an event of its link
@@ -255,18 +275,22 @@ abbrev pub memory_taken : List Record → ℕ
 memory_taken [] = 0
 memory_taken (next ∷ records) = memory_of next + memory_taken records
 
--- how much memory a row takes, and the ends of day that are served then will take
+-- how much memory a row takes, and what is served or waits then will take
 abbrev pub memory_after : Row → ℕ
-memory_after row = memory_taken (records_kept row.calls) + days_served row.core.terminals
+memory_after row = memory_taken (records_kept row.calls) + memory_reserved row.core
 
--- a message of a terminal takes no more than the ends of day that were served would
+-- a message of a terminal takes no more than was reserved
 abbrev pub EachMessageTakesItsMemory : Type 0
-EachMessageTakesItsMemory = (known : Known) (number : ℕ) (apdu : ApduValue) → memory_after (handle_row known number apdu) ≤ days_served known.core.terminals
+EachMessageTakesItsMemory = (known : Known) (number : ℕ) (apdu : ApduValue) → memory_after (handle_row known number apdu) ≤ memory_reserved known.core
 
--- a request takes one more at most
+-- nor does the beginning of a request that has waited
+abbrev pub EachNextTakesItsMemory : Type 0
+EachNextTakesItsMemory = (known : Known) (number : ℕ) → memory_after (next_waiting_row known number) ≤ memory_reserved known.core
+
+-- a request that is begun, or joins those that wait, takes one more at most
 abbrev pub EachRequestTakesOne : Type 0
-EachRequestTakesOne = (known : Known) (number till : ℕ) (header : Header) (request : SaleRequest) → memory_after (serve_row known number till header request) ≤ days_served known.core.terminals + 1
+EachRequestTakesOne = (known : Known) (number till : ℕ) (header : Header) (request : SaleRequest) → (memory_after (serve_row known number till header request) ≤ memory_reserved known.core + 1) × (memory_after (queue_row known number till header request) ≤ memory_reserved known.core + 1)
 
--- once a till is gone as many ends of day are served as before
+-- once a till is gone as many ends of day are served as before, and no more requests wait
 abbrev pub EachTillGoneLeavesDays : Type 0
-EachTillGoneLeavesDays = (core : Core) (till : ℕ) → days_served (core_without core till).terminals ≡ days_served core.terminals
+EachTillGoneLeavesDays = (core : Core) (till : ℕ) → (days_served (core_without core till).terminals ≡ days_served core.terminals) × (length (core_without core till).waits ≤ length core.waits)

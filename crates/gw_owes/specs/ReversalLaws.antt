@@ -5,6 +5,7 @@ use Rattle.gw_base.specs.declared.condition.Condition.TheVariants.{Aborted, Busy
 use Rattle.gw_base.specs.declared.figures.Figures.{Figures}
 use Rattle.sale_values.specs.declared.header.Header.{Header}
 use Rattle.sale_values.specs.declared.request.ReversalAsk.{ReversalAsk}
+use Rattle.sale_values.specs.declared.request.SaleRequest.{SaleRequest}
 use Rattle.sale_values.specs.declared.request.SaleRequest.TheVariants as requests
 use Rattle.sale_reply.specs.declared.reply.Told.{Told as ResultBody}
 use Rattle.sale_reply.specs.declared.reply.Told.TheVariants.{ReversalApproved, ReversalDeclined}
@@ -25,7 +26,7 @@ use Rattle.gw_owes.specs.declared.terminal.Standing.TheVariants.{Ready, Serving}
 use Rattle.gw_owes.specs.declared.terminal.Terminal.{Terminal}
 use Rattle.gw_owes.specs.Calls.{OwedCall, keep_calls}
 use Rattle.gw_owes.specs.Content.{has_same_content}
-use Rattle.gw_owes.specs.Days.{is_day_key}
+use Rattle.gw_owes.specs.Waits.{is_pending_again, is_pending_key, is_queue_full}
 use Rattle.gw_owes.specs.Diagnosis.{NamedTerminal, named_terminal}
 use Rattle.gw_owes.specs.Handling.{handle_row}
 use Rattle.gw_owes.specs.KeptReplies.{found_for}
@@ -38,7 +39,7 @@ use Rattle.gw_owes.specs.Reversals.{original_of}
 use Rattle.gw_owes.specs.Row.{Known}
 use Rattle.gw_owes.specs.Serving.{was_stopped}
 use Rattle.gw_owes.specs.Sessions.{is_logged_out}
-use Rattle.gw_owes.specs.Steps.{Begins, is_out_of_service, is_used_up, lacks_room, step_result}
+use Rattle.gw_owes.specs.Steps.{Begins, Waits, is_out_of_service, is_used_up, lacks_room, step_result}
 use Rattle.gw_owes.specs.Terminals.{reply_calls_to}
 
 -- ---- what a reversal's end keeps and replies
@@ -128,15 +129,27 @@ pub record NamesIrreversible (known : Known) (header : Header) (reversal : Rever
   pub named : original_of known.kept header.poi reversal ≡ Some original
   pub irreversible : (approval : TheOutcome) → IsReversible known.kept reversal original approval → ⊥
 
--- the key is new, and is that of the end of day that the terminal serves
-pub record KeyIsOfDay (known : Known) (header : Header) (named : Option NamedTerminal) : Type 0 where
+-- the key is new, but waits or is that of the end of day that the terminal serves, and the same is asked for again
+pub record IsPendingAgain (known : Known) (header : Header) (request : SaleRequest) (named : Option NamedTerminal) : Type 0 where
   pub unknown : found_for known.kept header ≡ None
-  pub day : is_day_key header named ≡ true
+  pub again : is_pending_again known header request named ≡ true
 
--- the key is new, it isn't that of an end of day that is served, and the POIID names a terminal
+-- or anything else is asked for
+pub record IsPendingOtherwise (known : Known) (header : Header) (request : SaleRequest) (named : Option NamedTerminal) : Type 0 where
+  pub unknown : found_for known.kept header ≡ None
+  pub pending : is_pending_key known.core header named ≡ true
+  pub other : is_pending_again known header request named ≡ false
+
+-- the key is new, it doesn't wait, and the POIID names no terminal
+pub record NamesNoTerminal (known : Known) (header : Header) (named : Option NamedTerminal) : Type 0 where
+  pub unknown : found_for known.kept header ≡ None
+  pub not_pending : is_pending_key known.core header named ≡ false
+  pub unnamed : named ≡ None
+
+-- the key is new, it doesn't wait, nor is it that of an end of day that is served, and the POIID names a terminal
 pub record IsNewAtTerminal (known : Known) (header : Header) (named : Option NamedTerminal) : Type 0 where
   pub unknown : found_for known.kept header ≡ None
-  pub no_day : is_day_key header named ≡ false
+  pub not_pending : is_pending_key known.core header named ≡ false
   pub terminal : NamedTerminal
   pub is_named : named ≡ Some terminal
 
@@ -157,7 +170,7 @@ pub record NamesReversible (known : Known) (header : Header) (reversal : Reversa
 pub record HasNumberAndRoom (known : Known) (header : Header) (reversal : ReversalAsk) (named : Option NamedTerminal) : Type 0 where
   pub names : NamesReversible known header reversal named
   pub number : is_used_up known.kept header.poi named ≡ false
-  pub room : lacks_room known.setup.slots known.kept known.core.terminals ≡ false
+  pub room : lacks_room known.setup.slots known.kept known.core ≡ false
 
 -- the POIID names a terminal that takes no request: it isn't linked, not yet ready, or set aside
 pub record IsOutOfService (named : Option NamedTerminal) : Type 0 where
@@ -180,29 +193,38 @@ pub record IsReadyThere (named : Option NamedTerminal) : Type 0 where
   pub last : ℕ
   pub ready : terminal.terminal.standing ≡ Ready last
 
--- Why a reversal fails with this condition, at the terminal that its POIID names; it never fails with another. The causes have this order, and each says that none before it holds: the key is on record, and open, or with other content; it is that of the end of day that the terminal serves; the POIID names no terminal; the till is logged out there; the text names no entry of the terminal; that entry may not be reversed; no trace number is left, or no room; the terminal takes no request; it serves another.
+-- Why a reversal fails with this condition, at the terminal that its POIID names; it never fails with another. The causes have this order, and each says that none before it holds: the key is on record, and open, or with other content; it waits or is that of the end of day that the terminal serves, and the same is asked for, or anything else; the POIID names no terminal; the till is logged out there; the text names no entry of the terminal; that entry may not be reversed; no trace number is left, or no room; the terminal takes no request; it serves another, and as many requests wait for it as may.
 abbrev pub RefusesReversal : Known → Header → ReversalAsk → Option NamedTerminal → Condition → Type 0
 RefusesReversal known header reversal named Aborted = ⊥
-RefusesReversal known header reversal named Busy = HasNumberAndRoom known header reversal named × ServesAnother named
+RefusesReversal known header reversal named Busy = HasNumberAndRoom known header reversal named × (ServesAnother named × (is_queue_full known named ≡ true))
 RefusesReversal known header reversal named Cancel = ⊥
-RefusesReversal known header reversal named InProgress = IsOpenAgain known header reversal
+RefusesReversal known header reversal named InProgress = IsOpenAgain known header reversal ⊎ IsPendingAgain known header (requests.Reversal reversal) named
 RefusesReversal known header reversal named InsertedCard = ⊥
 RefusesReversal known header reversal named InvalidCard = ⊥
 RefusesReversal known header reversal named LoggedOut = IsNewAtTerminal known header named × (is_logged_out known.core header.sale header.poi ≡ true)
 RefusesReversal known header reversal named MessageFormat = ⊥
-RefusesReversal known header reversal named NotAllowed = HasOtherContent known header reversal ⊎ (KeyIsOfDay known header named ⊎ (IsNewOfTill known header named × NamesIrreversible known header reversal))
+RefusesReversal known header reversal named NotAllowed =
+    HasOtherContent known header reversal ⊎ (IsPendingOtherwise known header (requests.Reversal reversal) named ⊎ (IsNewOfTill known header named × NamesIrreversible known header reversal))
 RefusesReversal known header reversal named NotFound = IsNewOfTill known header named × (original_of known.kept header.poi reversal ≡ None)
 RefusesReversal known header reversal named Refusal = ⊥
 RefusesReversal known header reversal named UnavailableDevice =
-    ((found_for known.kept header ≡ None) × (named ≡ None)) ⊎ (HasNumberAndRoom known header reversal named × IsOutOfService named)
+    NamesNoTerminal known header named ⊎ (HasNumberAndRoom known header reversal named × IsOutOfService named)
 RefusesReversal known header reversal named UnavailableService =
-    NamesReversible known header reversal named × ((is_used_up known.kept header.poi named ≡ true) ⊎ (lacks_room known.setup.slots known.kept known.core.terminals ≡ true))
+    NamesReversible known header reversal named × ((is_used_up known.kept header.poi named ≡ true) ⊎ (lacks_room known.setup.slots known.kept known.core ≡ true))
 
 -- a reversal begins: none of these causes holds, and the terminal is ready; the steps come to the last one, so that there is no reply yet
 pub record ReversalBegins (known : Known) (header : Header) (reversal : ReversalAsk) (named : Option NamedTerminal) : Type 0 where
   pub passes : HasNumberAndRoom known header reversal named
   pub there : IsReadyThere named
   pub begins : step_result known header (requests.Reversal reversal) named ≡ Begins
+  pub no_reply : request_reply known header (requests.Reversal reversal) ≡ None
+
+-- it waits: none of them holds, the terminal serves another, and fewer requests wait for it than may; there is no reply yet
+pub record ReversalWaits (known : Known) (header : Header) (reversal : ReversalAsk) (named : Option NamedTerminal) : Type 0 where
+  pub passes : HasNumberAndRoom known header reversal named
+  pub serving : ServesAnother named
+  pub not_full : is_queue_full known named ≡ false
+  pub waits : step_result known header (requests.Reversal reversal) named ≡ Waits
   pub no_reply : request_reply known header (requests.Reversal reversal) ≡ None
 
 -- it is a repeat, and gets its reply again
@@ -220,11 +242,13 @@ pub record ReversalIsRefused (known : Known) (header : Header) (reversal : Rever
   pub cause : RefusesReversal known header reversal named condition
   pub replied : request_reply known header (requests.Reversal reversal) ≡ Some (failure_reply header condition)
 
--- each reversal begins, is a repeat, or is refused for one of these reasons, and gets nothing else
+-- each reversal begins, waits, is a repeat, or is refused for one of these reasons, and gets nothing else
 abbrev pub EachReversalBeginsOrIsReplied : Type 0
 EachReversalBeginsOrIsReplied =
     (known : Known) (header : Header) (reversal : ReversalAsk)
-    → ReversalBegins known header reversal (named_terminal known.core header.poi) ⊎ (ReversalIsAgain known header reversal ⊎ ReversalIsRefused known header reversal (named_terminal known.core header.poi))
+    → ReversalBegins known header reversal (named_terminal known.core header.poi)
+    ⊎ (ReversalWaits known header reversal (named_terminal known.core header.poi)
+    ⊎ (ReversalIsAgain known header reversal ⊎ ReversalIsRefused known header reversal (named_terminal known.core header.poi)))
 
 -- each fails with a condition where the condition's cause holds
 abbrev pub EachCauseIsReplied : Type 0
@@ -238,22 +262,22 @@ EachFailureHasItsCause =
     (known : Known) (header : Header) (reversal : ReversalAsk) (condition : Condition) → request_reply known header (requests.Reversal reversal) ≡ Some (failure_reply header condition)
     → RefusesReversal known header reversal (named_terminal known.core header.poi) condition
 
--- one of a till that isn't logged out, on a new key that isn't that of the end of day that is served there, at a terminal that is configured, whose text names no entry of that terminal isn't found
+-- one of a till that isn't logged out, on a new key that doesn't wait and isn't that of the end of day that is served there, at a terminal that is configured, whose text names no entry of that terminal isn't found
 abbrev pub UnnamedIsNotFound : Type 0
 UnnamedIsNotFound =
-    (known : Known) (header : Header) (reversal : ReversalAsk) (named : NamedTerminal) → named_terminal known.core header.poi ≡ Some named → found_for known.kept header ≡ None → is_day_key header (Some named) ≡ false
+    (known : Known) (header : Header) (reversal : ReversalAsk) (named : NamedTerminal) → named_terminal known.core header.poi ≡ Some named → found_for known.kept header ≡ None → is_pending_key known.core header (Some named) ≡ false
     → is_logged_out known.core header.sale header.poi ≡ false → original_of known.kept header.poi reversal ≡ None → request_reply known header (requests.Reversal reversal) ≡ Some (failure_reply header NotFound)
 
 -- and one whose text names an entry that may not be reversed isn't allowed
 abbrev pub IrreversibleIsNotAllowed : Type 0
 IrreversibleIsNotAllowed =
-    (known : Known) (header : Header) (reversal : ReversalAsk) (named : NamedTerminal) → named_terminal known.core header.poi ≡ Some named → found_for known.kept header ≡ None → is_logged_out known.core header.sale header.poi ≡ false
-    → NamesIrreversible known header reversal → request_reply known header (requests.Reversal reversal) ≡ Some (failure_reply header NotAllowed)
+    (known : Known) (header : Header) (reversal : ReversalAsk) (named : NamedTerminal) → named_terminal known.core header.poi ≡ Some named → found_for known.kept header ≡ None → is_pending_key known.core header (Some named) ≡ false
+    → is_logged_out known.core header.sale header.poi ≡ false → NamesIrreversible known header reversal → request_reply known header (requests.Reversal reversal) ≡ Some (failure_reply header NotAllowed)
 
--- one whose text names an entry that may be reversed begins, where the till isn't logged out, the terminal is ready, a trace number is left and there is room
+-- one whose text names an entry that may be reversed begins, where its key doesn't wait, the till isn't logged out, the terminal is ready, a trace number is left and there is room
 abbrev pub ReversibleBegins : Type 0
 ReversibleBegins =
     (known : Known) (header : Header) (reversal : ReversalAsk) (named : NamedTerminal) (last : ℕ) (original : TheEntry) (approval : TheOutcome) → named_terminal known.core header.poi ≡ Some named
-    → named.terminal.standing ≡ Ready last → found_for known.kept header ≡ None → is_logged_out known.core header.sale header.poi ≡ false → original_of known.kept header.poi reversal ≡ Some original → IsReversible known.kept reversal original approval
-    → is_used_up known.kept header.poi (Some named) ≡ false → lacks_room known.setup.slots known.kept known.core.terminals ≡ false
+    → named.terminal.standing ≡ Ready last → found_for known.kept header ≡ None → is_pending_key known.core header (Some named) ≡ false → is_logged_out known.core header.sale header.poi ≡ false → original_of known.kept header.poi reversal ≡ Some original → IsReversible known.kept reversal original approval
+    → is_used_up known.kept header.poi (Some named) ≡ false → lacks_room known.setup.slots known.kept known.core ≡ false
     → ReversalBegins known header reversal (Some named)

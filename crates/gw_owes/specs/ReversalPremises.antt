@@ -1,5 +1,5 @@
 -- Closed examples in which the premises of the laws of reversals and Aborts hold: one that may begin, why others may not, what ends one that is served, each cause of a refusal, and dialogues that are to stop.
-use Rattle.std.specs.Prelude.{◌≡◌, ◌<◌, ℕ, pos, true, false, List, [], ◌∷◌, ◌++◌, Option, Some, None, Ok, codes}
+use Rattle.std.specs.Prelude.{◌≡◌, ◌<◌, ℕ, pos, true, false, List, [], ◌∷◌, ◌++◌, Option, Some, None, Ok, codes, unwrap_or}
 use Rattle.gw_base.specs.declared.condition.Condition.{Condition}
 use Rattle.gw_base.specs.declared.condition.Condition.TheVariants.{Busy, InProgress, LoggedOut, NotAllowed, NotFound, UnavailableDevice, UnavailableService}
 use Rattle.gw_base.specs.declared.figures.Figures.{Figures}
@@ -28,7 +28,6 @@ use Rattle.gw_owes.specs.declared.terminal.Standing.TheVariants.{Enquiring, Read
 use Rattle.gw_owes.specs.declared.terminal.Terminal.{Terminal}
 use Rattle.gw_owes.specs.AbortLaws.{ServesAborted}
 use Rattle.gw_owes.specs.Core.{new_core, new_terminal}
-use Rattle.gw_owes.specs.Days.{is_day_key}
 use Rattle.gw_owes.specs.Diagnosis.{named_terminal}
 use Rattle.gw_owes.specs.Dialogues.{HasItsDialogue}
 use Rattle.gw_owes.specs.Items.{Asked as AskedItem, Serve}
@@ -38,12 +37,13 @@ use Rattle.gw_owes.specs.PaymentLaws.{BeginsThere, BeginsToReverse, IsReversible
 use Rattle.gw_owes.specs.ReadAs.{Request}
 use Rattle.gw_owes.specs.Reports.{Report}
 use Rattle.gw_owes.specs.ReversalExample.{declined_records, ended_records, payment_records, paid_text, reversal_ask_of, reversal_intent_kept, reversed_with_amount, settled_records, since_kept}
-use Rattle.gw_owes.specs.ReversalLaws.{IsReversalAt, NamesIrreversible, RefusesReversal}
+use Rattle.gw_owes.specs.ReversalLaws.{IsReversalAt, NamesIrreversible, RefusesReversal, ReversalWaits}
 use Rattle.gw_owes.specs.Reversals.{original_of}
 use Rattle.gw_owes.specs.Row.{Known}
 use Rattle.gw_owes.specs.Rows.{row_of}
 use Rattle.gw_owes.specs.Sessions.{is_logged_out}
 use Rattle.gw_owes.specs.Steps.{Begins, is_used_up, lacks_room, step_result}
+use Rattle.gw_owes.specs.Waits.{is_pending_key}
 use Rattle.gw_owes.specs.StepLaws.{has_steps}
 use Rattle.gw_owes.specs.TerminalExample.{one_pt, setup_with, standing_known}
 use Rattle.gw_owes.specs.Terminals.{terminal_at}
@@ -76,12 +76,12 @@ pub record ExampleReversalAccepted : Type 0 where
   pub named : named_terminal (known_ready payment_records).core (codes "T1") ≡ Some (record { number = 0; terminal = ready_with_paid })
   pub found : terminal_at (known_ready payment_records) 0 ≡ Some ready_with_paid
   pub unknown : found_for payment_records header_to_reverse ≡ None
-  pub no_day : is_day_key header_to_reverse (Some (record { number = 0; terminal = ready_with_paid })) ≡ false
+  pub not_pending : is_pending_key (known_ready payment_records).core header_to_reverse (Some (record { number = 0; terminal = ready_with_paid })) ≡ false
   pub logged_in : is_logged_out (known_ready payment_records).core (codes "S1") (codes "T1") ≡ false
   pub original : original_of payment_records (codes "T1") whole_reversal ≡ Some original_entry
   pub reversible : IsReversible payment_records whole_reversal original_entry (approved_with_amount 1099)
   pub number_left : is_used_up payment_records (codes "T1") (Some (record { number = 0; terminal = ready_with_paid })) ≡ false
-  pub room : lacks_room 1000000 payment_records (ready_with_paid ∷ []) ≡ false
+  pub room : lacks_room 1000000 payment_records (known_ready payment_records).core ≡ false
   pub steps : has_steps (requests.Reversal whole_reversal) ≡ true
   pub begins : step_result (known_ready payment_records) header_to_reverse (requests.Reversal whole_reversal) (Some (record { number = 0; terminal = ready_with_paid })) ≡ Begins
   pub item : BeginsThere 1 header_to_reverse (requests.Reversal whole_reversal) 0 (row_of two_tills (known_ready payment_records) (AskedItem 1 (Request header_to_reverse (requests.Reversal whole_reversal))))
@@ -198,6 +198,19 @@ known_in_slots slots kept standing = let since = with_slot_count slots (since_ke
 abbrev pub with_logout : Known → Known
 with_logout known = record known { core = record known.core { logged_out = record { sale = codes "S1"; poi = codes "T1" } ∷ [] } }
 
+-- there, this reversal waits for `T1` under this header, of till 2
+abbrev pub with_waiting : Known → Header → ReversalAsk → Known
+with_waiting known header reversal =
+    record known {
+      core = record known.core {
+        waits = record { key = record { sale = header.sale; poi = header.poi; service = unwrap_or header.service [] }; pt = 0; till = 2; deadline = pos 1741342564; header = header; request = requests.Reversal reversal } ∷ [];
+      };
+    }
+
+-- there, so many requests may wait for each terminal
+abbrev pub with_line : ℕ → Known → Known
+with_line line known = record known { setup = record known.setup { line = line } }
+
 -- there, a reversal under this header has the cause of this condition
 abbrev pub HasCauseIn : Known → Header → ReversalAsk → Condition → Type 0
 HasCauseIn known header reversal condition = RefusesReversal known header reversal (named_terminal known.core header.poi) condition
@@ -206,10 +219,12 @@ HasCauseIn known header reversal condition = RefusesReversal known header revers
 abbrev pub header_of_day_there : Header
 header_of_day_there = till_header (codes "Reconciliation") (codes "2")
 
--- the key is open, or has other content; the terminal serves the end of day of the key; the POIID names no terminal; the till is logged out there; the text names no entry, or one that may not be reversed, as a part is asked; no trace number is left, or no room; the terminal isn't linked; and it serves another reversal
+-- the key is open, or has other content; it waits, and the same is asked for, or another amount; the terminal serves the end of day of the key; the POIID names no terminal; the till is logged out there; the text names no entry, or one that may not be reversed, as a part is asked; no trace number is left, or no room; the terminal isn't linked; and it serves another reversal, and none may wait, or one does where one may
 pub record ExampleReversalCauses : Type 0 where
   pub in_progress : HasCauseIn (known_in_slots 1000000 reversing_records (Serving (Transaction 2) 123)) header_to_reverse whole_reversal InProgress
   pub other_content : HasCauseIn (known_in_slots 1000000 reversing_records (Serving (Transaction 2) 123)) header_to_reverse (reversal_ask_of paid_text (Some 1)) NotAllowed
+  pub waits_again : HasCauseIn (with_waiting (known_in_slots 1000000 payment_records (Ready 123)) header_to_reverse whole_reversal) header_to_reverse whole_reversal InProgress
+  pub waits_otherwise : HasCauseIn (with_waiting (known_in_slots 1000000 payment_records (Ready 123)) header_to_reverse whole_reversal) header_to_reverse (reversal_ask_of paid_text (Some 1)) NotAllowed
   pub key_of_day : HasCauseIn (known_in_slots 1000000 payment_records (Serving (EndOfDay header_of_day_there AcquirerReconciliation) 123)) header_to_reverse whole_reversal NotAllowed
   pub unconfigured : HasCauseIn (known_in_slots 1000000 payment_records (Ready 123)) (record header_to_reverse { poi = codes "T2" }) whole_reversal UnavailableDevice
   pub logged_out : HasCauseIn (with_logout (known_in_slots 1000000 payment_records (Ready 123))) header_to_reverse whole_reversal LoggedOut
@@ -219,6 +234,13 @@ pub record ExampleReversalCauses : Type 0 where
   pub no_room : HasCauseIn (known_in_slots 3 payment_records (Ready 123)) header_to_reverse whole_reversal UnavailableService
   pub unlinked : HasCauseIn (known_in_slots 4 payment_records (Unlinked None)) header_to_reverse whole_reversal UnavailableDevice
   pub busy : HasCauseIn (known_in_slots 1000000 reversing_records (Serving (Transaction 2) 123)) (till_header (codes "Reversal") (codes "3")) whole_reversal Busy
+  pub full : HasCauseIn (with_line 1 (with_waiting (known_in_slots 1000000 reversing_records (Serving (Transaction 2) 123)) (till_header (codes "Reversal") (codes "4")) whole_reversal)) (till_header (codes "Reversal") (codes "3")) whole_reversal Busy
+
+-- while the terminal serves another reversal, and one request may wait for it, a reversal does
+abbrev pub ExampleReversalWaits : Type 0
+ExampleReversalWaits =
+    ReversalWaits (with_line 1 (known_in_slots 1000000 reversing_records (Serving (Transaction 2) 123))) (till_header (codes "Reversal") (codes "3")) whole_reversal
+    (Some (record { number = 0; terminal = record (new_terminal one_pt) { standing = Serving (Transaction 2) 123 } }))
 
 -- ---- dialogues that are to stop
 

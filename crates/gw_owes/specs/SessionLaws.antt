@@ -11,9 +11,9 @@ use Rattle.jrn_record.specs.declared.records.Record.{Record}
 use Rattle.gw_owes.specs.declared.terminal.Terminal.{Terminal}
 use Rattle.gw_owes.specs.Calls.{OwedCall, SendTill, SendPt, CutTill, CutPt, LinkPt, WriteBody, WriteGate, WriteFirstGate, Sync}
 use Rattle.gw_owes.specs.Core.{Core}
-use Rattle.gw_owes.specs.Days.{is_day_key}
+use Rattle.gw_owes.specs.Waits.{is_pending_key}
 use Rattle.gw_owes.specs.Diagnosis.{NamedTerminal, named_terminal}
-use Rattle.gw_owes.specs.Items.{RoundItem, Crowded, Message, Asked, Unframed, Gone, Greet, Handle, Serve, NextWaiting, Oversized, LinkLost, Late, Overdue, Due}
+use Rattle.gw_owes.specs.Items.{RoundItem, Crowded, Message, Asked, Unframed, Gone, Greet, Handle, Serve, Queue, NextWaiting, Oversized, LinkLost, Late, Overdue, Due}
 use Rattle.gw_owes.specs.KeptReplies.{found_for}
 use Rattle.gw_owes.specs.Links.{LinkEvent, link_row}
 use Rattle.gw_owes.specs.PaymentLaws.{BeginsThere}
@@ -27,7 +27,7 @@ use Rattle.gw_owes.specs.Sessions.{is_logged_out, is_session, most_logged_out}
 use Rattle.gw_owes.specs.StepLaws.{has_steps}
 use Rattle.gw_owes.specs.TerminalRows.{terminal_row}
 use Rattle.gw_owes.specs.Terminals.{terminal_at}
-use Rattle.gw_owes.specs.Transcript.{TerminalStep, HandlesItem, ChangesLink, StepAt, known_before, known_after, core_along, known_new}
+use Rattle.gw_owes.specs.Transcript.{TerminalStep, HandlesItem, ChangesLink, ChangesWaits, StepAt, known_before, known_after, core_along, known_new}
 
 -- ---- what a Login or a Logout gets
 
@@ -76,13 +76,13 @@ EachOtherPairStays =
 
 -- ---- what a till that is logged out gets
 
--- a Payment, a Reversal or a Reconciliation of a till that is logged out at the terminal that its POIID names, on a key that isn't on record, and isn't that of the end of day that is served there
+-- a Payment, a Reversal or a Reconciliation of a till that is logged out at the terminal that its POIID names, on a key that isn't on record, doesn't wait, and isn't that of the end of day that is served there
 pub record IsOfLoggedOut (known : Known) (header : Header) (request : SaleRequest) : Type 0 where
   pub steps : has_steps request ≡ true
   pub unknown : found_for known.kept header ≡ None
   pub named : NamedTerminal
   pub named_is : named_terminal known.core header.poi ≡ Some named
-  pub no_day : is_day_key header (Some named) ≡ false
+  pub not_pending : is_pending_key known.core header (Some named) ≡ false
   pub logged_out : is_logged_out known.core header.sale header.poi ≡ true
 
 -- it fails with `LoggedOut`
@@ -145,6 +145,7 @@ item_logs_out sale poi (Gone till) = None
 item_logs_out sale poi (Greet number apdu) = None
 item_logs_out sale poi (Handle number apdu) = None
 item_logs_out sale poi (Serve number till header request) = if bytes_eq header.sale sale && bytes_eq header.poi poi then logs_out request else None
+item_logs_out sale poi (Queue number till header request) = None
 item_logs_out sale poi (NextWaiting number) = None
 item_logs_out sale poi (Oversized number) = None
 item_logs_out sale poi (LinkLost number) = None
@@ -156,6 +157,7 @@ item_logs_out sale poi (Due number) = None
 abbrev pub step_logs_out : List ℕ → List ℕ → Known → TerminalStep → Option Bool
 step_logs_out sale poi known (HandlesItem item) = if sends_success (terminal_row known item).calls then item_logs_out sale poi item else None
 step_logs_out sale poi known (ChangesLink number event) = None
+step_logs_out sale poi known (ChangesWaits waits) = None
 
 -- whether the last Login or Logout that gets a Success in these steps is a Logout; where there is none, this
 abbrev pub last_logs_out : List ℕ → List ℕ → Known → Bool → List StepAt → Bool
@@ -181,6 +183,7 @@ serves_session (Gone till) = false
 serves_session (Greet number apdu) = false
 serves_session (Handle number apdu) = false
 serves_session (Serve number till header request) = is_session request
+serves_session (Queue number till header request) = false
 serves_session (NextWaiting number) = false
 serves_session (Oversized number) = false
 serves_session (LinkLost number) = false

@@ -15,16 +15,16 @@ use Rattle.gw_ledger.specs.Sums.{open_count_of}
 use Rattle.gw_owes.specs.declared.terminal.Standing.{Standing}
 use Rattle.gw_owes.specs.declared.terminal.Standing.TheVariants.{Unlinked, Registering, Enquiring, Ready, Serving, Aside}
 use Rattle.gw_owes.specs.Content.{is_normal, has_same_content}
-use Rattle.gw_owes.specs.declared.terminal.Terminal.{Terminal}
-use Rattle.gw_owes.specs.Days.{days_served, is_day_again, is_day_key}
+use Rattle.gw_owes.specs.Core.{Core}
 use Rattle.gw_owes.specs.Diagnosis.{NamedTerminal}
-use Rattle.gw_owes.specs.Items.{RoundItem, Serve}
+use Rattle.gw_owes.specs.Items.{RoundItem, Serve, Queue}
 use Rattle.gw_owes.specs.KeptReplies.{found_for, is_finished, kept_reply}
 use Rattle.gw_owes.specs.Reply.{ReplyValue}
 use Rattle.gw_owes.specs.Replies.{failure_reply}
 use Rattle.gw_owes.specs.Reversals.{names_irreversible, names_none}
 use Rattle.gw_owes.specs.Row.{Known}
 use Rattle.gw_owes.specs.Sessions.{is_logged_out}
+use Rattle.gw_owes.specs.Waits.{slots_reserved, is_pending_again, is_pending_key, is_queue_full}
 
 -- what a step gives
 pub data StepResult : Type 0 where
@@ -34,6 +34,8 @@ pub data StepResult : Type 0 where
   Fails : Condition → StepResult
   -- it begins, at the terminal that is named: there is no reply yet
   Begins : StepResult
+  -- it waits for the terminal that is named: there is no reply yet
+  Waits : StepResult
 
 -- one step
 pub record RequestStep : Type 0 where
@@ -125,9 +127,9 @@ asks_transaction (requests.Display outputs) = false
 asks_transaction (requests.Print qualifier) = false
 asks_transaction requests.Diagnosis = false
 
--- fewer slots are free than two for the Intent and its Outcome, one for each key that is open, and one for each end of day that is served
-abbrev pub lacks_room : ℕ → List Record → List Terminal → Bool
-lacks_room slots kept terminals = nat_lt slots (length kept + (open_count_of kept + (days_served terminals + 2)))
+-- fewer slots are free than two for the Intent and its Outcome, one for each key that is open, and those that are reserved
+abbrev pub lacks_room : ℕ → List Record → Core → Bool
+lacks_room slots kept core = nat_lt slots (length kept + (open_count_of kept + (slots_reserved core + 2)))
 
 -- the reconciliation is one of the till's own
 abbrev pub is_sale_period : Period → Bool
@@ -177,6 +179,16 @@ abbrev pub is_ready : Option NamedTerminal → Bool
 is_ready None = false
 is_ready (Some named) = is_ready_standing named.terminal.standing
 
+-- ---- a request that has waited
+
+-- why a request that has waited isn't begun: its steps about the original and the trace number are asked again, and no others
+abbrev pub refused_again : Known → Header → SaleRequest → Option NamedTerminal → Option Condition
+refused_again known header request named =
+    if names_none known.kept header.poi request then Some NotFound
+    else if names_irreversible known.kept header.poi request then Some NotAllowed
+    else if asks_transaction request && is_used_up known.kept header.poi named then Some UnavailableService
+    else None
+
 -- ---- the table
 
 -- the steps of a request, by what the records have under its key and the terminal that its POIID names
@@ -185,8 +197,8 @@ steps known header request found named =
     record { applies = is_repeated known.kept request found && has_reply found; result = KeptReply }
     ∷ record { applies = is_repeated known.kept request found; result = Fails InProgress }
     ∷ record { applies = is_some found; result = Fails NotAllowed }
-    ∷ record { applies = is_day_again header request named; result = Fails InProgress }
-    ∷ record { applies = is_day_key header named; result = Fails NotAllowed }
+    ∷ record { applies = is_pending_again known header request named; result = Fails InProgress }
+    ∷ record { applies = is_pending_key known.core header named; result = Fails NotAllowed }
     ∷ record { applies = not (is_some named); result = Fails UnavailableDevice }
     ∷ record { applies = is_logged_out known.core header.sale header.poi; result = Fails LoggedOut }
     ∷ record { applies = is_unserved request; result = Fails UnavailableService }
@@ -194,7 +206,7 @@ steps known header request found named =
     ∷ record { applies = names_none known.kept header.poi request; result = Fails NotFound }
     ∷ record { applies = names_irreversible known.kept header.poi request; result = Fails NotAllowed }
     ∷ record { applies = asks_transaction request && is_used_up known.kept header.poi named; result = Fails UnavailableService }
-    ∷ record { applies = lacks_room known.setup.slots known.kept known.core.terminals; result = Fails UnavailableService }
+    ∷ record { applies = lacks_room known.setup.slots known.kept known.core; result = Fails UnavailableService }
     ∷ record { applies = asks_settling request; result = Begins }
     ∷ record { applies = is_unavailable named; result = Fails UnavailableDevice }
     ∷ record { applies = is_ready named; result = Begins }
@@ -205,15 +217,20 @@ abbrev pub first_result : StepResult → List RequestStep → StepResult
 first_result otherwise [] = otherwise
 first_result otherwise (step ∷ steps) = if step.applies then step.result else first_result otherwise steps
 
--- the result of the steps of a request; no request waits, so that one for a terminal that serves another finds it busy
-abbrev pub step_result : Known → Header → SaleRequest → Option NamedTerminal → StepResult
-step_result known header request named = first_result (Fails Busy) (steps known header request (found_for known.kept header) named)
+-- the result for a terminal that serves another request: the request waits for it, unless as many wait as may
+abbrev pub result_at_queue : Known → Option NamedTerminal → StepResult
+result_at_queue known named = if is_queue_full known named then Fails Busy else Waits
 
--- the reply that a result is; none where a service begins
+-- the result of the steps of a request
+abbrev pub step_result : Known → Header → SaleRequest → Option NamedTerminal → StepResult
+step_result known header request named = first_result (result_at_queue known named) (steps known header request (found_for known.kept header) named)
+
+-- the reply that a result is; none where a service begins, or the request waits
 abbrev pub reply_of_result : List Record → Header → StepResult → Option ReplyValue
 reply_of_result kept header KeptReply = option_and_then kept_reply (found_for kept header)
 reply_of_result kept header (Fails condition) = Some (failure_reply header condition)
 reply_of_result kept header Begins = None
+reply_of_result kept header Waits = None
 
 -- the reply to a Payment, a Reversal or a Reconciliation
 abbrev pub service_reply : Known → Header → SaleRequest → Option NamedTerminal → Option ReplyValue
@@ -226,18 +243,27 @@ abbrev pub is_beginning : StepResult → Bool
 is_beginning KeptReply = false
 is_beginning (Fails condition) = false
 is_beginning Begins = true
+is_beginning Waits = false
 
--- the item of what begins at a terminal
+-- the result is that the request waits
+abbrev pub is_waiting_result : StepResult → Bool
+is_waiting_result KeptReply = false
+is_waiting_result (Fails condition) = false
+is_waiting_result Begins = false
+is_waiting_result Waits = true
+
+-- the item of what begins at a terminal, or waits for it
 abbrev pub item_of_result : ℕ → Header → SaleRequest → ℕ → StepResult → List RoundItem
 item_of_result till header request number KeptReply = []
 item_of_result till header request number (Fails condition) = []
 item_of_result till header request number Begins = Serve number till header request ∷ []
+item_of_result till header request number Waits = Queue number till header request ∷ []
 
 -- the same at the terminal that is named, where there is one
 abbrev pub items_of_result : ℕ → Header → SaleRequest → Option NamedTerminal → StepResult → List RoundItem
 items_of_result till header request None result = []
 items_of_result till header request (Some named) result = item_of_result till header request named.number result
 
--- what a Payment, a Reversal or a Reconciliation of a till begins
+-- what a Payment, a Reversal or a Reconciliation of a till begins, or that it waits
 abbrev pub service_items : Known → ℕ → Header → SaleRequest → Option NamedTerminal → List RoundItem
 service_items known till header request named = items_of_result till header request named (step_result known header request named)

@@ -25,7 +25,7 @@ use Rattle.gw_owes.specs.declared.terminal.Standing.{Standing}
 use Rattle.gw_owes.specs.declared.terminal.Standing.TheVariants.{Unlinked, Registering, Enquiring, Ready, Serving, Aside}
 use Rattle.gw_owes.specs.declared.terminal.Terminal.{Terminal}
 use Rattle.gw_owes.specs.Core.{Core}
-use Rattle.gw_owes.specs.Items.{RoundItem, Crowded, Message, Asked as AskedItem, Unframed, Gone, Greet, Handle, Serve, NextWaiting, Oversized, LinkLost, Late, Overdue, Due}
+use Rattle.gw_owes.specs.Items.{RoundItem, Crowded, Message, Asked as AskedItem, Unframed, Gone, Greet, Handle, Serve, Queue, NextWaiting, Oversized, LinkLost, Late, Overdue, Due}
 use Rattle.gw_owes.specs.Reconciliations.{settled_of}
 use Rattle.gw_owes.specs.Row.{Known, Row, owing_nothing}
 use Rattle.gw_owes.specs.Terminals.{terminal_at, registration}
@@ -42,12 +42,11 @@ use Rattle.gw_owes.specs.TerminalRows.{terminal_of, terminal_row, is_link_lost}
 abbrev pub settings_of : Core → List Pt
 settings_of core = map (λ (terminal : Terminal). terminal.pt) core.terminals
 
--- only the terminal of this number but for its settings, who is logged out, and the number of the next device request may be changed
+-- only the terminal of this number but for its settings, who is logged out, what waits, and the number of the next device request may be changed
 pub record ChangesTerminalAlone (number : ℕ) (old new : Core) : Type 0 where
   pub others : (other : ℕ) → other ≢ number → slice_get new.terminals other ≡ slice_get old.terminals other
   pub settings : settings_of new ≡ settings_of old
   pub count : length new.terminals ≡ length old.terminals
-  pub waits : new.waits ≡ old.waits
 
 -- an item of a terminal changes that terminal alone
 abbrev pub EachRowChangesItsTerminal : Type 0
@@ -69,6 +68,32 @@ pub record HasNoEffect (known : Known) (number : ℕ) (apdu : ApduValue) : Type 
 -- whatever the terminal
 abbrev pub ForeignHasNoEffect : Type 0
 ForeignHasNoEffect = (known : Known) (number : ℕ) (apdu : ApduValue) → HasNoEffect known number apdu
+
+-- the item is that the first request that waits for a terminal is begun or refused
+abbrev pub is_next_waiting : RoundItem → Bool
+is_next_waiting (Crowded till) = false
+is_next_waiting (Message till bytes) = false
+is_next_waiting (AskedItem till as_read) = false
+is_next_waiting (Unframed till) = false
+is_next_waiting (Gone till) = false
+is_next_waiting (Greet number apdu) = false
+is_next_waiting (Handle number apdu) = false
+is_next_waiting (Serve number till header request) = false
+is_next_waiting (Queue number till header request) = false
+is_next_waiting (NextWaiting number) = true
+is_next_waiting (Oversized number) = false
+is_next_waiting (LinkLost number) = false
+is_next_waiting (Late number) = false
+is_next_waiting (Overdue key) = false
+is_next_waiting (Due number) = false
+
+-- each other item of a terminal leaves what waits
+abbrev pub EachRowLeavesWaits : Type 0
+EachRowLeavesWaits = (known : Known) (item : RoundItem) → is_next_waiting item ≡ false → (terminal_row known item).core.waits ≡ known.core.waits
+
+-- so does each event of a link
+abbrev pub EachLinkLeavesWaits : Type 0
+EachLinkLeavesWaits = (known : Known) (number : ℕ) (event : LinkEvent) → (link_row known number event).core.waits ≡ known.core.waits
 
 -- ---- terminals that aren't linked
 
@@ -137,6 +162,10 @@ EachServedCounts =
     (known : Known) (number till : ℕ) (header : Header) (request : SaleRequest) (terminal : Terminal) → terminal_at known number ≡ Some terminal
     → Awaits number terminal.awaited (terminal_row known (Serve number till header request))
 
+-- and each command of what has waited
+abbrev pub EachNextCounts : Type 0
+EachNextCounts = (known : Known) (number : ℕ) (terminal : Terminal) → terminal_at known number ≡ Some terminal → Awaits number terminal.awaited (terminal_row known (NextWaiting number))
+
 -- on a new link, and on none, nothing is awaited but what is sent with it
 abbrev pub EachLinkCountsAnew : Type 0
 EachLinkCountsAnew = (known : Known) (number : ℕ) (event : LinkEvent) (terminal : Terminal) → terminal_at known number ≡ Some terminal → Awaits number 0 (link_row known number event)
@@ -204,6 +233,7 @@ MayCut known (Gone till) = ⊥
 MayCut known (Greet number apdu) = (fault : PtFault) × (decode_pt_message apdu ≡ Err fault)
 MayCut known (Handle number apdu) = BreaksDialogue known number apdu
 MayCut known (Serve number till header request) = ⊥
+MayCut known (Queue number till header request) = ⊥
 MayCut known (NextWaiting number) = ⊥
 MayCut known (Oversized number) = Unit {0}
 MayCut known (LinkLost number) = ⊥

@@ -1,14 +1,15 @@
 -- What each item of a terminal owes.
 use Rattle.std.specs.Prelude.{ℕ, Bool, true, false, Option, Some, None}
-use Rattle.gw_owes.specs.Items.{RoundItem, Crowded, Message, Asked, Unframed, Gone, Greet, Handle, Serve, NextWaiting, Oversized, LinkLost, Late, Overdue, Due}
+use Rattle.gw_owes.specs.Items.{RoundItem, Crowded, Message, Asked, Unframed, Gone, Greet, Handle, Serve, Queue, NextWaiting, Oversized, LinkLost, Late, Overdue, Due}
 use Rattle.gw_owes.specs.Row.{Known, Row, owing_nothing}
 use Rattle.gw_owes.specs.Links.{LinkIsLost, link_row}
 use Rattle.gw_owes.specs.Greeting.{greet_row, oversized_row}
 use Rattle.gw_owes.specs.Handling.{handle_row}
 use Rattle.gw_owes.specs.Payments.{serve_row}
+use Rattle.gw_owes.specs.WaitingRows.{next_waiting_row}
 use Rattle.gw_owes.specs.Deadlines.{late_row, due_row}
 
--- the terminal that the item is about; a till's item, and that of a request that waits, is about none
+-- the terminal that the item is about; a till's item, and one of a request that waits, is about none
 abbrev pub terminal_of : RoundItem → Option ℕ
 terminal_of (Crowded till) = None
 terminal_of (Message till bytes) = None
@@ -18,6 +19,7 @@ terminal_of (Gone till) = None
 terminal_of (Greet number apdu) = Some number
 terminal_of (Handle number apdu) = Some number
 terminal_of (Serve number till header request) = Some number
+terminal_of (Queue number till header request) = None
 terminal_of (NextWaiting number) = Some number
 terminal_of (Oversized number) = Some number
 terminal_of (LinkLost number) = Some number
@@ -35,6 +37,7 @@ is_link_lost (Gone till) = false
 is_link_lost (Greet number apdu) = false
 is_link_lost (Handle number apdu) = false
 is_link_lost (Serve number till header request) = false
+is_link_lost (Queue number till header request) = false
 is_link_lost (NextWaiting number) = false
 is_link_lost (Oversized number) = false
 is_link_lost (LinkLost number) = true
@@ -42,7 +45,7 @@ is_link_lost (Late number) = false
 is_link_lost (Overdue key) = false
 is_link_lost (Due number) = false
 
--- What an item of a terminal leaves and owes as it begins; other items owe nothing here. No request waits for a terminal yet, so that none is begun.
+-- What an item of a terminal leaves and owes as it begins; other items owe nothing here.
 abbrev pub terminal_row : Known → RoundItem → Row
 terminal_row known (Crowded till) = owing_nothing known
 terminal_row known (Message till bytes) = owing_nothing known
@@ -52,7 +55,8 @@ terminal_row known (Gone till) = owing_nothing known
 terminal_row known (Greet number apdu) = greet_row known number apdu
 terminal_row known (Handle number apdu) = handle_row known number apdu
 terminal_row known (Serve number till header request) = serve_row known number till header request
-terminal_row known (NextWaiting number) = owing_nothing known
+terminal_row known (Queue number till header request) = owing_nothing known
+terminal_row known (NextWaiting number) = next_waiting_row known number
 terminal_row known (Oversized number) = oversized_row known number
 terminal_row known (LinkLost number) = link_row known number LinkIsLost
 terminal_row known (Late number) = late_row known number

@@ -29,8 +29,8 @@ use Rattle.gw_owes.specs.declared.terminal.Service.TheVariants.{Transaction, End
 use Rattle.gw_owes.specs.declared.terminal.Standing.{Standing}
 use Rattle.gw_owes.specs.declared.terminal.Standing.TheVariants.{Unlinked, Registering, Enquiring, Ready, Serving, Aside}
 use Rattle.gw_owes.specs.declared.terminal.Terminal.{Terminal}
-use Rattle.gw_owes.specs.Core.{Core, new_core}
-use Rattle.gw_owes.specs.Items.{RoundItem, Crowded, Message, Asked, Unframed, Gone, Greet, Handle, Serve, NextWaiting, Oversized, LinkLost, Late, Overdue, Due}
+use Rattle.gw_owes.specs.Core.{Wait, Core, new_core}
+use Rattle.gw_owes.specs.Items.{RoundItem, Crowded, Message, Asked, Unframed, Gone, Greet, Handle, Serve, Queue, NextWaiting, Oversized, LinkLost, Late, Overdue, Due}
 use Rattle.gw_owes.specs.Row.{Known, Row}
 use Rattle.gw_owes.specs.Terminals.{terminal_at}
 use Rattle.gw_owes.specs.Links.{is_linked, LinkEvent, LinkIsLost, link_row}
@@ -278,6 +278,7 @@ took_by known (Gone till) = []
 took_by known (Greet number apdu) = []
 took_by known (Handle number apdu) = took_of known (terminal_at known number) (decode_pt_message apdu)
 took_by known (Serve number till header request) = wished_for known number header request
+took_by known (Queue number till header request) = []
 took_by known (NextWaiting number) = []
 took_by known (Oversized number) = []
 took_by known (LinkLost number) = []
@@ -317,10 +318,11 @@ EachLinkBeginsTranscript =
 
 -- ---- after a list of steps
 
--- what happens to terminals: an item is handled, with the cut that it owes, or a link is made, couldn't be made, or is lost
+-- what happens to terminals: an item is handled, with the cut that it owes; a link is made, couldn't be made, or is lost; or other requests wait for them, whatever brings that
 pub data TerminalStep : Type 0 where
   HandlesItem : RoundItem → TerminalStep
   ChangesLink : ℕ → LinkEvent → TerminalStep
+  ChangesWaits : List Wait → TerminalStep
 
 -- the same at its moment
 pub record StepAt : Type 0 where
@@ -336,6 +338,7 @@ core_with_cut known row (Some number) = if owes_cut row.calls then (link_row (re
 abbrev pub core_after : Known → TerminalStep → Core
 core_after known (HandlesItem item) = core_with_cut known (terminal_row known item) (terminal_of item)
 core_after known (ChangesLink number event) = (link_row known number event).core
+core_after known (ChangesWaits waits) = record known.core { waits = waits }
 
 -- this number is that of the terminal
 abbrev pub is_number : ℕ → Option ℕ → Bool
@@ -350,15 +353,17 @@ transcript_with_cut known item transcript = if owes_cut (terminal_row known item
 abbrev pub transcript_after_step : ℕ → Known → TerminalStep → List Carried → List Carried
 transcript_after_step number known (HandlesItem item) transcript = if is_number number (terminal_of item) then transcript_with_cut known item transcript else transcript
 transcript_after_step number known (ChangesLink other event) transcript = if other == number then transcript_anew known other event else transcript
+transcript_after_step number known (ChangesWaits waits) transcript = transcript
 
 -- what is known before a step
 abbrev pub known_before : Known → StepAt → Known
 known_before known first = record known { moment = first.moment }
 
--- the records that an item's row keeps; an event of a link keeps none
+-- the records that an item's row keeps; nothing else keeps any
 abbrev pub kept_in_step : Known → TerminalStep → List Record
 kept_in_step known (HandlesItem item) = records_kept (terminal_row known item).calls
 kept_in_step known (ChangesLink number event) = []
+kept_in_step known (ChangesWaits waits) = []
 
 -- what is known after it
 abbrev pub known_after : Known → StepAt → Known

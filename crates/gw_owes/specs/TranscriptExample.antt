@@ -1,5 +1,5 @@
--- Closed examples of transcripts, message by message: a terminal that becomes ready, and then serves payments, each of which ends in another way, a reversal, a payment that is to stop, ends of day and displays.
-use Rattle.std.specs.Prelude.{◌≡◌, ℕ, true, List, [], ◌∷◌, ◌++◌, Option, Some, None, codes, slice_get}
+-- Closed examples of transcripts, message by message: a terminal that becomes ready, and then serves payments, each of which ends in another way, one that waited, a reversal, a payment that is to stop, ends of day and displays.
+use Rattle.std.specs.Prelude.{◌≡◌, ℕ, pos, true, List, [], ◌∷◌, ◌++◌, Option, Some, None, codes, slice_get}
 use Rattle.std.specs.Option.{option_map}
 use Rattle.gw_base.specs.declared.condition.Condition.TheVariants.{UnavailableDevice}
 use Rattle.sale_values.specs.declared.header.Header.{Header}
@@ -14,15 +14,15 @@ use Rattle.gw_owes.specs.declared.terminal.Service.TheVariants as services
 use Rattle.gw_owes.specs.declared.terminal.Standing.{Standing}
 use Rattle.gw_owes.specs.declared.terminal.Standing.TheVariants.{Unlinked, Enquiring, Ready, Serving, Aside}
 use Rattle.gw_owes.specs.declared.terminal.Terminal.{Terminal}
-use Rattle.gw_owes.specs.Core.{Core}
+use Rattle.gw_owes.specs.Core.{Wait, Core}
 use Rattle.gw_owes.specs.Replies.{refused_results}
-use Rattle.gw_owes.specs.Items.{Handle, Serve}
+use Rattle.gw_owes.specs.Items.{Handle, Serve, NextWaiting}
 use Rattle.gw_owes.specs.Row.{Known}
 use Rattle.gw_owes.specs.Terminals.{registration}
 use Rattle.gw_owes.specs.Links.{LinkIsMade}
 use Rattle.gw_owes.specs.Handling.{enquiry_command}
 use Rattle.gw_owes.specs.TerminalExample.{one_pt, setup_with, header_for}
-use Rattle.gw_owes.specs.Transcript.{Carried, Commanded, Took, Wished, awaited_by, talk_by, some_day, some_display, standing_by, StepAt, HandlesItem, ChangesLink, FollowsTranscript, core_along, transcript_along, known_new}
+use Rattle.gw_owes.specs.Transcript.{Carried, Commanded, Took, Wished, awaited_by, talk_by, some_day, some_display, standing_by, StepAt, HandlesItem, ChangesLink, ChangesWaits, FollowsTranscript, core_along, transcript_along, known_new}
 
 -- ---- what happens
 
@@ -127,6 +127,23 @@ steps_to_approved = steps_to_serving ++ acknowledges 6 ∷ reports 7 0x00 0x01 0
 -- the second payment is begun
 abbrev pub steps_to_serving_again : List StepAt
 steps_to_serving_again = steps_to_approved ++ begins_service 9 (codes "2") ∷ []
+
+-- the second payment, of till 4, which waits for the terminal
+abbrev pub waiting_payment : Wait
+waiting_payment = record {
+  key = record { sale = (header_for (codes "Payment") (codes "T1")).sale; poi = codes "T1"; service = codes "2" };
+  pt = 0;
+  till = 4;
+  deadline = pos 60;
+  header = record (header_for (codes "Payment") (codes "T1")) { service = Some (codes "2") };
+  request = requests.Payment payment_of_10_99;
+}
+
+-- it waits while the first one is served, and is begun once that is approved
+abbrev pub steps_to_next : List StepAt
+steps_to_next =
+    steps_to_serving
+    ++ record { moment = 5; step = ChangesWaits (waiting_payment ∷ []) } ∷ acknowledges 6 ∷ reports 7 0x00 0x01 0x23 ∷ completes 8 ∷ record { moment = 9; step = HandlesItem (NextWaiting 0) } ∷ []
 
 -- it is declined with the code 05, and the greater trace number 200
 abbrev pub steps_to_declined : List StepAt
@@ -318,6 +335,11 @@ pub record ExamplePaymentTranscript : Type 0 where
   pub aside : EndsWithTranscript steps_to_aside aside_transcript (Aside 200 150) (Aside 200 150)
   pub unclear : EndsWithTranscript steps_to_unclear [] (Unlinked None) (Unlinked (Some 12))
 
+-- the transcript of a payment that waited while another was served: it is that of one that is begun at once, with the trace number of the one before it, and it waits no longer
+pub record ExampleWaitingTranscript : Type 0 where
+  pub begun : EndsWithTranscript steps_to_next serving_again_transcript (Serving (services.Transaction 0) 123) (Serving (services.Transaction 2) 123)
+  pub none_left : (core_after_steps steps_to_next).waits ≡ []
+
 -- the transcripts of a reversal, which is approved
 pub record ExampleReversalTranscript : Type 0 where
   pub reversing : EndsWithTranscript steps_to_reversing reversing_transcript (Serving (services.Transaction 0) 123) (Serving (services.Transaction 2) 123)
@@ -350,6 +372,7 @@ pub record ExampleDayTranscript : Type 0 where
 pub record ExampleTranscript : Type 0 where
   pub ready : ExampleReadyTranscript
   pub payments : ExamplePaymentTranscript
+  pub waiting : ExampleWaitingTranscript
   pub reversal : ExampleReversalTranscript
   pub stop : ExampleStopTranscript
   pub days : ExampleDayTranscript

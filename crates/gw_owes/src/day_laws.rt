@@ -36,11 +36,12 @@ pub fn law_days()
     gw_ledger::law_settling();
 }
 
-/// A Reconciliation begins, or gets its reply again, or fails, and it fails with a condition exactly where the condition's cause holds. The
-/// causes have this order, and each says that none before it holds: its key is on record with other content; it is that of the end of
-/// day that is served, which is in progress where it is asked for again, and isn't allowed else; its POIID names no terminal; its till is
-/// logged out there; its type isn't served; there is no room; and of an end of day, the terminal takes no request, or serves another. It
-/// begins only where none of them holds, and an end of day only at a terminal that is ready.
+/// A Reconciliation begins, or waits, or gets its reply again, or fails, and it fails with a condition exactly where the condition's cause
+/// holds. The causes have this order, and each says that none before it holds: its key is on record with other content; it waits or is
+/// that of the end of day that is served, which is in progress where the same is asked for again, and isn't allowed else; its POIID names
+/// no terminal; its till is logged out there; its type isn't served; there is no room; and of an end of day, the terminal takes no request,
+/// or serves another and as many requests wait for it as may. It begins only where none of them holds, and an end of day only at a
+/// terminal that is ready; it waits only where none holds, as an end of day at a terminal that serves another.
 pub fn law_day_refusals()
     ensures replied { EachReconciliationIsReplied }
     ensures cause { EachDayCauseIsReplied }

@@ -15,6 +15,7 @@ mod session_laws;
 mod step_laws;
 mod terminal;
 mod terminal_laws;
+mod waiting_laws;
 
 pub use asker_laws::law_askers;
 pub use day_laws::{law_day_examples, law_day_refusals, law_days};
@@ -35,6 +36,7 @@ pub use terminal_laws::{
     law_awaited, law_dialogues, law_greetings, law_set_aside, law_terminal_alone,
     law_terminal_cuts, law_terminal_row_examples, law_transcript, law_unlinked, law_way_to_ready,
 };
+pub use waiting_laws::{law_waiting_causes, law_waiting_examples, law_waits};
 
 /// A till's bytes are read one way.
 pub fn law_reads()

@@ -1,18 +1,21 @@
 //! Laws of payments and reversals. Each function does nothing: its contract is the law.
 ghost use Rattle.gw_owes.specs.PaymentExample.{ExampleApproved, ExampleBesideDay, ExampleCommandFails, ExampleDeclined, ExampleNotAbove, ExamplePaymentAccepted, ExamplePaymentBegins, ExampleReportsOfOpen, ExampleRoom, ExampleSecondRequest, ExampleUnclearEnd};
-ghost use Rattle.gw_owes.specs.PaymentLaws.{ApprovalIsKept, DeclineIsKept, EachAcceptedBegins, EachAskedBegins, EachAskedSendsNoTerminal, EachBegunIsReversed, EachBegunIsServed, EachIntentIsAsked, EachRecordIsOfAnEnd, EachTillHasItsOutcomeKept, EachTransactionIsKeptFirst, KeyOfDayIsNotAllowed, NotAboveIsSetAside, OnlyAskedBegins, RepeatBeginsNothing, ReportedApprovalIsKept, ReportedDeclineIsKept, UnclearKeepsNothing, UnperformedIsAborted};
+ghost use Rattle.gw_owes.specs.PaymentLaws.{ApprovalIsKept, DeclineIsKept, EachAcceptedBegins, EachAskedBegins, EachAskedSendsNoTerminal, EachBegunIsReversed, EachBegunIsServed, EachIntentIsAsked, EachRecordIsOfAnEnd, EachTillHasItsOutcomeKept, EachTransactionIsKeptFirst, EachNextIsReversed, EachNextIsServed, KeyOfDayIsNotAllowed, NotAboveIsSetAside, OnlyAskedBegins, RepeatBeginsNothing, ReportedApprovalIsKept, ReportedDeclineIsKept, UnclearKeepsNothing, UnperformedIsAborted};
 
 /// A payment and a reversal begin only with their Intent kept first, in the next slot, with the key of the request and the terminal's
 /// last trace number: a payment with the amount that is asked and the terminal's currency, a reversal with the amount, the currency
 /// and the slot of its original; and where an Intent is kept the terminal is asked next, to reverse by the original's receipt number.
 /// A request of a till that is there, whose steps come to the last one, begins so at the terminal that its POIID names, and gets no
-/// reply yet.
+/// reply yet. So does one that has waited for its terminal, where it is the first once that is ready, and its steps that are asked again
+/// don't refuse it.
 pub fn law_payment_begins()
     ensures kept_first { EachTransactionIsKeptFirst }
     ensures asked { EachIntentIsAsked }
     ensures begins { EachAcceptedBegins }
     ensures served { EachBegunIsServed }
     ensures reversed { EachBegunIsReversed }
+    ensures next_served { EachNextIsServed }
+    ensures next_reversed { EachNextIsReversed }
 {}
 
 /// A payment or a reversal ends only with its Outcome kept before its till gets the reply, also where a report resolves it: on its way
@@ -42,10 +45,11 @@ pub fn law_open_reports()
 {}
 
 /// A request on a key that is on record asks no terminal: what a till asks sends none anything, and begins a payment, a reversal or a
-/// reconciliation, at the terminal that its POIID names, only where its key is unknown, and isn't that of the end of day that is served
-/// there. An Abort begins nothing, but may stop what is served under the key that it names; a Display, which asks for no key, may begin;
-/// a Login and a Logout have an item of their own (`law_sessions`). No item but what a till asks brings another. A payment or a
-/// reversal under the key of the end of day that is served isn't allowed.
+/// reconciliation, at the terminal that its POIID names, or joins those that wait for that, only where its key is unknown, doesn't wait and
+/// isn't that of the end of day that is served there. An Abort begins nothing, but may stop what is served under the key that it names, or
+/// takes out what waits under it; a Display, which asks for no key, may begin; a Login and a Logout have an item of their own
+/// (`law_sessions`). No item but what a till asks brings another, unless it refuses what has waited: then the next one is looked at. A
+/// payment or a reversal under the key of the end of day that is served isn't allowed.
 pub fn law_repeats()
     ensures repeat { RepeatBeginsNothing }
     ensures sends { EachAskedSendsNoTerminal }

@@ -4,17 +4,19 @@ ghost use Rattle.gw_owes.specs.DealLaws.{EachLinkKeepsDeals, EachRowKeepsDeals, 
 ghost use Rattle.gw_owes.specs.Dialogues.{EachLinkGivesDialogues, EachRowKeepsDialogues, NewCoreHasDialogues};
 ghost use Rattle.gw_owes.specs.PaymentExample.{ExampleReportBelow, ExampleReportBelowOpen};
 ghost use Rattle.gw_owes.specs.TerminalExample.{ExampleAside, ExampleBecomesReady, ExampleComparedReports, ExampleDayLost, ExampleDayStopped, ExampleDiagnosis, ExampleDisplay, ExampleDisplayLost, ExampleEndOfDay, ExampleEnquiryFails, ExampleFailedSend, ExampleForeignCommand, ExampleLateStop, ExampleLinkFails, ExampleLostServing, ExampleManyTerminals, ExampleOutputs, ExampleOutside, ExampleRegistrationFails, ExampleReportsLast, ExampleSilence, ExampleStop, ExampleStrayMessages, ExampleUnlinked};
-ghost use Rattle.gw_owes.specs.TerminalLaws.{AbsentIsOwedNothing, AsideStaysAside, DueIsLinked, EachAckTakesOne, EachAsideHasCause, EachCauseCuts, EachCutHasCause, EachLinkChangesItsTerminal, EachLinkCountsAnew, EachMessageCounts, EachMessageIsGreeted, EachRowChangesItsTerminal, EachServedCounts, EachServedLeavesLast, EnquiredIsReady, EnquiredIsSetAside, ForeignHasNoEffect, GreetingChangesNothing, GreetingsAreSpelled, LateNackIsUnclear, NackAtMostIsUnclear, LinkedIsRegistered, NoLinkEventCuts, NoLinkEventSetsAside, RegisteredIsEnquired, UnlinkedIsOwedNothing};
+ghost use Rattle.gw_owes.specs.TerminalLaws.{AbsentIsOwedNothing, AsideStaysAside, DueIsLinked, EachAckTakesOne, EachAsideHasCause, EachCauseCuts, EachCutHasCause, EachLinkChangesItsTerminal, EachLinkCountsAnew, EachMessageCounts, EachLinkLeavesWaits, EachMessageIsGreeted, EachNextCounts, EachRowChangesItsTerminal, EachRowLeavesWaits, EachServedCounts, EachServedLeavesLast, EnquiredIsReady, EnquiredIsSetAside, ForeignHasNoEffect, GreetingChangesNothing, GreetingsAreSpelled, LateNackIsUnclear, NackAtMostIsUnclear, LinkedIsRegistered, NoLinkEventCuts, NoLinkEventSetsAside, RegisteredIsEnquired, UnlinkedIsOwedNothing};
 ghost use Rattle.gw_owes.specs.Transcript.{EachLinkBeginsTranscript, EachRowFollowsTranscript, EachStepFollowsTranscript, NewCoreFollowsTranscript};
 ghost use Rattle.gw_owes.specs.TranscriptExample.{ExampleTranscript};
 
 /// An item of a terminal, and an event of its link, changes nothing that is remembered but this terminal, and never its
-/// settings; who is logged out is changed by a Login and a Logout alone (`law_sessions`), and the number of the next device request by a
-/// device request alone (`law_device_requests`). A greeting changes nothing at all; an APDU outside the grammar, and a command of the
+/// settings; who is logged out is changed by a Login and a Logout alone (`law_sessions`), the number of the next device request by a
+/// device request alone (`law_device_requests`), and what waits only where the first that waits for it is begun or refused. A greeting changes nothing at all; an APDU outside the grammar, and a command of the
 /// terminal's own, have no effect once they are greeted.
 pub fn law_terminal_alone()
     ensures rows { EachRowChangesItsTerminal }
     ensures links { EachLinkChangesItsTerminal }
+    ensures waits { EachRowLeavesWaits }
+    ensures waits_links { EachLinkLeavesWaits }
     ensures greeting { GreetingChangesNothing }
     ensures foreign { ForeignHasNoEffect }
 {}
@@ -32,6 +34,7 @@ pub fn law_awaited()
     ensures takes { EachAckTakesOne }
     ensures counts { EachMessageCounts }
     ensures served { EachServedCounts }
+    ensures next { EachNextCounts }
     ensures anew { EachLinkCountsAnew }
     ensures late { LateNackIsUnclear }
     ensures most { NackAtMostIsUnclear }
@@ -94,9 +97,10 @@ pub fn law_dialogues()
 /// What is remembered of a terminal is a few facts, which each item moves on. They are what the transcript of its link says, the
 /// flat list of all that was sent and taken on it, and of the stops that were wished: the dialogue that runs, how many Acks and Nacks
 /// are awaited, and the standing. So it is as a run begins; each item of the terminal that cuts no connection, and each event of its
-/// link, leaves it so; and so it is after every list of such steps from there, with the cuts among them, whatever brings them. Examples
-/// are computed: a terminal that becomes ready, and then serves payments, each of which ends in another way, a reversal, a payment
-/// that is to stop and approves all the same, with a late refusal that may be that of its stop, ends of day and displays.
+/// link, leaves it so; and so it is after every list of such steps from there, with the cuts among them, whatever brings them, and
+/// whatever waits. Examples are computed: a terminal that becomes ready, and then serves payments, each of which ends in another way,
+/// one that has waited, a reversal, a payment that is to stop and approves all the same, with a late refusal that may be that of its
+/// stop, ends of day and displays.
 ///
 /// No more Acks and Nacks are awaited than stops were sent on the link, and one while the command of the dialogue that runs isn't
 /// acknowledged; at the greatest count, which doesn't fall, that one may stay. So where no stop was sent on it, each message is handed

@@ -1,7 +1,7 @@
 -- How far the dialogue of a played terminal is, as items and exchanges change that bring nothing of it.
 use Rattle.std.proofs.Common.{◌≡◌, ◌≢◌, ℕ, ◌+◌, Bool, true, false, List, [], ◌∷◌, ◌++◌, length, refl, sym, ◌∙◌, ap, subst, append-nil, eqb-true}
 use Rattle.std.proofs.lemmas.Bool.{eq-eqb, or_from, or_parts}
-use Rattle.std.specs.Prelude.{◌||◌, ◌==◌, if◌then◌else◌, is_some, map, nat_lt, Option}
+use Rattle.std.specs.Prelude.{◌||◌, ◌==◌, not, if◌then◌else◌, is_some, map, nat_lt, Option}
 use Rattle.std.specs.List.{flat_map, list_any}
 use Rattle.gw_base.specs.declared.key.Key.{Key}
 use Rattle.gw_site.specs.Outside.{Connection, is_connected, without, hears, heard_on}
@@ -26,7 +26,7 @@ use Rattle.gw_owes.specs.declared.terminal.Terminal.{Terminal}
 use Rattle.gw_owes.specs.Calls.{Ask, OwedCall, SendPt}
 use Rattle.gw_owes.specs.Core.{Core, Wait}
 use Rattle.gw_owes.specs.Events.{till_opened_items, has_bad_length, decoded_items, is_oversized, apdu_items, decoded_apdu_items, for_each_terminal, waits_by_deadline, items_due}
-use Rattle.gw_owes.specs.Items.{RoundItem, Crowded, Message as MessageItem, Asked, Unframed, Gone, Greet, Handle, Serve, NextWaiting, Oversized, LinkLost, Late, Overdue, Due}
+use Rattle.gw_owes.specs.Items.{RoundItem, Crowded, Message as MessageItem, Asked, Unframed, Gone, Greet, Handle, Serve, Queue, NextWaiting, Oversized, LinkLost, Late, Overdue, Due}
 use Rattle.gw_rules.proofs.StageLemmas.{no-true}
 use Rattle.gw_books.specs.Past.{SentCommand}
 use Rattle.gw_books.proofs.Holding.{is_handle}
@@ -46,6 +46,7 @@ none-pending number (Gone till ∷ items) none = none-pending number items none
 none-pending number (Greet pt apdu ∷ items) none = none-pending number items none
 none-pending number (Handle pt apdu ∷ items) none = no-true (sym none)
 none-pending number (Serve pt till header request ∷ items) none = none-pending number items none
+none-pending number (Queue pt till header request ∷ items) none = none-pending number items none
 none-pending number (NextWaiting pt ∷ items) none = none-pending number items none
 none-pending number (Oversized pt ∷ items) none = none-pending number items none
 none-pending number (LinkLost pt ∷ items) none = none-pending number items none
@@ -68,6 +69,7 @@ pending-append number (Handle pt apdu ∷ items) more = by_test (pt == number) (
     by_test true e = ap (λ l. apdu ∷ l) e
     by_test false e = e
 pending-append number (Serve pt till header request ∷ items) more = pending-append number items more
+pending-append number (Queue pt till header request ∷ items) more = pending-append number items more
 pending-append number (NextWaiting pt ∷ items) more = pending-append number items more
 pending-append number (Oversized pt ∷ items) more = pending-append number items more
 pending-append number (LinkLost pt ∷ items) more = pending-append number items more
@@ -159,18 +161,22 @@ decoded-pending number pt decoded core =
     ∙ ap (λ l. pending number (flat_map (apdu_items pt) decoded.apdus) ++ l) (oversized-pending number pt (is_oversized (decode_apdu decoded.rest)))
     ∙ append-nil (pending number (flat_map (apdu_items pt) decoded.apdus))
 
--- none of them brings a charge
-apdus-bring-none : (pt : ℕ) (apdus : List ApduValue) → none_pass brings_charge (flat_map (apdu_items pt) apdus)
+-- none of them brings a charge, since they handle what one terminal has said
+apdus-bring-none : (pt : ℕ) (apdus : List ApduValue) → none_pass (brings_charge pt) (flat_map (apdu_items pt) apdus)
 apdus-bring-none pt [] = refl
-apdus-bring-none pt (apdu ∷ apdus) = apdus-bring-none pt apdus
-
-pub decoded-bring-none : (pt : ℕ) (decoded : DecodedApdus) (core : Core) → none_pass brings_charge (decoded_apdu_items pt decoded ++ items_due core)
-decoded-bring-none pt decoded core =
-    none-append brings_charge (decoded_apdu_items pt decoded) (items_due core)
-    (none-append brings_charge (flat_map (apdu_items pt) decoded.apdus) (if is_oversized (decode_apdu decoded.rest) then Oversized pt ∷ [] else []) (apdus-bring-none pt decoded.apdus) (by_test (is_oversized (decode_apdu decoded.rest))))
-    (none-due brings_charge core (λ n. refl) (λ key. refl) (λ n. refl))
+apdus-bring-none pt (apdu ∷ apdus) = by_test (pt == pt) (eq-eqb pt pt refl) (apdus-bring-none pt apdus)
   where
-    by_test : (test : Bool) → none_pass brings_charge (if test then Oversized pt ∷ [] else [])
+    by_test : (test : Bool) → test ≡ true → none_pass (brings_charge pt) (flat_map (apdu_items pt) apdus) → (not test || (not test || list_any (brings_charge pt) (flat_map (apdu_items pt) apdus))) ≡ false
+    by_test true e h = h
+    by_test false e h = no-true e
+
+pub decoded-bring-none : (pt : ℕ) (decoded : DecodedApdus) (core : Core) → none_pass (brings_charge pt) (decoded_apdu_items pt decoded ++ items_due core)
+decoded-bring-none pt decoded core =
+    none-append (brings_charge pt) (decoded_apdu_items pt decoded) (items_due core)
+    (none-append (brings_charge pt) (flat_map (apdu_items pt) decoded.apdus) (if is_oversized (decode_apdu decoded.rest) then Oversized pt ∷ [] else []) (apdus-bring-none pt decoded.apdus) (by_test (is_oversized (decode_apdu decoded.rest))))
+    (none-due (brings_charge pt) core (λ n. refl) (λ key. refl) (λ n. refl))
+  where
+    by_test : (test : Bool) → none_pass (brings_charge pt) (if test then Oversized pt ∷ [] else [])
     by_test true = refl
     by_test false = refl
 

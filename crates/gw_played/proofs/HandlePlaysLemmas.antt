@@ -75,9 +75,10 @@ use Rattle.gw_books.proofs.FrameRowLemmas.{each-in-place}
 use Rattle.gw_books.proofs.Holding.{is_handle}
 use Rattle.gw_books.proofs.ListLemmas.{In, bytes-are, found-in, in-either}
 use Rattle.gw_played.specs.Played.{PlacedExchange, book_along, exchanges_in}
-use Rattle.gw_played.proofs.Playing.{IsLastServed, IsLeft, IsOfCommand, IsServing, IsTransacting, IsPeer, IsPeerIn, IsQuiet, IsTalking, PeerLaws, Plays, PlaysItem, WasLinked, ask_owed, brings_charge, met_in, pending}
+use Rattle.gw_played.proofs.Playing.{IsLastServed, IsLeft, IsOfCommand, IsServing, IsTransacting, IsPeer, IsPeerIn, IsQuiet, IsTalking, PeerLaws, Plays, PlaysItem, WasLinked, ask_owed, ChargeNone, met_in, pending}
 use Rattle.gw_played.proofs.HonestGrowLemmas.{honest-ends}
 use Rattle.gw_played.proofs.PeerEndLemmas.{approved-true, declined-true, heard_now, reported-true}
+use Rattle.gw_played.proofs.PeerFrameLemmas.{later-charge-none}
 use Rattle.gw_played.proofs.PeerTalkLemmas.{GoesOn, IsAsked, MayEnd, kind-asked, same-kind}
 use Rattle.gw_played.proofs.TakenMessageLemmas.{no-true, own-pending, other-pending, peer-stays, first-left, Goes, Stops, Talks, talks}
 use Rattle.gw_played.proofs.HandleRowLemmas.{AreMild, neither, mild-none, mild-cut, mild-enquiry, mild-stop, mild-replies, mild-kept, asks-no-more, own-cut, own-enquiry, registering-on, enquiring-on, serving-on, day-on, display-on, on-unshown, end-unshown, none-ends, charge-asked, charge-ends}
@@ -149,7 +150,7 @@ module _ (laws : PeerLaws) (settings : List ℕ → Setting) (v : View) (past : 
     heard = λ other terminal found connected. heard-now other terminal (onto other terminal found) connected;
     calm = λ later. calm-now;
     uncharged = λ later other. mild.charges_none other;
-    served = λ later. sym (ap (list_any brings_charge) items_are) ∙ plays.served handles;
+    served = λ later. later-charge-none (Handle number apdu) rest (subst ChargeNone items_are (plays.served handles));
     heard_before = plays.heard_before;
     falling = plays.falling;
     linked_before = plays.linked_before;
@@ -678,4 +679,4 @@ handle-plays laws number apdu settings log v past exchanges rest ordered next b 
     let row : Plays settings (begun v.scene (row_at v.scene (Handle number apdu)) rest) (record past { occasion = occasion_decoded number (decode_pt_message apdu); ends = ends_of v.scene past (occasion_decoded number (decode_pt_message apdu)) ++ past.ends }) exchanges =
     subst (λ (r : Row). Plays settings (begun v.scene r rest) (record past { occasion = occasion_decoded number (decode_pt_message apdu); ends = ends_of v.scene past (occasion_decoded number (decode_pt_message apdu)) ++ past.ends }) exchanges)
     (sym (row-is v.scene k (Handle number apdu))) gives in
-    subst (λ (items : List RoundItem). Plays settings (begin v.scene items) (record past { occasion = first_occasion items; ends = ends_of v.scene past (first_occasion items) ++ past.ends }) exchanges) (sym items_are) row
+    subst (λ (items : List RoundItem). Plays settings (begin v.scene items) (record past { occasion = first_occasion v.scene.core items; ends = ends_of v.scene past (first_occasion v.scene.core items) ++ past.ends }) exchanges) (sym items_are) row

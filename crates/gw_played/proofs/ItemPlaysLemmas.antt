@@ -1,6 +1,6 @@
 -- What an item leaves that handles nothing which a terminal has said, each but Handle and Serve: every terminal is as far as it was, or isn't linked any more.
 use Rattle.std.proofs.Common.{◌≡◌, ℕ, ◌+◌, Bool, true, false, List, [], ◌∷◌, ◌++◌, refl, sym, ◌∙◌, ap, subst, arith, inl, inr, eqb-true}
-use Rattle.std.proofs.lemmas.Bool.{leb-true, or_parts}
+use Rattle.std.proofs.lemmas.Bool.{leb-true}
 use Rattle.std.specs.Prelude.{◌⊎◌, ◌==◌, ◌&&◌, ◌||◌, nat_le, slice_get, Option, Some, None, Result, Ok, Err}
 use Rattle.std.specs.List.{list_any}
 use Rattle.gw_base.specs.declared.key.Key.{Key}
@@ -21,7 +21,7 @@ use Rattle.gw_owes.specs.Calls.{Sending, Acknowledge, Refuse, OwedCall, SendPt, 
 use Rattle.gw_owes.specs.Core.{Core}
 use Rattle.gw_owes.specs.Deadlines.{is_late, is_due, is_due_by}
 use Rattle.gw_owes.specs.Greeting.{greeting, sending_calls, greet_decoded}
-use Rattle.gw_owes.specs.Items.{RoundItem, Crowded, Message as MessageItem, Asked, Unframed, Gone, Greet, Handle, Serve, NextWaiting, Oversized, LinkLost, Late, Overdue, Due}
+use Rattle.gw_owes.specs.Items.{RoundItem, Crowded, Message as MessageItem, Asked, Unframed, Gone, Greet, Handle, Serve, Queue, NextWaiting, Oversized, LinkLost, Late, Overdue, Due}
 use Rattle.gw_owes.specs.Links.{cutting}
 use Rattle.gw_owes.specs.ReadAs.{ReadAs}
 use Rattle.gw_owes.specs.RecordLaws.{IsInOrder, IsReadItem}
@@ -49,8 +49,8 @@ use Rattle.gw_books.proofs.FrameRowLemmas.{each-in-place}
 use Rattle.gw_books.proofs.Holding.{charge_owed, is_handle}
 use Rattle.gw_books.proofs.QuietRowLemmas.{asked-ends-none}
 use Rattle.gw_played.specs.Played.{PlacedExchange, book_along}
-use Rattle.gw_played.proofs.PeerFrameLemmas.{TerminalPlays, RowPlays, PlaysBetween, WasSo, terminal-stays}
-use Rattle.gw_played.proofs.Playing.{pending, IsPeer, IsHonestFor, ask_owed, link_owed, brings_charge, Plays, PlaysItem}
+use Rattle.gw_played.proofs.PeerFrameLemmas.{TerminalPlays, RowPlays, PlaysBetween, WasSo, terminal-stays, later-charge-none}
+use Rattle.gw_played.proofs.Playing.{pending, IsPeer, IsHonestFor, ask_owed, link_owed, brings_charge, ChargeNone, Plays, PlaysItem}
 
 -- ---- an item that handles nothing said
 
@@ -64,6 +64,7 @@ pending-same (Gone till) rest none number = refl
 pending-same (Greet pt apdu) rest none number = refl
 pending-same (Handle pt apdu) rest none number = no-true (sym none)
 pending-same (Serve pt till header request) rest none number = refl
+pending-same (Queue pt till header request) rest none number = refl
 pending-same (NextWaiting pt) rest none number = refl
 pending-same (Oversized pt) rest none number = refl
 pending-same (LinkLost pt) rest none number = refl
@@ -72,11 +73,11 @@ pending-same (Overdue key) rest none number = refl
 pending-same (Due pt) rest none number = refl
 
 -- what holds along the course once such an item has begun that brings no end
-row-plays : (settings : List ℕ → Setting) (v : View) (past : Past) (exchanges : List ℕ → List PlacedExchange) (item : RoundItem) (rest : List RoundItem) (row : Row)
-    → is_handle item ≡ false → ends_of v.scene past (occasion_of item) ≡ [] → v.items ≡ item ∷ rest → Plays settings v past exchanges → RowPlays settings exchanges v.scene.outside past rest row
-    → Plays settings (begun v.scene row rest) (record past { occasion = occasion_of item; ends = ends_of v.scene past (occasion_of item) ++ past.ends }) exchanges
+pub row-plays : (settings : List ℕ → Setting) (v : View) (past : Past) (exchanges : List ℕ → List PlacedExchange) (item : RoundItem) (rest : List RoundItem) (row : Row)
+    → is_handle item ≡ false → ends_of v.scene past (occasion_of v.scene.core item) ≡ [] → v.items ≡ item ∷ rest → Plays settings v past exchanges → RowPlays settings exchanges v.scene.outside past rest row
+    → Plays settings (begun v.scene row rest) (record past { occasion = occasion_of v.scene.core item; ends = ends_of v.scene past (occasion_of v.scene.core item) ++ past.ends }) exchanges
 row-plays settings v past exchanges item rest row none ends e p r =
-    subst (λ (ends : List HeardEnd). Plays settings (begun v.scene row rest) (record past { occasion = occasion_of item; ends = ends ++ past.ends }) exchanges) (sym ends) (record {
+    subst (λ (ends : List HeardEnd). Plays settings (begun v.scene row rest) (record past { occasion = occasion_of v.scene.core item; ends = ends ++ past.ends }) exchanges) (sym ends) (record {
       peers = λ clear number terminal found linked uncut. (r.each number terminal found).peer linked uncut;
       unlinked = λ number terminal due found is. (r.each number terminal found).unlinked due is;
       linking = r.linking;
@@ -93,7 +94,7 @@ row-plays settings v past exchanges item rest row none ends e p r =
       honest = λ poi. honest (p.honest poi);
     })
   where
-    honest : {poi : List ℕ} → IsHonestFor past poi (book_along (settings poi) poi (exchanges poi)) → IsHonestFor (record past { occasion = occasion_of item }) poi (book_along (settings poi) poi (exchanges poi))
+    honest : {poi : List ℕ} → IsHonestFor past poi (book_along (settings poi) poi (exchanges poi)) → IsHonestFor (record past { occasion = occasion_of v.scene.core item }) poi (book_along (settings poi) poi (exchanges poi))
     honest {poi} h = record {
       commanded = λ entry within. (let c = h.commanded entry within in record { poi_is = c.poi_is; command = c.command; sent = c.sent; command_poi = c.command_poi; cause_is = c.cause_is; place_is = c.place_is });
       caused = h.caused;
@@ -116,13 +117,13 @@ terminal-rests settings v past exchanges number terminal found clear none p = re
 }
 
 -- what such an item begins with
-plays-between : (settings : List ℕ → Setting) (v : View) (past : Past) (exchanges : List ℕ → List PlacedExchange) (item : RoundItem) (rest : List RoundItem) → is_handle item ≡ false → Begins v → v.items ≡ item ∷ rest → Plays settings v past exchanges
+pub plays-between : (settings : List ℕ → Setting) (v : View) (past : Past) (exchanges : List ℕ → List PlacedExchange) (item : RoundItem) (rest : List RoundItem) → is_handle item ≡ false → Begins v → v.items ≡ item ∷ rest → Plays settings v past exchanges
     → PlaysBetween settings exchanges v.scene past item rest
 plays-between settings v past exchanges item rest none b e p = record {
   each = λ number terminal found.
       terminal-stays settings exchanges v.scene.outside past v.items rest [] number terminal terminal refl refl refl (ap (pending number) e ∙ pending-same item rest none number) refl
       (terminal-rests settings v past exchanges number terminal found (clear-where v.scene.stage is_round refl b.idle.round) b.idle.calls p);
-  served = λ handles. ap (list_any brings_charge) (sym e) ∙ p.served (ap (list_any is_handle) e ∙ ap (λ b. b || list_any is_handle rest) none ∙ handles);
+  served = λ handles. subst ChargeNone e (p.served (ap (list_any is_handle) e ∙ ap (λ b. b || list_any is_handle rest) none ∙ handles));
 }
 
 -- what the row of an item leaves, by what it begins with
@@ -131,7 +132,7 @@ LeavesPlaying item =
     (settings : List ℕ → Setting) (exchanges : List ℕ → List PlacedExchange) (scene : Scene) (setup : Setup) (past : Past) (rest : List RoundItem)
     → PlaysBetween settings exchanges scene past item rest → IsInOrder (known_in scene setup) → IsReadItem setup item → RowPlays settings exchanges scene.outside past rest (row_of scene.outside.tills (known_in scene setup) item)
 
-pub item-plays : (item : RoundItem) → is_handle item ≡ false → ((scene : Scene) (past : Past) → ends_of scene past (occasion_of item) ≡ []) → LeavesPlaying item → PlaysItem item
+pub item-plays : (item : RoundItem) → is_handle item ≡ false → ((scene : Scene) (past : Past) → ends_of scene past (occasion_of scene.core item) ≡ []) → LeavesPlaying item → PlaysItem item
 item-plays item none ends leaves settings log v past exchanges rest o next b e p =
     let k = round-setup v o.agrees.run b.idle.round in
     let between = plays-between settings v past exchanges item rest none b e p in
@@ -176,8 +177,8 @@ module _ (settings : List ℕ → Setting) (exchanges : List ℕ → List Placed
   Leaves row = RowPlays settings exchanges scene.outside past rest row
 
   -- no later item begins a command that may charge a card, where one handles what was said
-  later-served : list_any is_handle rest ≡ true → list_any brings_charge rest ≡ false
-  later-served handles = (or_parts (brings_charge item) (list_any brings_charge rest) (between.served handles)).1
+  later-served : list_any is_handle rest ≡ true → ChargeNone rest
+  later-served handles = later-charge-none item rest (between.served handles)
 
   -- a terminal that was there so
   pub so-plays : (items : List RoundItem) (calls : List OwedCall) (number : ℕ) (terminal : Terminal) → WasSo scene.core number terminal → pending number rest ≡ pending number items → ask_owed number calls ≡ false
@@ -312,7 +313,7 @@ asked-leaves till as_read settings exchanges scene setup past rest between =
     let known : Known = known_in scene setup in
     let brings : BringsNoneSaid rest (begun_by known till as_read) =
     form-begun (λ (items : List RoundItem). BringsNoneSaid rest items) known till (record { pending_same = λ number. refl; handles = λ handles. handles }) as_read
-    (λ number header request is. record { pending_same = λ other. refl; handles = λ handles. handles }) in
+    (λ number header request is. record { pending_same = λ other. refl; handles = λ handles. handles }) (λ number header request is. record { pending_same = λ other. refl; handles = λ handles. handles }) in
     let reply : Option ReplyValue = reply_to known as_read in
     let plain : IsPlain (reply_calls_to (Some till) reply) = replies-plain (Some till) reply in
     record {
@@ -322,7 +323,7 @@ asked-leaves till as_read settings exchanges scene setup past rest between =
       linking = λ number links. no-true (sym (replies-link-none (Some till) reply number) ∙ links);
       handles = brings.handles;
       uncharged = λ handles number. plain.charges_none number;
-      served = λ handles. no-true (sym (between.served (brings.handles handles)));
+      served = λ handles. no-true (sym (between.served (brings.handles handles)).1);
     }
 
 pub asked-plays : (till : ℕ) (as_read : ReadAs) → PlaysItem (Asked till as_read)
@@ -345,12 +346,6 @@ greet-leaves pt apdu settings exchanges scene setup past rest between order read
 
 pub greet-plays : (pt : ℕ) (apdu : ApduValue) → PlaysItem (Greet pt apdu)
 greet-plays pt apdu = item-plays (Greet pt apdu) refl (λ scene past. refl) (greet-leaves pt apdu)
-
-pub next-waiting-plays : (pt : ℕ) → PlaysItem (NextWaiting pt)
-next-waiting-plays pt = item-plays (NextWaiting pt) refl (λ scene past. refl) (λ settings exchanges scene setup past rest between order read. nothing-plays settings exchanges scene past (NextWaiting pt) rest between)
-
-pub overdue-plays : (key : Key) → PlaysItem (Overdue key)
-overdue-plays key = item-plays (Overdue key) refl (λ scene past. refl) (λ settings exchanges scene setup past rest between order read. nothing-plays settings exchanges scene past (Overdue key) rest between)
 
 pub oversized-plays : (pt : ℕ) → PlaysItem (Oversized pt)
 oversized-plays pt = item-plays (Oversized pt) refl (λ scene past. refl) (λ settings exchanges scene setup past rest between order read.
@@ -399,22 +394,24 @@ begin-plays each settings log v past exchanges o next b p = by_items v.items ref
     by_items [] e = no-true (sym (ap (may_begin v.scene) e) ∙ b.first)
     by_items (item ∷ rest) e = each item settings log v past exchanges rest o next b e p
 
--- each item does, where Handle and Serve do
-pub each-item-plays : ((pt : ℕ) (apdu : ApduValue) → PlaysItem (Handle pt apdu)) → ((pt till : ℕ) (header : Header) (request : SaleRequest) → PlaysItem (Serve pt till header request)) → (item : RoundItem) → PlaysItem item
-each-item-plays handled served (Crowded till) = crowded-plays till
-each-item-plays handled served (MessageItem till bytes) = message-plays till bytes
-each-item-plays handled served (Asked till as_read) = asked-plays till as_read
-each-item-plays handled served (Unframed till) = unframed-plays till
-each-item-plays handled served (Gone till) = gone-plays till
-each-item-plays handled served (Greet pt apdu) = greet-plays pt apdu
-each-item-plays handled served (Handle pt apdu) = handled pt apdu
-each-item-plays handled served (Serve pt till header request) = served pt till header request
-each-item-plays handled served (NextWaiting pt) = next-waiting-plays pt
-each-item-plays handled served (Oversized pt) = oversized-plays pt
-each-item-plays handled served (LinkLost pt) = link-lost-plays pt
-each-item-plays handled served (Late pt) = late-plays pt
-each-item-plays handled served (Overdue key) = overdue-plays key
-each-item-plays handled served (Due pt) = due-plays pt
+-- each item does, where those do that handle what was said, that serve, and that look at what waits
+pub each-item-plays : ((pt : ℕ) (apdu : ApduValue) → PlaysItem (Handle pt apdu)) → ((pt till : ℕ) (header : Header) (request : SaleRequest) → PlaysItem (Serve pt till header request))
+    → ((pt till : ℕ) (header : Header) (request : SaleRequest) → PlaysItem (Queue pt till header request)) → ((pt : ℕ) → PlaysItem (NextWaiting pt)) → ((key : Key) → PlaysItem (Overdue key)) → (item : RoundItem) → PlaysItem item
+each-item-plays handled served queued next overdue (Crowded till) = crowded-plays till
+each-item-plays handled served queued next overdue (MessageItem till bytes) = message-plays till bytes
+each-item-plays handled served queued next overdue (Asked till as_read) = asked-plays till as_read
+each-item-plays handled served queued next overdue (Unframed till) = unframed-plays till
+each-item-plays handled served queued next overdue (Gone till) = gone-plays till
+each-item-plays handled served queued next overdue (Greet pt apdu) = greet-plays pt apdu
+each-item-plays handled served queued next overdue (Handle pt apdu) = handled pt apdu
+each-item-plays handled served queued next overdue (Serve pt till header request) = served pt till header request
+each-item-plays handled served queued next overdue (Queue pt till header request) = queued pt till header request
+each-item-plays handled served queued next overdue (NextWaiting pt) = next pt
+each-item-plays handled served queued next overdue (Oversized pt) = oversized-plays pt
+each-item-plays handled served queued next overdue (LinkLost pt) = link-lost-plays pt
+each-item-plays handled served queued next overdue (Late pt) = late-plays pt
+each-item-plays handled served queued next overdue (Overdue key) = overdue key
+each-item-plays handled served queued next overdue (Due pt) = due-plays pt
 
 -- ---- a message is read
 
@@ -428,21 +425,22 @@ ReadPlays =
 record HasSame (items others : List RoundItem) : Type 0 where
   pending_same : (number : ℕ) → pending number items ≡ pending number others
   handles : list_any is_handle others ≡ list_any is_handle items
-  charges : list_any brings_charge items ≡ list_any brings_charge others
+  charges : (one : ℕ) → list_any (brings_charge one) items ≡ list_any (brings_charge one) others
 
 all-same : (items : List RoundItem) → HasSame items items
-all-same items = record { pending_same = λ number. refl; handles = refl; charges = refl }
+all-same items = record { pending_same = λ number. refl; handles = refl; charges = λ one. refl }
 
 read-same : (as_read : ReadAs) (items : List RoundItem) → HasSame items (read_first as_read items)
 read-same as_read [] = all-same []
 read-same as_read (Crowded till ∷ items) = all-same (Crowded till ∷ items)
-read-same as_read (MessageItem till bytes ∷ items) = record { pending_same = λ number. refl; handles = refl; charges = refl }
+read-same as_read (MessageItem till bytes ∷ items) = record { pending_same = λ number. refl; handles = refl; charges = λ one. refl }
 read-same as_read (Asked till other ∷ items) = all-same (Asked till other ∷ items)
 read-same as_read (Unframed till ∷ items) = all-same (Unframed till ∷ items)
 read-same as_read (Gone till ∷ items) = all-same (Gone till ∷ items)
 read-same as_read (Greet pt apdu ∷ items) = all-same (Greet pt apdu ∷ items)
 read-same as_read (Handle pt apdu ∷ items) = all-same (Handle pt apdu ∷ items)
 read-same as_read (Serve pt till header request ∷ items) = all-same (Serve pt till header request ∷ items)
+read-same as_read (Queue pt till header request ∷ items) = all-same (Queue pt till header request ∷ items)
 read-same as_read (NextWaiting pt ∷ items) = all-same (NextWaiting pt ∷ items)
 read-same as_read (Oversized pt ∷ items) = all-same (Oversized pt ∷ items)
 read-same as_read (LinkLost pt ∷ items) = all-same (LinkLost pt ∷ items)
@@ -465,7 +463,7 @@ read-plays settings log v past exchanges as_read o r p =
       heard = λ number terminal found connected. (each number terminal found).heard connected;
       calm = λ handles. p.calm (sym same.handles ∙ handles);
       uncharged = λ handles number. refl;
-      served = λ handles. sym same.charges ∙ p.served (sym same.handles ∙ handles);
+      served = λ handles. (let none = p.served (sym same.handles ∙ handles) in (none.0, sym (same.charges none.0) ∙ none.1));
       heard_before = p.heard_before;
       falling = p.falling;
       linked_before = p.linked_before;

@@ -19,4 +19,5 @@ pub mod SentPtPlaysLemmas
 pub mod ServePlaysLemmas
 pub mod TakenMessageLemmas
 pub mod TurnPlaysLemmas
+pub mod WaitingPlaysLemmas
 pub mod WholeBookLemmas

@@ -40,7 +40,7 @@ use Rattle.gw_books.proofs.ListLemmas.{In, bytes-itself}
 use Rattle.gw_played.specs.Played.{PlacedExchange, exchanges_in, book_along}
 use Rattle.gw_played.proofs.HonestGrowLemmas.{honest-place, honest-link}
 use Rattle.gw_played.proofs.PeerSendLemmas.{new-link-quiet}
-use Rattle.gw_played.proofs.Playing.{pending, IsQuiet, IsPeerIn, ask_owed, link_owed, IsToBeAsked, IsPeer, IsHonestFor, WasLinked, brings_charge, Plays, PeerLaws, PlaysTurn}
+use Rattle.gw_played.proofs.Playing.{pending, IsQuiet, IsPeerIn, ask_owed, link_owed, IsToBeAsked, IsPeer, IsHonestFor, WasLinked, ChargeNone, Plays, PeerLaws, PlaysTurn}
 use Rattle.gw_played.proofs.SentPtPlaysLemmas.{AreSpare, all-there, apart-pois, by-poi, done-other, done-own, done-places, done_at, falling-later, poi-is, pt-at, reply-spare}
 
 -- ---- connections
@@ -109,7 +109,7 @@ module _ (settings : List ℕ → Setting) (v : View) (past : Past) (exchanges :
     heard = λ number terminal found connected. heard number terminal (left-there number terminal (now number terminal found)) connected;
     calm = λ handles. p.calm (sym (ap (list_any is_handle) same_items) ∙ handles);
     uncharged = λ handles number. spare.charges_none number;
-    served = λ handles. ap (list_any brings_charge) same_items ∙ p.served (sym (ap (list_any is_handle) same_items) ∙ handles);
+    served = λ handles. subst ChargeNone (sym same_items) (p.served (sym (ap (list_any is_handle) same_items) ∙ handles));
     heard_before = let before = p.heard_before in omega (arith, before);
     falling = falling-later past.place past.commands p.falling;
     linked_before = λ link within. let before = p.linked_before link within in omega (arith, before);

@@ -1,5 +1,6 @@
 -- What holds of played terminals depends on the items to come only by the APDUs that they handle; and what a row leaves that brings no end holds along the course.
 use Rattle.std.proofs.Common.{◌≡◌, ℕ, Bool, true, false, List, [], ◌∷◌, ◌++◌, refl, sym, subst}
+use Rattle.std.proofs.lemmas.Bool.{or_parts}
 use Rattle.std.specs.Prelude.{◌⊎◌, slice_get, Option, Some, None}
 use Rattle.std.specs.List.{list_any}
 use Rattle.gw_base.specs.declared.setup.Pt.{Pt}
@@ -28,7 +29,7 @@ use Rattle.gw_rules.specs.TranscriptLaws.{cut_owed}
 use Rattle.gw_books.specs.Past.{SentCommand, Past}
 use Rattle.gw_books.proofs.Holding.{charge_owed, is_handle}
 use Rattle.gw_played.specs.Played.{PlacedExchange, exchanges_in}
-use Rattle.gw_played.proofs.Playing.{pending, AreMessages, IsLeft, IsQuiet, IsTalking, IsTransacting, IsServing, IsPeerIn, IsPeer, WasLinked, ask_owed, link_owed, brings_charge}
+use Rattle.gw_played.proofs.Playing.{pending, AreMessages, IsLeft, IsQuiet, IsTalking, IsTransacting, IsServing, IsPeerIn, IsPeer, WasLinked, ask_owed, link_owed, brings_charge, ChargeNone}
 
 -- ---- items that handle the same of a terminal
 
@@ -80,6 +81,12 @@ module _ (setting : Setting) (exchanges : List PlacedExchange) (number : ℕ) (i
   peer-in-same poi sent talk (Serving (Display header results) last) is = serving-same talk DisplayDialogue is
   peer-in-same poi sent talk (Aside before reported) is = quiet-same is
 
+-- ---- items that lead to no command that charges
+
+-- so do those after the first
+pub later-charge-none : (item : RoundItem) (rest : List RoundItem) → ChargeNone (item ∷ rest) → ChargeNone rest
+later-charge-none item rest none = (none.0, (or_parts (brings_charge none.0 item) (list_any (brings_charge none.0) rest) none.1).1)
+
 -- ---- what a row leaves
 
 -- what holds of one terminal, with these items to come and these calls owed
@@ -96,12 +103,12 @@ pub record RowPlays (settings : List ℕ → Setting) (exchanges : List ℕ → 
   -- it brings nothing that a terminal has said
   pub handles : list_any is_handle (row.items ++ rest) ≡ true → list_any is_handle rest ≡ true
   pub uncharged : list_any is_handle (row.items ++ rest) ≡ true → (number : ℕ) → charge_owed number row.calls ≡ false
-  pub served : list_any is_handle (row.items ++ rest) ≡ true → list_any brings_charge (row.items ++ rest) ≡ false
+  pub served : list_any is_handle (row.items ++ rest) ≡ true → ChargeNone (row.items ++ rest)
 
 -- what an item begins with that handles nothing which a terminal has said
 pub record PlaysBetween (settings : List ℕ → Setting) (exchanges : List ℕ → List PlacedExchange) (scene : Scene) (past : Past) (item : RoundItem) (rest : List RoundItem) : Type 0 where
   pub each : (number : ℕ) (terminal : Terminal) → slice_get scene.core.terminals number ≡ Some terminal → TerminalPlays settings exchanges scene.outside past rest [] number terminal
-  pub served : list_any is_handle rest ≡ true → list_any brings_charge (item ∷ rest) ≡ false
+  pub served : list_any is_handle rest ≡ true → ChargeNone (item ∷ rest)
 
 -- ---- one terminal
 

@@ -24,6 +24,7 @@ use Rattle.gw_played.proofs.LinkPlaysLemmas.{cut-pt-plays, link-failed-plays, li
 use Rattle.gw_played.proofs.Playing.{Plays, PeerLaws, PlaysTurn}
 use Rattle.gw_played.proofs.SentPtPlaysLemmas.{sent-pt-plays}
 use Rattle.gw_played.proofs.ServePlaysLemmas.{serve-plays}
+use Rattle.gw_played.proofs.WaitingPlaysLemmas.{next-waiting-plays, overdue-plays, queue-plays}
 use Rattle.gw_played.proofs.TurnPlaysLemmas.{PollsClean, PlaysEvent, closed-plays, crash-plays, cut-till-plays, disk-failed-plays, heard-pt-plays, heard-till-plays, lost-plays, open-failed-plays, opened-plays, polled-plays, sent-till-plays, start-plays, stopped-plays, synced-plays, wrote-plays}
 use Rattle.gw_played.proofs.WholeBookLemmas.{hears-back, honest-whole}
 
@@ -75,7 +76,7 @@ first-plays settings = record {
   heard = λ number terminal found connected. no-terminal number terminal found;
   calm = λ some command sent. absurd sent;
   uncharged = λ some number. refl;
-  served = λ some. refl;
+  served = λ some. (0, refl);
   heard_before = omega arith;
   falling = tt;
   ends = λ end within. absurd within;
@@ -131,7 +132,7 @@ module _ (orders : OrderLaws) (laws : PeerLaws) (settings : List ℕ → Setting
   course-plays log v past exchanges [] o clean c hears h = h
   course-plays log v past exchanges (Begin ∷ moves) o clean c hears h =
       let next : Ordered log (after v Begin) = begin-ordered orders log v o c.0 in
-      course-plays log (after v Begin) (past_after v past Begin) exchanges moves next (move-clean v Begin) c.1 hears (begin-plays (each-item-plays (handle-plays laws) (serve-plays laws)) settings log v past exchanges o next c.0 h)
+      course-plays log (after v Begin) (past_after v past Begin) exchanges moves next (move-clean v Begin) c.1 hears (begin-plays (each-item-plays (handle-plays laws) (serve-plays laws) queue-plays (next-waiting-plays laws) overdue-plays) settings log v past exchanges o next c.0 h)
   course-plays log v past exchanges (Read as_read ∷ moves) o clean c hears h =
       course-plays log (after v (Read as_read)) (past_after v past (Read as_read)) exchanges moves (read-ordered log v as_read o c.0) (move-clean v (Read as_read)) c.1 hears (read-plays settings log v past exchanges as_read o c.0 h)
   course-plays log v past exchanges (Make turn ∷ moves) o clean c hears h =

@@ -1,5 +1,5 @@
 -- What holds along a lawful course whose terminals are played ones: how far each dialogue is, by what the played terminal has sent, and that its book is honest so far.
-use Rattle.std.specs.Prelude.{◌≡◌, ◌⊎◌, ◌≤◌, ◌<◌, ◌↔◌, ℕ, ◌+◌, ◌==◌, Bool, true, false, ◌||◌, bytes_eq, ◌&&◌, nat_le, is_some, if◌then◌else◌, List, [], ◌∷◌, ◌++◌, find, slice_get, Option, Some, None, Ok}
+use Rattle.std.specs.Prelude.{◌≡◌, ◌⊎◌, ◌≤◌, ◌<◌, ◌↔◌, ℕ, ◌+◌, ◌==◌, Bool, true, false, ◌||◌, bytes_eq, ◌&&◌, nat_le, not, is_some, if◌then◌else◌, List, [], ◌∷◌, ◌++◌, find, slice_get, Option, Some, None, Ok}
 use Rattle.std.specs.List.{list_any}
 use Rattle.gw_site.specs.declared.turn.Turn.{Turn}
 use Rattle.gw_site.specs.Outside.{is_connected, heard_on}
@@ -31,7 +31,7 @@ use Rattle.gw_owes.specs.declared.terminal.Standing.TheVariants.{Unlinked, Regis
 use Rattle.gw_owes.specs.declared.terminal.Terminal.{Terminal}
 use Rattle.gw_owes.specs.Calls.{Ask, Acknowledge, Refuse, OwedCall, SendTill, SendPt, LinkPt, WriteBody, WriteGate, WriteFirstGate, Sync, CutTill, CutPt}
 use Rattle.gw_owes.specs.Deadlines.{is_due_by}
-use Rattle.gw_owes.specs.Items.{RoundItem, Crowded, Message as MessageItem, Asked, Unframed, Gone, Greet, Handle, Serve, NextWaiting, Oversized, LinkLost, Late, Overdue, Due}
+use Rattle.gw_owes.specs.Items.{RoundItem, Crowded, Message as MessageItem, Asked, Unframed, Gone, Greet, Handle, Serve, Queue, NextWaiting, Oversized, LinkLost, Late, Overdue, Due}
 use Rattle.gw_owes.specs.Links.{is_linked}
 use Rattle.gw_owes.proofs.RecordLemmas.{LedgerLaws}
 use Rattle.gw_rules.specs.Lawful.{AllowedTurn, Begins}
@@ -61,6 +61,7 @@ pending number (Gone till ∷ items) = pending number items
 pending number (Greet pt apdu ∷ items) = pending number items
 pending number (Handle pt apdu ∷ items) = if pt == number then apdu ∷ pending number items else pending number items
 pending number (Serve pt till header request ∷ items) = pending number items
+pending number (Queue pt till header request ∷ items) = pending number items
 pending number (NextWaiting pt ∷ items) = pending number items
 pending number (Oversized pt ∷ items) = pending number items
 pending number (LinkLost pt ∷ items) = pending number items
@@ -247,22 +248,27 @@ WasLinked links poi = (link : MadeLink) × In link links × (link.poi ≡ poi)
 
 -- ---- items
 
--- the item may lead to a command that charges
-abbrev pub brings_charge : RoundItem → Bool
-brings_charge (Crowded till) = false
-brings_charge (MessageItem till bytes) = true
-brings_charge (Asked till as_read) = true
-brings_charge (Unframed till) = false
-brings_charge (Gone till) = false
-brings_charge (Greet pt apdu) = false
-brings_charge (Handle pt apdu) = false
-brings_charge (Serve pt till header request) = true
-brings_charge (NextWaiting pt) = false
-brings_charge (Oversized pt) = false
-brings_charge (LinkLost pt) = false
-brings_charge (Late pt) = false
-brings_charge (Overdue key) = false
-brings_charge (Due pt) = false
+-- while what the terminal of this number has said is still to be handled, the item may lead to a command that charges; what a terminal next serves that waits for it does so only where nothing is left that it has said
+abbrev pub brings_charge : ℕ → RoundItem → Bool
+brings_charge one (Crowded till) = false
+brings_charge one (MessageItem till bytes) = true
+brings_charge one (Asked till as_read) = true
+brings_charge one (Unframed till) = false
+brings_charge one (Gone till) = false
+brings_charge one (Greet pt apdu) = false
+brings_charge one (Handle pt apdu) = not (pt == one)
+brings_charge one (Serve pt till header request) = true
+brings_charge one (Queue pt till header request) = false
+brings_charge one (NextWaiting pt) = not (pt == one)
+brings_charge one (Oversized pt) = false
+brings_charge one (LinkLost pt) = false
+brings_charge one (Late pt) = false
+brings_charge one (Overdue key) = false
+brings_charge one (Due pt) = false
+
+-- these items handle what one terminal has said, and lead to no command that charges before it was handled
+abbrev pub ChargeNone : List RoundItem → Type 0
+ChargeNone items = (one : ℕ) × (list_any (brings_charge one) items ≡ false)
 
 -- ---- along a course
 
@@ -279,7 +285,7 @@ pub record Plays (settings : List ℕ → Setting) (v : View) (past : Past) (exc
   -- while items handle what a terminal has said, no command that may charge a card was sent since it was heard, and none is owed
   pub calm : list_any is_handle v.items ≡ true → (command : SentCommand) → In command past.commands → command.place < past.heard
   pub uncharged : list_any is_handle v.items ≡ true → (number : ℕ) → charge_owed number v.calls ≡ false
-  pub served : list_any is_handle v.items ≡ true → list_any brings_charge v.items ≡ false
+  pub served : list_any is_handle v.items ≡ true → ChargeNone v.items
   pub heard_before : past.heard ≤ past.place
   pub falling : AreFalling past.place past.commands
   pub linked_before : (link : MadeLink) → In link past.links → link.place < past.place

@@ -53,7 +53,7 @@ use Rattle.gw_owes.specs.SessionRows.{success_reply}
 use Rattle.gw_owes.specs.Stops.{wishing}
 use Rattle.gw_owes.specs.Terminals.{talk_of_command, terminal_at, terminal_becomes, reply_calls_to}
 use Rattle.gw_owes.proofs.BeginLemmas.{IsAskedAnew, begins-anew}
-use Rattle.gw_owes.proofs.PaymentLemmas.{StopsAt, BeginsDayAt, ShowsAt, each-served}
+use Rattle.gw_owes.proofs.PaymentLemmas.{StopsAt, ShowsAt, each-served}
 use Rattle.gw_owes.proofs.SetLemmas.{same-some}
 use Rattle.gw_rules.specs.Scene.{Scene, known_in}
 use Rattle.gw_rules.proofs.StageLemmas.{no-true}
@@ -65,7 +65,7 @@ use Rattle.gw_played.specs.Played.{PlacedExchange, exchanges_in}
 use Rattle.gw_played.proofs.HandlePlaysLemmas.{pt-within}
 use Rattle.gw_played.proofs.ItemPlaysLemmas.{IsPlain, none-plain, replies-plain, replies-link-none, same-so, so-plays, still-plays, quiet-plays, nothing-plays, item-plays}
 use Rattle.gw_played.proofs.PeerFrameLemmas.{TerminalPlays, RowPlays, PlaysBetween}
-use Rattle.gw_played.proofs.Playing.{IsQuiet, IsPeerIn, IsToBeAsked, IsPeer, BeginsStanding, WasLinked, begins_dialogue, ask_owed, link_owed, PeerLaws, PlaysItem}
+use Rattle.gw_played.proofs.Playing.{IsQuiet, IsPeerIn, IsToBeAsked, IsPeer, BeginsStanding, WasLinked, begins_dialogue, ask_owed, link_owed, ChargeNone, PeerLaws, PlaysItem}
 use Rattle.gw_played.proofs.TakenMessageLemmas.{wished-serving, wished-transacting}
 
 -- ---- what shows outputs can be written
@@ -149,11 +149,11 @@ dialogue-begun pt kind moment = record { dialogue_kind = kind; none = pt.none; a
 talk-begun : (pt : Pt) (command : Command) (kind : DialogueKind) (moment : ℕ) → dialogue_kind_of command ≡ Some kind → talk_of_command pt command moment ≡ Some (talk_after (dialogue-begun pt kind moment) [])
 talk-begun pt command kind moment is = ap (λ (found : Option DialogueKind). option_map (λ (dialogue : Dialogue). talk_after dialogue []) (option_map (λ (one : DialogueKind). dialogue-begun pt one moment) found)) is
 
-module _ (laws : PeerLaws) (settings : List ℕ → Setting) (exchanges : List ℕ → List PlacedExchange) (scene : Scene) (setup : Setup) (past : Past) (rest : List RoundItem) (pt till : ℕ) (header : Header) (request : SaleRequest)
-    (between : PlaysBetween settings exchanges scene past (Serve pt till header request) rest) (order : IsInOrder (known_in scene setup)) where
+module _ (laws : PeerLaws) (settings : List ℕ → Setting) (exchanges : List ℕ → List PlacedExchange) (scene : Scene) (setup : Setup) (past : Past) (item : RoundItem) (rest : List RoundItem) (pt till : ℕ) (header : Header) (request : SaleRequest)
+    (between : PlaysBetween settings exchanges scene past item rest) (order : IsInOrder (known_in scene setup)) (alone : list_any is_handle rest ≡ false) where
   -- a command is about to be asked, so that no later item handles what a terminal has said
   handles-none : {A : Type 0} → list_any is_handle rest ≡ true → A
-  handles-none handles = no-true (sym (between.served handles))
+  handles-none handles = no-true (sym alone ∙ handles)
 
   -- ---- a command is asked
 
@@ -209,7 +209,7 @@ module _ (laws : PeerLaws) (settings : List ℕ → Setting) (exchanges : List �
     asking-plays : RowPlays settings exchanges scene.outside past rest (terminal_becomes (known_in scene setup) pt new calls)
     asking-plays = record {
       each = each-in-place (λ number one. TerminalPlays settings exchanges scene.outside past rest calls number one) scene.core pt new
-          (λ number one apart there. so-plays settings exchanges scene past (Serve pt till header request) rest between rest calls number one (same-so scene.core number one there) refl (asked-elsewhere number apart))
+          (λ number one apart there. so-plays settings exchanges scene past item rest between rest calls number one (same-so scene.core number one there) refl (asked-elsewhere number apart))
           (record {
             peer = λ linked uncut. subst (λ (asked : Bool). IsPeer asked (settings new.pt.poi) (exchanges new.pt.poi) pt rest past.commands calls new) (sym asked-here) to-be-asked;
             unlinked = λ due is. no-true (sym (ap is_linked is) ∙ b.linked);
@@ -223,7 +223,7 @@ module _ (laws : PeerLaws) (settings : List ℕ → Setting) (exchanges : List �
     }
 
   -- a payment or a reversal begins
-  begins-plays : (terminal : Terminal) (last : ℕ) (asking : Asking) → terminal_at (known_in scene setup) pt ≡ Some terminal → terminal.standing ≡ Ready last → IsAskedAnew (known_in scene setup) header terminal last asking
+  pub begins-plays : (terminal : Terminal) (last : ℕ) (asking : Asking) → terminal_at (known_in scene setup) pt ≡ Some terminal → terminal.standing ≡ Ready last → IsAskedAnew (known_in scene setup) header terminal last asking
       → RowPlays settings exchanges scene.outside past rest (beginning_row (known_in scene setup) pt till terminal last asking.intent asking.original)
   begins-plays terminal last asking found standing_is anew =
       let row : Row = beginning_row (known_in scene setup) pt till terminal last asking.intent asking.original in
@@ -248,14 +248,14 @@ module _ (laws : PeerLaws) (settings : List ℕ → Setting) (exchanges : List �
       })
 
   -- an end of day begins
-  day-plays : (terminal : Terminal) (last : ℕ) → BeginsDayAt (known_in scene setup) pt header request terminal last
+  pub day-plays : (terminal : Terminal) (last : ℕ) → terminal_at (known_in scene setup) pt ≡ Some terminal → terminal.standing ≡ Ready last
       → RowPlays settings exchanges scene.outside past rest (terminal_becomes (known_in scene setup) pt (asked_for_day (known_in scene setup) till terminal last header) (SendPt pt (Ask (day_command terminal.pt)) ∷ []))
-  day-plays terminal last at =
-      let within : IsPt terminal.pt = pt-within (known_in scene setup) pt terminal order at.found in
+  day-plays terminal last found standing_is =
+      let within : IsPt terminal.pt = pt-within (known_in scene setup) pt terminal order found in
       asking-plays terminal (asked_for_day (known_in scene setup) till terminal last header) (SendPt pt (Ask (day_command terminal.pt)) ∷ []) (record {
-        found = at.found;
+        found = found;
         last = last;
-        standing_is = at.standing_is;
+        standing_is = standing_is;
         same = refl;
         linked = refl;
         command = day_command terminal.pt;
@@ -327,7 +327,7 @@ module _ (laws : PeerLaws) (settings : List ℕ → Setting) (exchanges : List �
     wished-plays : RowPlays settings exchanges scene.outside past rest (terminal_becomes (known_in scene setup) pt new calls)
     wished-plays = record {
       each = each-in-place (λ number one. TerminalPlays settings exchanges scene.outside past rest calls number one) scene.core pt new
-          (λ number one apart there. so-plays settings exchanges scene past (Serve pt till header request) rest between rest calls number one (same-so scene.core number one there) refl (plain.asks_none number))
+          (λ number one apart there. so-plays settings exchanges scene past item rest between rest calls number one (same-so scene.core number one there) refl (plain.asks_none number))
           (record {
             peer = λ linked uncut. subst (λ (asked : Bool). IsPeer asked (settings new.pt.poi) (exchanges new.pt.poi) pt rest past.commands calls new) (sym (plain.asks_none pt)) peer-now;
             unlinked = λ due is. no-true (sym (ap is_linked is) ∙ linked-now);
@@ -354,21 +354,29 @@ settled-plain kept asker settled =
     let plain : IsPlain (reply_calls_to asker (reply_to_settled kept settled)) = replies-plain asker (reply_to_settled kept settled) in
     record { asks_none = plain.asks_none; charges_none = plain.charges_none }
 
+-- where a till's request begins at a terminal, nothing that a terminal has said is still to be handled
+serves-alone : (pt till : ℕ) (header : Header) (request : SaleRequest) (rest : List RoundItem) → (list_any is_handle rest ≡ true → ChargeNone (Serve pt till header request ∷ rest)) → list_any is_handle rest ≡ false
+serves-alone pt till header request rest served = by_test (list_any is_handle rest) refl
+  where
+    by_test : (test : Bool) → list_any is_handle rest ≡ test → test ≡ false
+    by_test true e = no-true (sym (served e).1)
+    by_test false e = refl
+
 pub serve-plays : (laws : PeerLaws) (pt till : ℕ) (header : Header) (request : SaleRequest) → PlaysItem (Serve pt till header request)
 serve-plays laws pt till header request = item-plays (Serve pt till header request) refl (λ scene past. refl) (λ settings exchanges scene setup past rest between order read.
     each-served (λ (row : Row). RowPlays settings exchanges scene.outside past rest row) (known_in scene setup) pt till header request (record {
       none = nothing-plays settings exchanges scene past (Serve pt till header request) rest between;
-      begins = λ terminal last asking at. begins-plays laws settings exchanges scene setup past rest pt till header request between order terminal last asking at.found at.standing_is
+      begins = λ terminal last asking at. begins-plays laws settings exchanges scene setup past (Serve pt till header request) rest pt till header request between order (serves-alone pt till header request rest between.served) terminal last asking at.found at.standing_is
           (begins-anew laws.ledger (known_in scene setup) order pt till header request terminal last asking read at);
-      sent = λ terminal talk at may. wished-plays laws settings exchanges scene setup past rest pt till header request between order terminal (record (wishing terminal talk) { awaited = one_more_awaited terminal.awaited }) talk at refl refl refl
+      sent = λ terminal talk at may. wished-plays laws settings exchanges scene setup past (Serve pt till header request) rest pt till header request between order (serves-alone pt till header request rest between.served) terminal (record (wishing terminal talk) { awaited = one_more_awaited terminal.awaited }) talk at refl refl refl
           (SendPt pt (Ask commands.Stop) ∷ []) (stop-plain pt) (λ number. refl);
-      wished = λ terminal talk at may. wished-plays laws settings exchanges scene setup past rest pt till header request between order terminal (wishing terminal talk) talk at refl refl refl [] none-plain (λ number. refl);
+      wished = λ terminal talk at may. wished-plays laws settings exchanges scene setup past (Serve pt till header request) rest pt till header request between order (serves-alone pt till header request rest between.served) terminal (wishing terminal talk) talk at refl refl refl [] none-plain (λ number. refl);
       session = λ session. still-plays settings exchanges scene past (Serve pt till header request) rest between (record scene.core { logged_out = pairs_after scene.core header request }) (SendTill till (success_reply header) ∷ [])
           (same-so scene.core) (replies-plain (Some till) (Some (success_reply header))) (λ number links. no-true links);
       settles = λ terminal at.
           let settled : TheSettled = settled_of hows.Sale header terminal.pt.currency scene.outside.moment in
           quiet-plays settings exchanges scene past (Serve pt till header request) rest between (settle_calls scene.kept (Some till) settled) (settled-plain scene.kept (Some till) settled)
           (λ number. replies-link-none (Some till) (reply_to_settled scene.kept settled) number);
-      day = λ terminal last at. day-plays laws settings exchanges scene setup past rest pt till header request between order terminal last at;
-      displays = λ terminal last outputs command at. shown-plays laws settings exchanges scene setup past rest pt till header request between order terminal last outputs command at;
+      day = λ terminal last at. day-plays laws settings exchanges scene setup past (Serve pt till header request) rest pt till header request between order (serves-alone pt till header request rest between.served) terminal last at.found at.standing_is;
+      displays = λ terminal last outputs command at. shown-plays laws settings exchanges scene setup past (Serve pt till header request) rest pt till header request between order (serves-alone pt till header request rest between.served) terminal last outputs command at;
     }))

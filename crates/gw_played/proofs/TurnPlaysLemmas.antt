@@ -50,7 +50,7 @@ use Rattle.gw_played.specs.Played.{PlacedExchange, exchanges_in, exchanges_after
 use Rattle.gw_played.proofs.CarriedLemmas.{Carries, apdus-other, apdus-own, asked_by, decoded-bring-none, decoded-pending, due-handles-none, heard-left, heard-other, heard-own, items-carry, none-pending, opened-handles-none, peer-carried, peer-in-carried, then-due, till-handles-none}
 use Rattle.gw_played.proofs.HonestGrowLemmas.{honest-place}
 use Rattle.gw_played.proofs.PeerSendLemmas.{decoded-in-parts}
-use Rattle.gw_played.proofs.Playing.{met_in, pending, AreMessages, IsLeft, IsPeerIn, begins_dialogue, asks_terminal, ask_owed, links_terminal, link_owed, IsPeer, brings_charge, IsHonestFor, WasLinked, Plays, PeerLaws, PlaysTurn}
+use Rattle.gw_played.proofs.Playing.{met_in, pending, AreMessages, IsLeft, IsPeerIn, begins_dialogue, asks_terminal, ask_owed, links_terminal, link_owed, IsPeer, ChargeNone, IsHonestFor, WasLinked, Plays, PeerLaws, PlaysTurn}
 use Rattle.gw_played.proofs.SentPtPlaysLemmas.{apart-pois}
 
 -- ---- turns that leave each terminal as it was
@@ -96,7 +96,7 @@ plays-on settings v w past exchanges occasion lasting replies polls deeds h s = 
   heard = λ number terminal found connected. heard number terminal (s.there number terminal found) (s.heard number connected);
   calm = λ some. h.calm (was some);
   uncharged = λ some number. (s.handles some).1 number (h.uncharged (was some) number);
-  served = λ some. ap (list_any brings_charge) (s.handles some).0 ∙ h.served (was some);
+  served = λ some. subst ChargeNone (sym (s.handles some).0) (h.served (was some));
   heard_before = let before = h.heard_before in omega (arith, before);
   falling = falling-later past.place past.commands h.falling;
   ends = h.ends;
@@ -595,7 +595,7 @@ heard-pt-plays laws pt bytes settings log v past exchanges o clean ok hears_sent
           still-heard laws settings log v past exchanges pt bytes o clean ok hears_sent h number terminal found (sym (connected-heard v.scene.outside.links pt number bytes) ∙ connected);
       calm = λ some command sent. sent-below past.place past.commands h.falling command sent;
       uncharged = λ some number. refl;
-      served = λ some. decoded-bring-none pt decoded v.scene.core;
+      served = λ some. (pt, decoded-bring-none pt decoded v.scene.core);
       heard_before = omega arith;
       falling = falling-later past.place past.commands h.falling;
       ends = λ end within. let e = h.ends end within in (e.0, e.1, let before = e.2 in let least = h.heard_before in omega (arith, before, least));

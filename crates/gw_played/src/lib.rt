@@ -24,6 +24,7 @@ pub fn law_played()
 {
     gw_books::law_headline();
     gw_owes::law_records();
+    gw_owes::law_waits();
     gw_ledger::law_next();
     gw_ledger::law_open();
     gw_ledger::law_within();

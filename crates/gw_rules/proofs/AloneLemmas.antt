@@ -17,13 +17,15 @@ use Rattle.zvt_talk.specs.Talk.{TalkFacts}
 use Rattle.gw_owes.specs.Calls.{OwedCall, CutPt as OwedCutPt}
 use Rattle.gw_owes.specs.Events.{is_oversized, apdu_items, decoded_apdu_items, pt_bytes_items, items_due}
 use Rattle.gw_owes.specs.Greeting.{greet_decoded, outside_row}
-use Rattle.gw_owes.specs.Items.{RoundItem, Crowded, Message, Asked, Unframed, Gone, Greet, Handle, Serve, NextWaiting, Oversized, LinkLost, Late, Overdue, Due}
+use Rattle.gw_owes.specs.Items.{RoundItem, Crowded, Message, Asked, Unframed, Gone, Greet, Handle, Serve, Queue, NextWaiting, Oversized, LinkLost, Late, Overdue, Due}
 use Rattle.gw_owes.specs.Links.{is_linked, cutting}
 use Rattle.gw_owes.specs.ReadAs.{ReadAs}
 use Rattle.gw_owes.specs.Row.{Known, owing_nothing, becoming}
 use Rattle.gw_owes.specs.Rows.{row_of}
+use Rattle.gw_owes.specs.Steps.{is_ready_standing}
 use Rattle.gw_owes.specs.TerminalLaws.{IsOwedNothing}
-use Rattle.gw_owes.specs.Terminals.{of_terminal, reply_to_lost, unlinked_terminal, unlinks, link_lost}
+use Rattle.gw_owes.specs.Terminals.{terminal_at, of_terminal, reply_to_lost, unlinked_terminal, unlinks, link_lost}
+use Rattle.gw_owes.specs.WaitingRows.{next_waiting_row}
 use Rattle.gw_owes.specs.declared.terminal.Standing.{Standing}
 use Rattle.gw_owes.specs.declared.terminal.Standing.TheVariants.{Unlinked, Registering, Enquiring, Ready, Serving, Aside}
 use Rattle.gw_owes.specs.declared.terminal.Terminal.{Terminal}
@@ -41,7 +43,7 @@ use Rattle.gw_rules.proofs.CourseLemmas.{begin-stage, course-append, stands-more
 use Rattle.gw_rules.proofs.CutLemmas.{is_dead, dead-round, dead-running, dead-turn, none-among}
 use Rattle.gw_rules.proofs.HeardLemmas.{heard-bytes, bytes-append, stands-bytes}
 use Rattle.gw_rules.proofs.KeptLemmas.{begins-first}
-use Rattle.gw_rules.proofs.LinkStateLemmas.{state_of, standing_state}
+use Rattle.gw_rules.proofs.LinkStateLemmas.{next-unready, state_of, standing_state}
 use Rattle.gw_rules.proofs.LinkedLemmas.{Agrees, Settled, Losing, is_on, round-setup, course-agrees, move-agrees, turn-agrees}
 use Rattle.gw_rules.proofs.OutsideCutLemmas.{cut-is, cut-makes, same-rest}
 use Rattle.gw_rules.proofs.PendingLemmas.{ask_none, read-asks-none, bytes-ask-none, begins-alone, SameItems, turn-items}
@@ -83,6 +85,7 @@ of-begins pt scene (Gone till) items is = absurd is
 of-begins pt scene (Greet number apdu) items is = refl
 of-begins pt scene (Handle number apdu) items is = refl
 of-begins pt scene (Serve number till header request) items is = absurd is
+of-begins pt scene (Queue number till header request) items is = absurd is
 of-begins pt scene (NextWaiting number) items is = refl
 of-begins pt scene (Oversized number) items is = refl
 of-begins pt scene (LinkLost number) items is = absurd is
@@ -90,18 +93,30 @@ of-begins pt scene (Late number) items is = absurd is
 of-begins pt scene (Overdue key) items is = absurd is
 of-begins pt scene (Due number) items is = absurd is
 
+-- nothing is owed for what a terminal says, and nothing begins that waits for it
+record OwesNothing (known : Known) (pt : ℕ) (apdu : ApduValue) : Type 0 where
+  said : IsOwedNothing known pt apdu
+  next : next_waiting_row known pt ≡ owing_nothing known
+
+unlinked-owes : (known : Known) (pt : ℕ) (terminal : Terminal) (due : Option ℕ) (apdu : ApduValue) → terminal_at known pt ≡ Some terminal → terminal.standing ≡ Unlinked due → OwesNothing known pt apdu
+unlinked-owes known pt terminal due apdu found is = record { said = unlinked-owes-nothing known pt terminal due apdu found is; next = next-unready known pt terminal found (ap is_ready_standing is) }
+
+absent-owes : (known : Known) (pt : ℕ) (apdu : ApduValue) → terminal_at known pt ≡ None → OwesNothing known pt apdu
+absent-owes known pt apdu none = record { said = absent-owes-nothing known pt apdu none; next = rw none refl }
+
 -- each owes nothing of a terminal of which nothing is owed for any APDU
-of-nothing : (tills : List Connection) (known : Known) (pt : ℕ) (item : RoundItem) → IsOfBytes pt item → ((apdu : ApduValue) → IsOwedNothing known pt apdu) → row_of tills known item ≡ owing_nothing known
+of-nothing : (tills : List Connection) (known : Known) (pt : ℕ) (item : RoundItem) → IsOfBytes pt item → ((apdu : ApduValue) → OwesNothing known pt apdu) → row_of tills known item ≡ owing_nothing known
 of-nothing tills known pt (Crowded till) is none = absurd is
 of-nothing tills known pt (Message till bytes) is none = absurd is
 of-nothing tills known pt (Asked till as_read) is none = absurd is
 of-nothing tills known pt (Unframed till) is none = absurd is
 of-nothing tills known pt (Gone till) is none = absurd is
-of-nothing tills known pt (Greet number apdu) is none = subst (λ n. row_of tills known (Greet n apdu) ≡ owing_nothing known) (sym is) (none apdu).greeted
-of-nothing tills known pt (Handle number apdu) is none = subst (λ n. row_of tills known (Handle n apdu) ≡ owing_nothing known) (sym is) (none apdu).handled
+of-nothing tills known pt (Greet number apdu) is none = subst (λ n. row_of tills known (Greet n apdu) ≡ owing_nothing known) (sym is) (none apdu).said.greeted
+of-nothing tills known pt (Handle number apdu) is none = subst (λ n. row_of tills known (Handle n apdu) ≡ owing_nothing known) (sym is) (none apdu).said.handled
 of-nothing tills known pt (Serve number till header request) is none = absurd is
-of-nothing tills known pt (NextWaiting number) is none = refl
-of-nothing tills known pt (Oversized number) is none = subst (λ n. row_of tills known (Oversized n) ≡ owing_nothing known) (sym is) (none (record { class = 0; instr = 0; body = [] })).oversized
+of-nothing tills known pt (Queue number till header request) is none = absurd is
+of-nothing tills known pt (NextWaiting number) is none = subst (λ n. row_of tills known (NextWaiting n) ≡ owing_nothing known) (sym is) (none (record { class = 0; instr = 0; body = [] })).next
+of-nothing tills known pt (Oversized number) is none = subst (λ n. row_of tills known (Oversized n) ≡ owing_nothing known) (sym is) (none (record { class = 0; instr = 0; body = [] })).said.oversized
 of-nothing tills known pt (LinkLost number) is none = absurd is
 of-nothing tills known pt (Late number) is none = absurd is
 of-nothing tills known pt (Overdue key) is none = absurd is
@@ -120,12 +135,12 @@ begun-is scene setup item items calls is at row =
     ap (λ r. begun scene r items) row_is ∙ ap (with_stage scene calls items) (ap busy at ∙ sym at)
 
 -- an item of a terminal of which nothing is owed changes nothing
-passed-is : (pt : ℕ) (scene : Scene) (setup : Setup) (item : RoundItem) (items : List RoundItem) → scene.setup ≡ Some setup → scene.stage ≡ Handling → ((apdu : ApduValue) → IsOwedNothing (known_in scene setup) pt apdu) → IsOfBytes pt item
+passed-is : (pt : ℕ) (scene : Scene) (setup : Setup) (item : RoundItem) (items : List RoundItem) → scene.setup ≡ Some setup → scene.stage ≡ Handling → ((apdu : ApduValue) → OwesNothing (known_in scene setup) pt apdu) → IsOfBytes pt item
     → after (idle_with scene (item ∷ items)) Begin ≡ idle_with scene items
 passed-is pt scene setup item items is at none of = begun-is scene setup item items [] is at (of-nothing scene.outside.tills (known_in scene setup) pt item of none)
 
 -- such items are passed
-passes : (pt : ℕ) (scene : Scene) (setup : Setup) (own due : List RoundItem) → scene.setup ≡ Some setup → scene.stage ≡ Handling → ((apdu : ApduValue) → IsOwedNothing (known_in scene setup) pt apdu) → AreOfBytes pt own
+passes : (pt : ℕ) (scene : Scene) (setup : Setup) (own due : List RoundItem) → scene.setup ≡ Some setup → scene.stage ≡ Handling → ((apdu : ApduValue) → OwesNothing (known_in scene setup) pt apdu) → AreOfBytes pt own
     → HasCourseTo (idle_with scene (own ++ due)) [] (idle_with scene due)
 passes pt scene setup [] due is at none are = record { moves = []; turns_are = refl; lawful = tt; ends = refl }
 passes pt scene setup (item ∷ own) due is at none are =
@@ -171,7 +186,7 @@ begins-next v item items [] now rest at calls e begins round along = begin-next 
 begins-next v item items (turn ∷ turns) now rest at calls e begins round along = begin-next v turn (turns ++ Polled now ∷ rest) begins (λ ok. none-made v turn at calls ok round.0) along
 
 -- and a lawful course passes such items
-passes-on : (pt : ℕ) (scene : Scene) (setup : Setup) (own due : List RoundItem) (turns : List Turn) (now : ℤ) (rest : List Turn) → scene.setup ≡ Some setup → scene.stage ≡ Handling → ((apdu : ApduValue) → IsOwedNothing (known_in scene setup) pt apdu) → AreOfBytes pt own → AreOfRound turns
+passes-on : (pt : ℕ) (scene : Scene) (setup : Setup) (own due : List RoundItem) (turns : List Turn) (now : ℤ) (rest : List Turn) → scene.setup ≡ Some setup → scene.stage ≡ Handling → ((apdu : ApduValue) → OwesNothing (known_in scene setup) pt apdu) → AreOfBytes pt own → AreOfRound turns
     → Along (idle_with scene (own ++ due)) (turns ++ Polled now ∷ rest) → HasCourse (idle_with scene due) (turns ++ Polled now ∷ rest)
 passes-on pt scene setup [] due turns now rest is at none are round along = (view_from (idle_with scene due) along.moves, record { moves = along.moves; turns_are = along.turns_are; lawful = along.lawful; ends = refl })
 passes-on pt scene setup (item ∷ own) due turns now rest is at none are round along =
@@ -190,6 +205,7 @@ read-rest as_read (Gone till) items = (Gone till, refl)
 read-rest as_read (Greet number apdu) items = (Greet number apdu, refl)
 read-rest as_read (Handle number apdu) items = (Handle number apdu, refl)
 read-rest as_read (Serve number till header request) items = (Serve number till header request, refl)
+read-rest as_read (Queue number till header request) items = (Queue number till header request, refl)
 read-rest as_read (NextWaiting number) items = (NextWaiting number, refl)
 read-rest as_read (Oversized number) items = (Oversized number, refl)
 read-rest as_read (LinkLost number) items = (LinkLost number, refl)
@@ -236,7 +252,7 @@ reaches item items now rest no_message v (Begin ∷ moves) inside (x ∷ before)
     let f = begins-first v a c.0 in
     let alone = begins-alone v f none in
     let tails : f.rest ≡ before ++ item ∷ items = (let n : f.item ∷ f.rest ≡ x ∷ (before ++ item ∷ items) = sym f.items_are ∙ e in cc) in
-    let m = reaches item items now rest no_message (after v Begin) moves inside before (move-agrees v Begin a c.0) (begin-stage v.scene v.items ∙ ap busy at) (ap ask_none alone.left ∙ alone.rest) (alone.left ∙ tails) c.1 t r in
+    let m = reaches item items now rest no_message (after v Begin) moves inside (f.new ++ before) (move-agrees v Begin a c.0) (begin-stage v.scene v.items ∙ ap busy at) alone.left (f.left ∙ ap (λ l. f.new ++ l) tails ∙ sym (append_assoc f.new before (item ∷ items))) c.1 t r in
     record { first = m.first; second = m.second; inside_is = m.inside_is; moves = Begin ∷ m.moves; turns_are = m.turns_are; lawful = (c.0, m.lawful); begins = m.begins; items_are = m.items_are; stage = m.stage; onward = m.onward }
 reaches item items now rest no_message v (Read as_read ∷ moves) inside [] a at none e c t r = absurd (let n : None ≡ Some c.0.bytes = sym no_message ∙ sym (ap first_message e) ∙ c.0.message in cc)
 reaches item items now rest no_message v (Read as_read ∷ moves) inside (x ∷ before) a at none e c t r =
@@ -346,7 +362,7 @@ changes-alone second rest pt now v item own due a settled is own_are begins at i
     rest_turns : List Turn
     rest_turns = Polled now ∷ rest
 
-    nothing : is_connected v.scene.outside.links pt ≡ false → ((apdu : ApduValue) → IsOwedNothing known pt apdu) → ChangesNothing second rest_turns pt v due
+    nothing : is_connected v.scene.outside.links pt ≡ false → ((apdu : ApduValue) → OwesNothing known pt apdu) → ChangesNothing second rest_turns pt v due
     nothing off none =
         let begun : after v Begin ≡ idle_with v.scene (own ++ due) = ap (λ w. after w Begin) v_is ∙ passed-is pt v.scene has.setup item (own ++ due) has.setup_is at none is.of_bytes in
         record {
@@ -387,7 +403,7 @@ changes-alone second rest pt now v item own due a settled is own_are begins at i
             let p = pays terminal.asker (reply_to_lost terminal.standing) scene (own ++ due) later now rest at round onward in
             let there = p.stays pt unlinked in
             let setup_is : p.last.setup ≡ Some has.setup = p.setup_is ∙ has.setup_is in
-            let none : (apdu : ApduValue) → IsOwedNothing (known_in p.last has.setup) pt apdu = λ apdu. unlinked-owes-nothing (known_in p.last has.setup) pt there.0 there.1 apdu there.2 there.3 in
+            let none : (apdu : ApduValue) → OwesNothing (known_in p.last has.setup) pt apdu = λ apdu. unlinked-owes (known_in p.last has.setup) pt there.0 there.1 apdu there.2 there.3 in
             let more = passes pt p.last has.setup own due setup_is p.stage_is none own_are in
             let moves : List Move = p.moves ++ more.moves in
             record {
@@ -425,10 +441,10 @@ changes-alone second rest pt now v item own due a settled is own_are begins at i
     by_standing terminal found true linked = inl (cut terminal found linked)
     by_standing terminal found false unlinked =
         let off = unlinked-off terminal.standing terminal.talk unlinked in
-        inr (nothing (settled.linked pt ∙ ap (λ (t : Option Terminal). is_on (state_of t)) found ∙ off.2) (λ apdu. unlinked-owes-nothing known pt terminal off.0 apdu found off.1))
+        inr (nothing (settled.linked pt ∙ ap (λ (t : Option Terminal). is_on (state_of t)) found ∙ off.2) (λ apdu. unlinked-owes known pt terminal off.0 apdu found off.1))
 
     by_found : (found : Option Terminal) → slice_get v.scene.core.terminals pt ≡ found → CutsLink second rest_turns pt v due ⊎ ChangesNothing second rest_turns pt v due
-    by_found None e = inr (nothing (settled.linked pt ∙ ap (λ (t : Option Terminal). is_on (state_of t)) e) (λ apdu. absent-owes-nothing known pt apdu e))
+    by_found None e = inr (nothing (settled.linked pt ∙ ap (λ (t : Option Terminal). is_on (state_of t)) e) (λ apdu. absent-owes known pt apdu e))
     by_found (Some terminal) e = by_standing terminal e (is_linked terminal.standing) refl
 
 -- ---- the laws

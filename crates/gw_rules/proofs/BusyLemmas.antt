@@ -16,7 +16,7 @@ use Rattle.gw_rules.specs.Scene.{link_made_at, link_lost_at}
 use Rattle.gw_rules.specs.Stage.{AtPoll}
 use Rattle.gw_rules.specs.View.{View, Move, Begin, Read, Make, after, after_turn, view_from}
 use Rattle.gw_rules.proofs.CourseLemmas.{begin-outside}
-use Rattle.gw_rules.proofs.KeptLemmas.{changes, change_none, due-change-none, opened-none, till-none, other-none, begins-first, change-none-append, read-none, serves-change-none, by-equal}
+use Rattle.gw_rules.proofs.KeptLemmas.{changes, change_none, due-change-none, opened-none, till-none, other-none, begins-first, change-none-append, read-none, follow-change-none, by-equal}
 use Rattle.gw_rules.proofs.LinkStateLemmas.{LinkState, On, Off, state_in, state_then, without-states}
 use Rattle.gw_rules.proofs.LinkedLemmas.{Agrees, Settled, Losing, begin-state-settled, begin-state-losing, by-number, call-setup, event-settled, first-fits, lost-at-turns, made-at-turns, move-agrees, round-setup}
 use Rattle.gw_rules.proofs.OutsideCutLemmas.{on-by}
@@ -53,7 +53,7 @@ begin-free : (pt : ℕ) (v : View) → Agrees v → IsFree pt v → Begins v →
 begin-free pt v a (inl none) b =
     let first = begins-first v a b in
     let all : change_none pt (first.item ∷ first.rest) ≡ true = subst (λ l. change_none pt l ≡ true) first.items_are none in
-    inl (ap (change_none pt) first.left ∙ change-none-append pt first.new first.rest (serves-change-none pt first.new first.new_is) (and_parts (not (changes pt first.item)) (change_none pt first.rest) all).1)
+    inl (ap (change_none pt) first.left ∙ change-none-append pt first.new first.rest (follow-change-none pt first.new first.new_is) (and_parts (not (changes pt first.item)) (change_none pt first.rest) all).1)
 begin-free pt v a (inr not) b = inr (subst (λ (o : Outside). IsNotDue o.moment (state_in (after v Begin).scene.core pt)) (sym (begin-outside v.scene v.items)) (by_links a.links))
   where
     by_links : Settled v ⊎ Losing v → IsNotDue v.scene.outside.moment (state_in (after v Begin).scene.core pt)

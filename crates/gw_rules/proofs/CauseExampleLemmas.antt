@@ -13,10 +13,10 @@ use Rattle.zvt_msg.specs.Message.{Completion}
 use Rattle.zvt_msg.specs.MessageDecode.{decode_pt_message}
 use Rattle.gw_owes.specs.Core.{new_terminal}
 use Rattle.gw_owes.specs.TerminalExample.{ack, outside_status}
-use Rattle.gw_owes.specs.declared.terminal.Standing.TheVariants.{Enquiring}
+use Rattle.gw_owes.specs.declared.terminal.Standing.TheVariants.{Enquiring, Ready}
 use Rattle.gw_owes.specs.declared.terminal.Terminal.{Terminal}
 use Rattle.gw_rules.specs.CauseExample.{outside_log, outside_course, outside_apdu, OutsideIsCut, OutsideIsCause, PollBeforeOutsideCut, too_long_log, too_long_course, TooLongIsCut, TooLongIsCause, PollBeforeTooLongCut, report_log, report_course, report_view, report_moves, SplitReport}
-use Rattle.gw_rules.specs.DialogueLaws.{EndsAlong, IsReport}
+use Rattle.gw_rules.specs.DialogueLaws.{EndsAlong, HasStanding, IsReport, view_along}
 use Rattle.gw_rules.specs.LinkLaws.{HasSaid, HasOutside}
 use Rattle.gw_rules.specs.RowExample.{example_pt}
 use Rattle.gw_rules.specs.TerminalLogExample.{linked_log, items_begin}
@@ -24,7 +24,6 @@ use Rattle.gw_rules.specs.View.{Begin, Make}
 use Rattle.gw_rules.proofs.ChunkExampleLemmas.{sent-lasts}
 use Rattle.gw_rules.proofs.OutsideCutLemmas.{outside-cuts}
 use Rattle.gw_rules.proofs.PrefixLemmas.{lawful-along}
-use Rattle.gw_rules.proofs.ReportLemmas.{report-makes-ready}
 use Rattle.gw_rules.proofs.TerminalLogLemmas.{after_start, from-start, none-cut}
 use Rattle.gw_rules.proofs.TestedLemmas.{course-tested}
 use Rattle.gw_rules.proofs.TextLemmas.{bytes-tested}
@@ -140,11 +139,15 @@ report-ends = record {
   may_poll = record { running = refl; calls = refl; items = refl };
 }
 
+report-ready : HasStanding (view_along report_view 0 rest_chunk report_moves).scene.core 0 (Ready 123)
+unfolding decode_apdus decode_apdus_within decode_pt_message decode_status decode_status_within decode_status_field decode_field_value history
+report-ready = (found (slice_get (view_along report_view 0 rest_chunk report_moves).scene.core.terminals 0), refl, refl)
+
 pub split-report : SplitReport
 unfolding report-ends history
 split-report = record {
   terminal = found (slice_get report_view.scene.core.terminals 0);
   ends = report-ends;
   chunk_is = refl;
-  ready = report-makes-ready report_log report_view report_moves 0 (found (slice_get report_view.scene.core.terminals 0)) 123 report-ends (omega arith);
+  ready = report-ready;
 }

@@ -1,7 +1,9 @@
 -- Why a terminal is cut in a lawful log.
 use Rattle.std.proofs.Common.{◌≡◌, ℕ, ◌+◌, List, [], ◌∷◌, ◌++◌, refl, sym, ◌∙◌, ap, subst, true, false, inl, inr, append_assoc, append-nil}
+use Rattle.std.proofs.lemmas.Bool.{and_parts}
 use Rattle.std.specs.Prelude.{Bool, ◌⊎◌, nat_lt, if◌then◌else◌, length, map, Option, Some, None, Result, Ok, Err}
 use Rattle.std.specs.List.{flat_map}
+use Rattle.gw_base.specs.declared.key.Key.{Key}
 use Rattle.gw_base.specs.declared.setup.Setup.{Setup}
 use Rattle.gw_bytes.specs.Bytes.{AreBytes}
 use Rattle.gw_bytes.proofs.ByteLemmas.{bytes_prefix}
@@ -28,7 +30,7 @@ use Rattle.gw_owes.specs.Deadlines.{is_late, is_due, late_row, due_row}
 use Rattle.gw_owes.specs.Events.{till_opened_items, has_bad_length, decoded_items, apdu_items, pt_bytes_items, for_each_terminal, waits_by_deadline, items_due}
 use Rattle.gw_owes.specs.Greeting.{greeting, sending_calls, greet_decoded, oversized_row}
 use Rattle.gw_owes.specs.Handling.{taking, handle_row}
-use Rattle.gw_owes.specs.Items.{RoundItem, Crowded, Message, Asked, Unframed, Gone, Greet, Handle, Serve, NextWaiting, Oversized, LinkLost, Late, Overdue, Due}
+use Rattle.gw_owes.specs.Items.{RoundItem, Crowded, Message, Asked, Unframed, Gone, Greet, Handle, Serve, Queue, NextWaiting, Oversized, LinkLost, Late, Overdue, Due}
 use Rattle.gw_owes.specs.Laws.{BringsApdus}
 use Rattle.gw_owes.specs.Links.{LinkIsMade, LinkIsLost, cutting}
 use Rattle.gw_owes.specs.Payments.{serve_row}
@@ -42,9 +44,11 @@ use Rattle.gw_owes.specs.Serving.{reply_to_outcome}
 use Rattle.gw_owes.specs.TerminalLaws.{owes_cut, BreaksDialogue, IsLateAt, MayCut}
 use Rattle.gw_owes.specs.TerminalRows.{terminal_of}
 use Rattle.gw_owes.specs.Terminals.{reply_calls_to, link_made, link_lost}
+use Rattle.gw_owes.specs.WaitingRows.{next_waiting_row, overdue_row, queue_row}
 use Rattle.gw_owes.specs.declared.terminal.Terminal.{Terminal}
 use Rattle.gw_owes.proofs.ApduLemmas.{pt-bytes-give}
 use Rattle.gw_owes.proofs.HandlingLemmas.{by-where, each-terminal, each-linked}
+use Rattle.gw_owes.proofs.NextLemmas.{each-next, each-overdue, each-queued}
 use Rattle.gw_owes.proofs.PaymentLemmas.{each-served}
 use Rattle.gw_owes.proofs.TerminalLemmas.{cuts-have-cause, no-link-event-cuts}
 use Rattle.gw_rules.specs.CutCauses.{HasSaidInRound, HasSaidApdu, HasBegunTooLong, BeginsCut, CutCause, SendFailed, SaidOutside, BegunTooLong, BrokeDialogue, DeadlineCame, EachPtCutHasCause, FailedSendCuts}
@@ -58,7 +62,7 @@ use Rattle.gw_rules.proofs.CourseLemmas.{stands-more, stands-outside}
 use Rattle.gw_rules.proofs.HeardLemmas.{heard-bytes, bytes-append, stands-bytes}
 use Rattle.gw_rules.proofs.KeptLemmas.{BeginsFirst, begins-first, left-alone}
 use Rattle.gw_rules.proofs.LinkLawLemmas.{busy-not-poll, same-call}
-use Rattle.gw_rules.proofs.LinkStateLemmas.{is_asked}
+use Rattle.gw_rules.proofs.LinkStateLemmas.{all_look, each-look, is_look, is_message, may_bring_more}
 use Rattle.gw_rules.proofs.LinkedLemmas.{Agrees, call-setup, made-at-turns, lost-at-turns, first-agrees, course-agrees, round-setup}
 use Rattle.gw_rules.proofs.OpeningLemmas.{other-not-looking, course-disk, first-owes-disk}
 use Rattle.gw_rules.proofs.OpensLemmas.{opens-cut-none}
@@ -143,6 +147,21 @@ serve-none known number till header request = each-served CutsNone known number 
   displays = λ terminal last outputs command at. refl;
 })
 
+queue-none : (known : Known) (number till : ℕ) (header : Header) (request : SaleRequest) → CutsNone (queue_row known number till header request)
+queue-none known number till header request = each-queued CutsNone known number till header request (record { none = refl; joins = λ terminal key at. refl; taken = λ wait at. refl })
+
+overdue-none : (known : Known) (key : Key) → CutsNone (overdue_row known key)
+overdue-none known key = each-overdue CutsNone known key (record { none = refl; taken = λ wait is overdue. refl })
+
+next-none : (known : Known) (number : ℕ) → CutsNone (next_waiting_row known number)
+next-none known number = each-next CutsNone known number (record {
+  none = refl;
+  refused = λ terminal last wait condition first is. refl;
+  begins = λ terminal last wait asking at. refl;
+  day = λ terminal last wait at. refl;
+  left = λ terminal last wait first. refl;
+})
+
 -- an item that cuts is of the terminal that it cuts, owes nothing else, and has a cause
 record OwesCut (tills : List Connection) (known : Known) (item : RoundItem) : Type 0 where
   pt : ℕ
@@ -159,11 +178,12 @@ row-cuts tills known (Gone till) cuts = no-true cuts
 row-cuts tills known (Greet number apdu) cuts = record { pt = number; of_it = refl; calls_are = greet-alone known number (decode_pt_message apdu) cuts; cause = cuts-have-cause known (Greet number apdu) cuts }
 row-cuts tills known (Handle number apdu) cuts = record { pt = number; of_it = refl; calls_are = handle-alone known number apdu cuts; cause = cuts-have-cause known (Handle number apdu) cuts }
 row-cuts tills known (Serve number till header request) cuts = no-true (sym (serve-none known number till header request) ∙ cuts)
-row-cuts tills known (NextWaiting number) cuts = no-true cuts
+row-cuts tills known (Queue number till header request) cuts = no-true (sym (queue-none known number till header request) ∙ cuts)
+row-cuts tills known (NextWaiting number) cuts = no-true (sym (next-none known number) ∙ cuts)
 row-cuts tills known (Oversized number) cuts = record { pt = number; of_it = refl; calls_are = oversized-alone known number cuts; cause = tt }
 row-cuts tills known (LinkLost number) cuts = no-true (sym (no-link-event-cuts known number LinkIsLost) ∙ cuts)
 row-cuts tills known (Late number) cuts = record { pt = number; of_it = refl; calls_are = late-alone known number cuts; cause = cuts-have-cause known (Late number) cuts }
-row-cuts tills known (Overdue key) cuts = no-true cuts
+row-cuts tills known (Overdue key) cuts = no-true (sym (overdue-none known key) ∙ cuts)
 row-cuts tills known (Due number) cuts = no-true (sym (due-none known number) ∙ cuts)
 
 -- ---- items that the bytes of the round bring
@@ -178,6 +198,7 @@ IsBrought log (Gone till) = Unit {0}
 IsBrought log (Greet pt apdu) = HasSaidApdu log pt apdu
 IsBrought log (Handle pt apdu) = HasSaidApdu log pt apdu
 IsBrought log (Serve pt till header request) = HasAsked log till (Request header request)
+IsBrought log (Queue pt till header request) = HasAsked log till (Request header request)
 IsBrought log (NextWaiting pt) = Unit {0}
 IsBrought log (Oversized pt) = HasBegunTooLong log pt
 IsBrought log (LinkLost pt) = Unit {0}
@@ -191,7 +212,7 @@ AreBrought log (item ∷ items) = IsBrought log item × AreBrought log items
 
 -- what a message begins is of what was asked
 begun-brought : (log : List Turn) (known : Known) (till : ℕ) (as_read : ReadAs) → HasAsked log till as_read → AreBrought log (begun_by known till as_read)
-begun-brought log known till as_read asked = form-begun (AreBrought log) known till tt as_read (λ number header request is. (subst (HasAsked log till) is asked, tt))
+begun-brought log known till as_read asked = form-begun (AreBrought log) known till tt as_read (λ number header request is. (subst (HasAsked log till) is asked, tt)) (λ number header request is. (subst (HasAsked log till) is asked, tt))
 
 brought-append : (log : List Turn) (items more : List RoundItem) → AreBrought log items → AreBrought log more → AreBrought log (items ++ more)
 brought-append log [] more h k = k
@@ -242,6 +263,7 @@ item-later log (Gone till) turn e h = tt
 item-later log (Greet pt apdu) turn e h = apdu-later log pt apdu turn e h
 item-later log (Handle pt apdu) turn e h = apdu-later log pt apdu turn e h
 item-later log (Serve pt till header request) turn e h = asked-later log till (Request header request) turn e h
+item-later log (Queue pt till header request) turn e h = asked-later log till (Request header request) turn e h
 item-later log (NextWaiting pt) turn e h = tt
 item-later log (Oversized pt) turn e h = record { new = h.new; left = h.left; length = h.length; said = said-later log pt h.new h.left turn e h.said; too_long = h.too_long }
 item-later log (LinkLost pt) turn e h = tt
@@ -267,12 +289,19 @@ read-brought log as_read (Gone till ∷ items) bytes message reads h = h
 read-brought log as_read (Greet pt apdu ∷ items) bytes message reads h = h
 read-brought log as_read (Handle pt apdu ∷ items) bytes message reads h = h
 read-brought log as_read (Serve pt till header request ∷ items) bytes message reads h = h
+read-brought log as_read (Queue pt till header request ∷ items) bytes message reads h = h
 read-brought log as_read (NextWaiting pt ∷ items) bytes message reads h = h
 read-brought log as_read (Oversized pt ∷ items) bytes message reads h = h
 read-brought log as_read (LinkLost pt ∷ items) bytes message reads h = h
 read-brought log as_read (Late pt ∷ items) bytes message reads h = h
 read-brought log as_read (Overdue key ∷ items) bytes message reads h = h
 read-brought log as_read (Due pt ∷ items) bytes message reads h = h
+
+looks-brought : (log : List Turn) (items : List RoundItem) → all_look items ≡ true → AreBrought log items
+looks-brought log [] e = tt
+looks-brought log (item ∷ items) e =
+    let p = and_parts (is_look item) (all_look items) e in
+    (each-look (IsBrought log) item p.0 (λ number. tt), looks-brought log items p.1)
 
 each-brought : (log : List Turn) (number : ℕ) (item : ℕ → RoundItem) (terminals : List Terminal) → ((n : ℕ) → IsBrought log (item n)) → AreBrought log (for_each_terminal number item terminals)
 each-brought log number item [] each = tt
@@ -407,6 +436,7 @@ cause-of log known (Handle other apdu) pt of_it cause brought begins =
     let same : other ≡ pt = cc in
     BrokeDialogue apdu known (subst (λ n. HasSaidApdu log n apdu) same brought) (subst (λ n. BeginsCut log pt (Handle n apdu) known) same begins) (subst (λ n. BreaksDialogue known n apdu) same cause)
 cause-of log known (Serve other till header request) pt of_it cause brought begins = absurd cause
+cause-of log known (Queue other till header request) pt of_it cause brought begins = absurd cause
 cause-of log known (NextWaiting other) pt of_it cause brought begins = absurd cause
 cause-of log known (Oversized other) pt of_it cause brought begins =
     let same : other ≡ pt = cc in
@@ -561,7 +591,10 @@ begin-causes log v s a h b = record { items = items-brought first.item first.ite
         (brought-append log (row_of tills known (Asked till as_read)).items first.rest
         (by-where (λ (row : Row). AreBrought log row.items) known (asked_row known till as_read) (is_connected tills till) tt (λ there. begun-brought log known till as_read asked)) brought.1)
 
-    items-brought : (item : RoundItem) → v.items ≡ item ∷ first.rest → IsBrought log item → (is_asked item ≡ false → AreBrought log (after v Begin).items) → AreBrought log (after v Begin).items
+    message_not : (number : ℕ) → v.items ≡ NextWaiting number ∷ first.rest → is_message first.item ≡ false
+    message_not number is = let same : NextWaiting number ≡ first.item = (let n : NextWaiting number ∷ first.rest ≡ first.item ∷ first.rest = sym is ∙ first.items_are in cc) in ap is_message (sym same)
+
+    items-brought : (item : RoundItem) → v.items ≡ item ∷ first.rest → IsBrought log item → (may_bring_more item ≡ false → AreBrought log (after v Begin).items) → AreBrought log (after v Begin).items
     items-brought (Crowded till) is own alone = alone refl
     items-brought (Message till bytes) is own alone = alone refl
     items-brought (Asked till as_read) is own alone = asked-brought till as_read is own
@@ -570,7 +603,8 @@ begin-causes log v s a h b = record { items = items-brought first.item first.ite
     items-brought (Greet number apdu) is own alone = alone refl
     items-brought (Handle number apdu) is own alone = alone refl
     items-brought (Serve number till header request) is own alone = alone refl
-    items-brought (NextWaiting number) is own alone = alone refl
+    items-brought (Queue number till header request) is own alone = alone refl
+    items-brought (NextWaiting number) is own alone = subst (AreBrought log) (sym first.left) (brought-append log first.new first.rest (looks-brought log first.new (first.looks (message_not number is))) brought.1)
     items-brought (Oversized number) is own alone = alone refl
     items-brought (LinkLost number) is own alone = alone refl
     items-brought (Late number) is own alone = alone refl

@@ -12,7 +12,7 @@ use Rattle.gw_site.specs.declared.turn.Turn.{Turn}
 use Rattle.gw_site.specs.declared.turn.Turn.TheVariants.{Start, OpenFailed, Polled, Opened, HeardTill, Closed, HeardPt, Lost, Stopped, Linked, LinkFailed, SentTill, SentPt, CutTill, CutPt, Wrote, Synced, DiskFailed, Crash}
 use Rattle.gw_owes.specs.Calls.{OwedCall, SendTill, SendPt, LinkPt, Sync, write_turn, CutTill as OwedCutTill, CutPt as OwedCutPt}
 use Rattle.gw_owes.specs.Events.{till_bytes_items}
-use Rattle.gw_owes.specs.Items.{RoundItem, Crowded, Message, Asked, Unframed, Gone, Greet, Handle, Serve, NextWaiting, Oversized, LinkLost, Late, Overdue, Due}
+use Rattle.gw_owes.specs.Items.{RoundItem, Crowded, Message, Asked, Unframed, Gone, Greet, Handle, Serve, Queue, NextWaiting, Oversized, LinkLost, Late, Overdue, Due}
 use Rattle.gw_owes.specs.ReadAs.{ReadAs}
 use Rattle.gw_owes.specs.Row.{owing, owing_where}
 use Rattle.gw_owes.specs.Rows.{row_of}
@@ -283,6 +283,7 @@ read-has till as_read cut (Gone other ∷ items) bytes m cuts h = h
 read-has till as_read cut (Greet pt apdu ∷ items) bytes m cuts h = h
 read-has till as_read cut (Handle pt apdu ∷ items) bytes m cuts h = h
 read-has till as_read cut (Serve pt other header request ∷ items) bytes m cuts h = h
+read-has till as_read cut (Queue pt other header request ∷ items) bytes m cuts h = h
 read-has till as_read cut (NextWaiting pt ∷ items) bytes m cuts h = h
 read-has till as_read cut (Oversized pt ∷ items) bytes m cuts h = h
 read-has till as_read cut (LinkLost pt ∷ items) bytes m cuts h = h

@@ -16,7 +16,7 @@ use Rattle.jrn_record.specs.declared.records.Record.{Record}
 use Rattle.jrn_record.specs.declared.records.Record.TheVariants.{Settled}
 use Rattle.gw_owes.specs.Calls.{OwedCall, SendTill, SendPt, LinkPt, WriteBody, WriteGate, WriteFirstGate, Sync, records_kept, CutTill as OwedCutTill, CutPt as OwedCutPt}
 use Rattle.gw_owes.specs.Handling.{handle_row, meaning_at}
-use Rattle.gw_owes.specs.Items.{RoundItem, Crowded, Message, Asked, Unframed, Gone, Greet, Handle, Serve, NextWaiting, Oversized, LinkLost, Late, Overdue, Due}
+use Rattle.gw_owes.specs.Items.{RoundItem, Crowded, Message, Asked, Unframed, Gone, Greet, Handle, Serve, Queue, NextWaiting, Oversized, LinkLost, Late, Overdue, Due}
 use Rattle.gw_owes.specs.PaymentLaws.{EndsDay, KeepsAtEnd}
 use Rattle.gw_owes.specs.Payments.{serve_row}
 use Rattle.gw_owes.specs.Reconciliations.{settle_calls, settled_of}
@@ -26,10 +26,12 @@ use Rattle.gw_owes.specs.Row.{Known, Row}
 use Rattle.gw_owes.specs.Rows.{row_of}
 use Rattle.gw_owes.specs.Terminals.{of_terminal, reply_calls_to, reply_to_lost, unlinks, link_lost}
 use Rattle.gw_owes.specs.Transcript.{Carried, EachRowFollowsTranscript, FollowsTranscript, as_carried}
+use Rattle.gw_owes.specs.WaitingRows.{next_waiting_row}
 use Rattle.gw_owes.specs.declared.terminal.Service.TheVariants.{EndOfDay}
 use Rattle.gw_owes.specs.declared.terminal.Standing.TheVariants.{Serving}
 use Rattle.gw_owes.specs.declared.terminal.Terminal.{Terminal}
 use Rattle.gw_owes.proofs.PaymentLawLemmas.{each-record-of-an-end}
+use Rattle.gw_owes.proofs.NextLemmas.{each-next}
 use Rattle.gw_owes.proofs.PaymentLemmas.{each-served}
 use Rattle.gw_owes.proofs.SetLemmas.{same-some}
 use Rattle.gw_rules.specs.CutCauses.{HasSaidApdu}
@@ -214,6 +216,16 @@ serve-no-day known number till header request = each-served KeepsNoDay known num
   displays = λ terminal last outputs command at. clean-no-day _ refl;
 })
 
+-- nor does one that has waited
+next-no-day : (known : Known) (number : ℕ) → KeepsNoDay (next_waiting_row known number)
+next-no-day known number = each-next KeepsNoDay known number (record {
+  none = clean-no-day _ refl;
+  refused = λ terminal last wait condition first is. clean-no-day _ refl;
+  begins = λ terminal last wait asking at slot settled k. absurd (let n = other-record slot _ _ settled k.first in cc);
+  day = λ terminal last wait at. clean-no-day _ refl;
+  left = λ terminal last wait first. clean-no-day _ refl;
+})
+
 -- the item handles a message of a terminal
 record IsHandled (item : RoundItem) : Type 0 where
   number : ℕ
@@ -232,11 +244,12 @@ keeping-handles tills known (Gone till) slot settled k = other-handles tills kno
 keeping-handles tills known (Greet number apdu) slot settled k = other-handles tills known (Greet number apdu) slot settled k (others-spare tills known (Greet number apdu) refl refl)
 keeping-handles tills known (Handle number apdu) slot settled k = record { number = number; apdu = apdu; item_is = refl }
 keeping-handles tills known (Serve number till header request) slot settled k = absurd (serve-no-day known number till header request slot settled k)
-keeping-handles tills known (NextWaiting number) slot settled k = other-handles tills known (NextWaiting number) slot settled k refl
+keeping-handles tills known (Queue number till header request) slot settled k = other-handles tills known (Queue number till header request) slot settled k (others-spare tills known (Queue number till header request) refl refl)
+keeping-handles tills known (NextWaiting number) slot settled k = absurd (next-no-day known number slot settled k)
 keeping-handles tills known (Oversized number) slot settled k = other-handles tills known (Oversized number) slot settled k (others-spare tills known (Oversized number) refl refl)
 keeping-handles tills known (LinkLost number) slot settled k = other-handles tills known (LinkLost number) slot settled k (others-spare tills known (LinkLost number) refl refl)
 keeping-handles tills known (Late number) slot settled k = other-handles tills known (Late number) slot settled k (others-spare tills known (Late number) refl refl)
-keeping-handles tills known (Overdue key) slot settled k = other-handles tills known (Overdue key) slot settled k refl
+keeping-handles tills known (Overdue key) slot settled k = other-handles tills known (Overdue key) slot settled k (others-spare tills known (Overdue key) refl refl)
 keeping-handles tills known (Due number) slot settled k = other-handles tills known (Due number) slot settled k (others-spare tills known (Due number) refl refl)
 
 -- a message that keeps one ends the end of day of its terminal

@@ -48,6 +48,7 @@ registering-stays known pt terminal heard.Stray e = refl
 
 registering-goes-on : GoesOnIn Registering
 registering-goes-on = record {
+  unready = refl;
   linked = refl;
   on = λ terminal is. rw is refl;
   stays = λ known pt terminal meant goes. registering-stays known pt terminal meant goes;

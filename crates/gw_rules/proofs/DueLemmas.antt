@@ -15,7 +15,7 @@ use Rattle.gw_owes.specs.Calls.{SendTill, SendPt, LinkPt, Sync, write_turn, CutT
 use Rattle.gw_owes.specs.Core.{Core, Wait}
 use Rattle.gw_owes.specs.Deadlines.{is_due, is_due_by}
 use Rattle.gw_owes.specs.Events.{for_each_terminal, waits_by_deadline, items_due}
-use Rattle.gw_owes.specs.Items.{RoundItem, Crowded, Message, Asked, Unframed, Gone, Greet, Handle, Serve, NextWaiting, Oversized, LinkLost, Late, Overdue, Due}
+use Rattle.gw_owes.specs.Items.{RoundItem, Crowded, Message, Asked, Unframed, Gone, Greet, Handle, Serve, Queue, NextWaiting, Oversized, LinkLost, Late, Overdue, Due}
 use Rattle.gw_owes.specs.TerminalLaws.{settings_of}
 use Rattle.gw_owes.specs.declared.terminal.Standing.{Standing}
 use Rattle.gw_owes.specs.declared.terminal.Standing.TheVariants.{Unlinked, Registering, Enquiring, Ready, Serving, Aside}
@@ -49,6 +49,7 @@ is_due_item pt (Gone till) = false
 is_due_item pt (Greet other apdu) = false
 is_due_item pt (Handle other apdu) = false
 is_due_item pt (Serve other till header request) = false
+is_due_item pt (Queue other till header request) = false
 is_due_item pt (NextWaiting other) = false
 is_due_item pt (Oversized other) = false
 is_due_item pt (LinkLost other) = false
@@ -125,6 +126,7 @@ due-owes pt moment due comes scene setup (Gone till) e is off at = no-true e
 due-owes pt moment due comes scene setup (Greet other apdu) e is off at = no-true e
 due-owes pt moment due comes scene setup (Handle other apdu) e is off at = no-true e
 due-owes pt moment due comes scene setup (Serve other till header request) e is off at = no-true e
+due-owes pt moment due comes scene setup (Queue other till header request) e is off at = no-true e
 due-owes pt moment due comes scene setup (NextWaiting other) e is off at = no-true e
 due-owes pt moment due comes scene setup (Oversized other) e is off at = no-true e
 due-owes pt moment due comes scene setup (LinkLost other) e is off at = no-true e

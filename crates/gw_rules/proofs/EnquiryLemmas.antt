@@ -39,7 +39,7 @@ use Rattle.gw_rules.specs.View.{View, Move, Begin, Read, Make, later, after, aft
 use Rattle.gw_rules.proofs.CourseLemmas.{begin-outside, begin-stage}
 use Rattle.gw_rules.proofs.KeptLemmas.{Kept, kept_in, without_asker, is_serving, lasting, lasting-kept, change_none, due-change-none, begins-first, left-alone}
 use Rattle.gw_rules.proofs.LinkLawLemmas.{sent-next}
-use Rattle.gw_rules.proofs.LinkStateLemmas.{On, state_of, on-linked, is_asked}
+use Rattle.gw_rules.proofs.LinkStateLemmas.{On, state_of, on-linked, may_bring_more}
 use Rattle.gw_rules.proofs.LinkedLemmas.{Agrees, move-agrees, turn-agrees}
 use Rattle.gw_rules.proofs.PrefixLemmas.{Along}
 use Rattle.gw_rules.proofs.SetupLemmas.{begin-setup}
@@ -68,7 +68,7 @@ pub record OwesThen (known : Known) (pt : ℕ) (terminal : Terminal) (calls : Li
   pub linked : state_of (Some terminal) ≡ On
   pub calls_are : row.calls ≡ calls
 
-begin-owing : (setup : Setup) (pt : ℕ) (terminal new : Terminal) (heard : List ℕ) (o : Outside) (calls : List OwedCall) (item : RoundItem) (rest : List RoundItem) (v : View) → is_asked item ≡ false → Owing setup pt terminal heard o [] (item ∷ rest) v → Begins v
+begin-owing : (setup : Setup) (pt : ℕ) (terminal new : Terminal) (heard : List ℕ) (o : Outside) (calls : List OwedCall) (item : RoundItem) (rest : List RoundItem) (v : View) → may_bring_more item ≡ false → Owing setup pt terminal heard o [] (item ∷ rest) v → Begins v
     → OwesThen (known_in v.scene setup) pt new calls (row_of v.scene.outside.tills (known_in v.scene setup) item) → Owing setup pt new heard o calls rest (after v Begin)
 begin-owing setup pt terminal new heard o calls item rest v other w b g =
     let first = begins-first v w.agrees b in
@@ -84,7 +84,7 @@ begin-owing setup pt terminal new heard o calls item rest v other w b g =
       heard_is = w.heard_is;
       stage = begin-stage v.scene v.items ∙ ap busy w.stage;
       calls_are = ap (λ l. (after (record v { items = l }) Begin).calls) w.items_are ∙ ap (λ (r : Row). r.calls) row ∙ g.calls_are;
-      items_are = left-alone v first (ap is_asked heads ∙ other) ∙ tails;
+      items_are = left-alone v first (ap may_bring_more heads ∙ other) ∙ tails;
     }
 
 -- the next of these turns is of the run

@@ -4,6 +4,7 @@ use Rattle.std.proofs.lemmas.Bool.{and_parts}
 use Rattle.std.specs.Prelude.{Bool, ◌⊎◌, ◌+◌, ◌==◌, ◌&&◌, not, nat_lt, if◌then◌else◌, map, length, slice_get, Option, Some, None}
 use Rattle.std.specs.List.{flat_map}
 use Rattle.std.specs.Option.{option_map}
+use Rattle.gw_base.specs.declared.key.Key.{Key}
 use Rattle.gw_base.specs.declared.setup.Setup.{Setup}
 use Rattle.gw_site.specs.Outside.{Connection, Outside, is_connected, without, hears, heard_on, new_connection}
 use Rattle.gw_site.specs.Sorts.{IsQuiet, is_between}
@@ -22,7 +23,7 @@ use Rattle.gw_owes.specs.Awaited.{one_more_awaited}
 use Rattle.gw_owes.specs.Calls.{LinkPt, CutPt as OwedCutPt}
 use Rattle.gw_owes.specs.Core.{Core, Wait}
 use Rattle.gw_owes.specs.Events.{till_opened_items, has_bad_length, decoded_items, is_oversized, apdu_items, decoded_apdu_items, for_each_terminal, waits_by_deadline, items_due}
-use Rattle.gw_owes.specs.Items.{RoundItem, Crowded, Message, Asked, Unframed, Gone, Greet, Handle, Serve, NextWaiting, Oversized, LinkLost, Late, Overdue, Due}
+use Rattle.gw_owes.specs.Items.{RoundItem, Crowded, Message, Asked, Unframed, Gone, Greet, Handle, Serve, Queue, NextWaiting, Oversized, LinkLost, Late, Overdue, Due}
 use Rattle.gw_owes.specs.Links.{LinkIsMade, LinkIsLost}
 use Rattle.gw_owes.specs.Payments.{serve_row}
 use Rattle.gw_owes.specs.ReadAs.{ReadAs}
@@ -30,10 +31,12 @@ use Rattle.gw_owes.specs.Row.{Known, Row, owing_where}
 use Rattle.gw_owes.specs.Rows.{row_of, asked_row}
 use Rattle.gw_owes.specs.Steps.{is_ready_standing}
 use Rattle.gw_owes.specs.Terminals.{with_terminal, link_made, link_lost, forgets_till}
+use Rattle.gw_owes.specs.WaitingRows.{next_waiting_row, overdue_row, queue_row}
 use Rattle.gw_owes.specs.declared.terminal.Service.{Service}
 use Rattle.gw_owes.specs.declared.terminal.Standing.{Standing}
 use Rattle.gw_owes.specs.declared.terminal.Standing.TheVariants.{Unlinked, Registering, Enquiring, Ready, Serving, Aside}
 use Rattle.gw_owes.specs.declared.terminal.Terminal.{Terminal}
+use Rattle.gw_owes.proofs.NextLemmas.{each-next, each-overdue, each-queued}
 use Rattle.gw_owes.proofs.PaymentLemmas.{StopsAt, each-served}
 use Rattle.gw_owes.proofs.SetLemmas.{new-is-there}
 use Rattle.gw_owes.proofs.TerminalLemmas.{greeting-changes-nothing, late-same, due-same, oversized-same, link-changes-alone, row-changes-alone}
@@ -42,7 +45,7 @@ use Rattle.gw_rules.specs.Lawful.{may_begin, Begins, AllowedTurn, IsCourse, turn
 use Rattle.gw_rules.specs.Scene.{Scene, known_in, row_in, row_at, link_made_at, link_lost_at}
 use Rattle.gw_rules.specs.View.{View, Move, Begin, Read, Make, read_first, after, after_turn, view_from}
 use Rattle.gw_rules.proofs.CourseLemmas.{begin-outside}
-use Rattle.gw_rules.proofs.LinkStateLemmas.{On, standing_state, state_of, state_in, is_serve, each-serve, all_serve, is_asked, loses, apart}
+use Rattle.gw_rules.proofs.LinkStateLemmas.{On, standing_state, state_of, state_in, may_begin_some, each-beginning, may_bring_more, each-bringing, is_message, all_look, next-looks, may_follow, each-following, all_follow, loses, apart}
 use Rattle.gw_rules.proofs.LinkedLemmas.{Agrees, Settled, Losing, lose_none, at-keeps, at-keeps-alone, call-settled, call-setup, lost-at-turns, made-at-turns, move-agrees, round-setup}
 use Rattle.gw_rules.proofs.OutsideCutLemmas.{no-link}
 use Rattle.gw_rules.proofs.StageLemmas.{no-true, not-true}
@@ -155,6 +158,7 @@ changes pt (Gone till) = false
 changes pt (Greet other apdu) = false
 changes pt (Handle other apdu) = other == pt
 changes pt (Serve other till header request) = false
+changes pt (Queue other till header request) = false
 changes pt (NextWaiting other) = false
 changes pt (Oversized other) = false
 changes pt (LinkLost other) = other == pt
@@ -216,8 +220,35 @@ serve-lasts known number till header request pt none = by-equal pt number
     (λ is. subst (λ n. ready_in known.core n ≡ false → lasting_in (serve_row known number till header request).core n ≡ lasting_in known.core n) is (serve-own known number till header request) none)
     (λ differs. ap (λ found. option_map lasting (option_map without_asker found)) ((row-changes-alone known (Serve number till header request) number refl).others pt (other-number pt number differs)))
 
--- an item that doesn't begin to serve keeps all but the till
-rows-kept : (tills : List Connection) (known : Known) (item : RoundItem) (pt : ℕ) → is_serve item ≡ false → changes pt item ≡ false → kept_in (row_of tills known item).core pt ≡ kept_in known.core pt
+-- so does one that isn't ready: nothing that waits for it is looked at
+next-own : (known : Known) (number : ℕ) → ready_in known.core number ≡ false → lasting_in (next_waiting_row known number).core number ≡ lasting_in known.core number
+next-own known number none =
+    each-next (λ (row : Row). lasting_in row.core number ≡ lasting_in known.core number) known number (record {
+      none = refl;
+      refused = λ terminal last wait condition first is. refl;
+      begins = λ terminal last wait asking at. never_ready terminal last at.first.found at.first.standing_is;
+      day = λ terminal last wait at. never_ready terminal last at.first.found at.first.standing_is;
+      left = λ terminal last wait first. refl;
+    })
+  where
+    never_ready : {A : Type 0} (terminal : Terminal) (last : ℕ) → slice_get known.core.terminals number ≡ Some terminal → terminal.standing ≡ Ready last → A
+    never_ready terminal last found ready = no-true (sym none ∙ ap is_ready_found found ∙ ap is_ready_standing ready)
+
+next-lasts : (known : Known) (number pt : ℕ) → ready_in known.core pt ≡ false → lasting_in (next_waiting_row known number).core pt ≡ lasting_in known.core pt
+next-lasts known number pt none = by-equal pt number
+    (λ is. subst (λ n. ready_in known.core n ≡ false → lasting_in (next_waiting_row known number).core n ≡ lasting_in known.core n) is (next-own known number) none)
+    (λ differs. ap (λ found. option_map lasting (option_map without_asker found)) ((row-changes-alone known (NextWaiting number) number refl).others pt (other-number pt number differs)))
+
+-- what waits makes no difference
+queue-kept : (known : Known) (number till : ℕ) (header : Header) (request : SaleRequest) (pt : ℕ) → kept_in (queue_row known number till header request).core pt ≡ kept_in known.core pt
+queue-kept known number till header request pt =
+    each-queued (λ (row : Row). kept_in row.core pt ≡ kept_in known.core pt) known number till header request (record { none = refl; joins = λ terminal key at. refl; taken = λ wait at. refl })
+
+overdue-kept : (known : Known) (key : Key) (pt : ℕ) → kept_in (overdue_row known key).core pt ≡ kept_in known.core pt
+overdue-kept known key pt = each-overdue (λ (row : Row). kept_in row.core pt ≡ kept_in known.core pt) known key (record { none = refl; taken = λ wait is overdue. refl })
+
+-- an item that begins to serve nothing keeps all but the till
+rows-kept : (tills : List Connection) (known : Known) (item : RoundItem) (pt : ℕ) → may_begin_some item ≡ false → changes pt item ≡ false → kept_in (row_of tills known item).core pt ≡ kept_in known.core pt
 rows-kept tills known (Crowded till) pt none e = refl
 rows-kept tills known (Message till bytes) pt none e = refl
 rows-kept tills known (Asked till as_read) pt none e = ap (λ c. kept_in c pt) (where-core (is_connected tills till) known (asked_row known till as_read) refl)
@@ -226,23 +257,25 @@ rows-kept tills known (Gone till) pt none e = without-kept till known.core.termi
 rows-kept tills known (Greet number apdu) pt none e = ap (λ c. kept_in c pt) (greeting-changes-nothing known number apdu)
 rows-kept tills known (Handle number apdu) pt none e = ap (option_map without_asker) ((row-changes-alone known (Handle number apdu) number refl).others pt (other-number pt number e))
 rows-kept tills known (Serve number till header request) pt none e = no-true (sym none)
-rows-kept tills known (NextWaiting number) pt none e = refl
+rows-kept tills known (Queue number till header request) pt none e = queue-kept known number till header request pt
+rows-kept tills known (NextWaiting number) pt none e = no-true (sym none)
 rows-kept tills known (Oversized number) pt none e = ap (λ c. kept_in c pt) (oversized-same known number)
 rows-kept tills known (LinkLost number) pt none e = ap (option_map without_asker) ((row-changes-alone known (LinkLost number) number refl).others pt (other-number pt number e))
 rows-kept tills known (Late number) pt none e = ap (λ c. kept_in c pt) (late-same known number)
-rows-kept tills known (Overdue key) pt none e = refl
+rows-kept tills known (Overdue key) pt none e = overdue-kept known key pt
 rows-kept tills known (Due number) pt none e = ap (λ c. kept_in c pt) (due-same known number)
 
 -- and each item keeps what lasts of a terminal that isn't ready
-rows-last : (tills : List Connection) (known : Known) (item : RoundItem) (pt : ℕ) → ready_in known.core pt ≡ false → changes pt item ≡ false → lasting_in (row_of tills known item).core pt ≡ lasting_in known.core pt
-rows-last tills known item pt none e = by_test (is_serve item) refl
+pub rows-last : (tills : List Connection) (known : Known) (item : RoundItem) (pt : ℕ) → ready_in known.core pt ≡ false → changes pt item ≡ false → lasting_in (row_of tills known item).core pt ≡ lasting_in known.core pt
+rows-last tills known item pt none e = by_test (may_begin_some item) refl
   where
-    by_test : (test : Bool) → is_serve item ≡ test → lasting_in (row_of tills known item).core pt ≡ lasting_in known.core pt
+    by_test : (test : Bool) → may_begin_some item ≡ test → lasting_in (row_of tills known item).core pt ≡ lasting_in known.core pt
     by_test true is =
-        each-serve (λ i. lasting_in (row_of tills known i).core pt ≡ lasting_in known.core pt) item is (λ number till header request. serve-lasts known number till header request pt none)
+        each-beginning (λ i. lasting_in (row_of tills known i).core pt ≡ lasting_in known.core pt) item is (λ number till header request. serve-lasts known number till header request pt none)
+        (λ number. next-lasts known number pt none)
     by_test false is = ap (option_map lasting) (rows-kept tills known item pt is e)
 
-pub at-kept : (scene : Scene) (item : RoundItem) (pt : ℕ) → is_serve item ≡ false → changes pt item ≡ false → kept_in (row_at scene item).core pt ≡ kept_in scene.core pt
+pub at-kept : (scene : Scene) (item : RoundItem) (pt : ℕ) → may_begin_some item ≡ false → changes pt item ≡ false → kept_in (row_at scene item).core pt ≡ kept_in scene.core pt
 at-kept scene item pt none e = by_setup scene.setup
   where
     by_setup : (setup : Option Setup) → kept_in (row_in scene (λ known. row_of scene.outside.tills known item) setup).core pt ≡ kept_in scene.core pt
@@ -278,14 +311,14 @@ change-none-append pt (item ∷ items) more h k =
     let p = and_parts (not (changes pt item)) (change_none pt items) h in
     rw (p.0, change-none-append pt items more p.1 k) refl
 
-serve-changes-none : (pt : ℕ) (item : RoundItem) → is_serve item ≡ true → changes pt item ≡ false
-serve-changes-none pt item e = each-serve (λ i. changes pt i ≡ false) item e (λ number till header request. refl)
+follow-changes-none : (pt : ℕ) (item : RoundItem) → may_follow item ≡ true → changes pt item ≡ false
+follow-changes-none pt item e = each-following (λ i. changes pt i ≡ false) item e (λ number till header request. refl) (λ number till header request. refl) (λ number. refl)
 
-pub serves-change-none : (pt : ℕ) (items : List RoundItem) → all_serve items ≡ true → change_none pt items ≡ true
-serves-change-none pt [] e = refl
-serves-change-none pt (item ∷ items) e =
-    let p = and_parts (is_serve item) (all_serve items) e in
-    rw (serve-changes-none pt item p.0, serves-change-none pt items p.1) refl
+pub follow-change-none : (pt : ℕ) (items : List RoundItem) → all_follow items ≡ true → change_none pt items ≡ true
+follow-change-none pt [] e = refl
+follow-change-none pt (item ∷ items) e =
+    let p = and_parts (may_follow item) (all_follow items) e in
+    rw (follow-changes-none pt item p.0, follow-change-none pt items p.1) refl
 
 none-each : (pt number : ℕ) (item : ℕ → RoundItem) (terminals : List Terminal) → ((n : ℕ) → changes pt (item n) ≡ false) → change_none pt (for_each_terminal number item terminals) ≡ true
 none-each pt number item [] never = refl
@@ -335,18 +368,27 @@ till-none pt till decoded core = change-none-append pt (decoded_items till decod
 pub other-none : (pt other : ℕ) (decoded : DecodedApdus) (core : Core) → (other == pt) ≡ false → change_none pt (decoded_apdu_items other decoded ++ items_due core) ≡ true
 other-none pt other decoded core e = change-none-append pt (decoded_apdu_items other decoded) (items_due core) (none-pt pt other decoded e) (due-change-none pt core)
 
--- an item that begins is the first, and those after it are left; where it is a message that was read, one that begins to serve may come before them
+-- an item that begins is the first, and those after it are left; where it is a message that was read, or a look at what waits, others may come before them
 pub record BeginsFirst (v : View) : Type 0 where
   pub item : RoundItem
   pub rest : List RoundItem
   pub new : List RoundItem
   pub items_are : v.items ≡ item ∷ rest
-  pub new_is : all_serve new ≡ true
+  pub new_is : all_follow new ≡ true
   pub left : (after v Begin).items ≡ new ++ rest
-  pub alone : is_asked item ≡ false → new ≡ []
+  pub alone : may_bring_more item ≡ false → new ≡ []
+  -- where it is no message only a look at what waits may
+  pub looks : is_message item ≡ false → all_look new ≡ true
 
-pub left-alone : (v : View) (f : BeginsFirst v) → is_asked f.item ≡ false → (after v Begin).items ≡ f.rest
+pub left-alone : (v : View) (f : BeginsFirst v) → may_bring_more f.item ≡ false → (after v Begin).items ≡ f.rest
 left-alone v f none = f.left ∙ ap (λ l. l ++ f.rest) (f.alone none)
+
+looks-at : (scene : Scene) (number : ℕ) → all_look (row_at scene (NextWaiting number)).items ≡ true
+looks-at scene number = by_setup scene.setup
+  where
+    by_setup : (setup : Option Setup) → all_look (row_in scene (λ known. row_of scene.outside.tills known (NextWaiting number)) setup).items ≡ true
+    by_setup None = refl
+    by_setup (Some setup) = next-looks (known_in scene setup) number
 
 pub begins-first : (v : View) → Agrees v → Begins v → BeginsFirst v
 begins-first v a b = by_items v.items refl
@@ -356,9 +398,14 @@ begins-first v a b = by_items v.items refl
     by_items (item ∷ rest) e =
         let known = round-setup v a.run b.idle.round in
         let adds = by_links known.setup known.setup_is a.links in
-        record { item = item; rest = rest; new = (row_at v.scene item).items; items_are = e; new_is = adds.0; left = ap (λ l. (after (record v { items = l }) Begin).items) e; alone = adds.1 }
+        record { item = item; rest = rest; new = (row_at v.scene item).items; items_are = e; new_is = adds.0; left = ap (λ l. (after (record v { items = l }) Begin).items) e; alone = adds.1; looks = looks_only (may_bring_more item) refl adds.1 }
       where
-        by_links : (setup : Setup) → v.scene.setup ≡ Some setup → Settled v ⊎ Losing v → (all_serve (row_at v.scene item).items ≡ true) × (is_asked item ≡ false → (row_at v.scene item).items ≡ [])
+        looks_only : (test : Bool) → may_bring_more item ≡ test → (may_bring_more item ≡ false → (row_at v.scene item).items ≡ []) → is_message item ≡ false → all_look (row_at v.scene item).items ≡ true
+        looks_only false e alone none = ap all_look (alone e)
+        looks_only true e alone none =
+            each-bringing (λ i. is_message i ≡ false → all_look (row_at v.scene i).items ≡ true) item e (λ till as_read n. no-true (sym n)) (λ number n. looks-at v.scene number) none
+
+        by_links : (setup : Setup) → v.scene.setup ≡ Some setup → Settled v ⊎ Losing v → (all_follow (row_at v.scene item).items ≡ true) × (may_bring_more item ≡ false → (row_at v.scene item).items ≡ [])
         by_links setup is (inl s) =
             let none : lose_none (item ∷ rest) ≡ true = subst (λ l. lose_none l ≡ true) e s.none in
             let stays = not-true (loses item) (and_parts (not (loses item)) (lose_none rest) none).0 in
@@ -366,7 +413,7 @@ begins-first v a b = by_items v.items refl
         by_links setup is (inr l) =
             let same : LinkLost l.pt ≡ item = (let n : LinkLost l.pt ∷ l.rest ≡ item ∷ rest = sym l.items_are ∙ e in cc) in
             let none : (row_at v.scene item).items ≡ [] = subst (λ i. (row_at v.scene i).items ≡ []) same (lost-at-turns v.scene l.pt setup is).items in
-            (ap all_serve none, λ asked. none)
+            (ap all_follow none, λ asked. none)
 
 pub read-none : (pt : ℕ) (as_read : ReadAs) (items : List RoundItem) → change_none pt items ≡ true → change_none pt (read_first as_read items) ≡ true
 read-none pt as_read [] e = e
@@ -378,6 +425,7 @@ read-none pt as_read (Gone till ∷ items) e = e
 read-none pt as_read (Greet other apdu ∷ items) e = e
 read-none pt as_read (Handle other apdu ∷ items) e = e
 read-none pt as_read (Serve other till header request ∷ items) e = e
+read-none pt as_read (Queue other till header request ∷ items) e = e
 read-none pt as_read (NextWaiting other ∷ items) e = e
 read-none pt as_read (Oversized other ∷ items) e = e
 read-none pt as_read (LinkLost other ∷ items) e = e
@@ -459,7 +507,7 @@ begin-kept pt terminal heard v a k b =
     let p = and_parts (not (changes pt first.item)) (change_none pt first.rest) none in
     same-lasts pt terminal heard v (after v Begin) k
     (ap (λ l. lasting_in (after (record v { items = l }) Begin).scene.core pt) first.items_are ∙ at-lasts v.scene first.item pt (ready-lasting v.scene.core pt terminal k.kept ∙ k.unready) (not-true (changes pt first.item) p.0))
-    (ap (change_none pt) first.left ∙ change-none-append pt first.new first.rest (serves-change-none pt first.new first.new_is) p.1)
+    (ap (change_none pt) first.left ∙ change-none-append pt first.new first.rest (follow-change-none pt first.new first.new_is) p.1)
     (ap (λ (o : Outside). heard_on o.links pt) (begin-outside v.scene v.items))
 
 pub read-kept : (pt : ℕ) (terminal : Terminal) (heard : List ℕ) (v : View) (as_read : ReadAs) → Kept pt terminal heard v → Kept pt terminal heard (after v (Read as_read))

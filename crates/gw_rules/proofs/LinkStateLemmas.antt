@@ -2,6 +2,7 @@
 use Rattle.std.proofs.Common.{◌≡◌, ◌≢◌, ℕ, zero, suc, List, [], ◌∷◌, refl, sym, ◌∙◌, ap, subst, true, false, eqb-true}
 use Rattle.std.proofs.lemmas.Bool.{eq-eqb}
 use Rattle.std.specs.Prelude.{Bool, ◌+◌, ◌==◌, ◌&&◌, ◌++◌, map, length, slice_get, Option, Some, None, Result, Ok, Err}
+use Rattle.gw_base.specs.declared.key.Key.{Key}
 use Rattle.sale_values.specs.declared.header.Header.{Header}
 use Rattle.sale_values.specs.declared.request.SaleRequest.{SaleRequest}
 use Rattle.jrn_record.specs.declared.records.Outcome.{Outcome}
@@ -23,7 +24,7 @@ use Rattle.gw_owes.specs.Core.{Core}
 use Rattle.gw_owes.specs.Deadlines.{is_late, is_due_by, is_due, late_row, due_row}
 use Rattle.gw_owes.specs.Greeting.{greeting, sending_calls, greet_decoded, oversized_row}
 use Rattle.gw_owes.specs.Handling.{taking, handle_row}
-use Rattle.gw_owes.specs.Items.{RoundItem, Crowded, Message, Asked, Unframed, Gone, Greet, Handle, Serve, NextWaiting, Oversized, LinkLost, Late, Overdue, Due}
+use Rattle.gw_owes.specs.Items.{RoundItem, Crowded, Message, Asked, Unframed, Gone, Greet, Handle, Serve, Queue, NextWaiting, Oversized, LinkLost, Late, Overdue, Due}
 use Rattle.gw_owes.specs.Links.{is_linked, cutting}
 use Rattle.gw_owes.specs.Reconciliations.{settle_calls, reply_to_settled, settled_of}
 use Rattle.gw_owes.specs.Reply.{ReplyValue}
@@ -33,14 +34,18 @@ use Rattle.gw_owes.specs.Requests.{begun_by, reply_to}
 use Rattle.gw_owes.specs.Row.{Known, Row, owing, owing_nothing, owing_where}
 use Rattle.gw_owes.specs.Rows.{asked_row, row_of}
 use Rattle.gw_owes.specs.Serving.{at_rest, reply_to_outcome, done_with, resolves}
+use Rattle.gw_owes.specs.Steps.{is_ready_standing}
 use Rattle.gw_owes.specs.Stops.{wishing}
 use Rattle.gw_owes.specs.TerminalLaws.{settings_of}
 use Rattle.gw_owes.specs.Terminals.{terminal_at, of_terminal, terminal_becomes, with_terminal, registers, link_made, reply_calls_to, reply_to_lost, unlinks, unlinked_terminal, link_lost, forgets_till}
+use Rattle.gw_owes.specs.WaitingRows.{next_waiting_row, overdue_row, queue_row}
+use Rattle.gw_owes.specs.Waits.{core_without_wait}
 use Rattle.gw_owes.specs.declared.terminal.Standing.{Standing}
 use Rattle.gw_owes.specs.declared.terminal.Standing.TheVariants.{Unlinked, Registering, Enquiring, Ready, Serving, Aside}
 use Rattle.gw_owes.specs.declared.terminal.Terminal.{Terminal}
 use Rattle.gw_owes.proofs.HandlingLemmas.{each-terminal, each-linked}
-use Rattle.gw_owes.proofs.PaymentLemmas.{StopsAt, each-served}
+use Rattle.gw_owes.proofs.NextLemmas.{each-next, each-overdue, each-queued, known_without}
+use Rattle.gw_owes.proofs.PaymentLemmas.{StopsAt, day_row, each-served}
 use Rattle.gw_owes.proofs.SetLemmas.{others-stay, new-is-there, same-stays}
 use Rattle.gw_rules.proofs.RowFormLemmas.{EachForm, form-handled, form-begun}
 use Rattle.gw_rules.proofs.StageLemmas.{no-true}
@@ -166,6 +171,7 @@ is_serve (Gone till) = false
 is_serve (Greet number apdu) = false
 is_serve (Handle number apdu) = false
 is_serve (Serve number till header request) = true
+is_serve (Queue number till header request) = false
 is_serve (NextWaiting number) = false
 is_serve (Oversized number) = false
 is_serve (LinkLost number) = false
@@ -183,6 +189,7 @@ each-serve P (Gone till) e each = no-true e
 each-serve P (Greet number apdu) e each = no-true e
 each-serve P (Handle number apdu) e each = no-true e
 each-serve P (Serve number till header request) e each = each number till header request
+each-serve P (Queue number till header request) e each = no-true e
 each-serve P (NextWaiting number) e each = no-true e
 each-serve P (Oversized number) e each = no-true e
 each-serve P (LinkLost number) e each = no-true e
@@ -190,14 +197,87 @@ each-serve P (Late number) e each = no-true e
 each-serve P (Overdue key) e each = no-true e
 each-serve P (Due number) e each = no-true e
 
--- each of these does
-abbrev pub all_serve : List RoundItem → Bool
-all_serve [] = true
-all_serve (item ∷ items) = is_serve item && all_serve items
+-- the item begins to serve, or looks whether what waits is to be served
+abbrev pub may_begin_some : RoundItem → Bool
+may_begin_some (Crowded till) = false
+may_begin_some (Message till bytes) = false
+may_begin_some (Asked till as_read) = false
+may_begin_some (Unframed till) = false
+may_begin_some (Gone till) = false
+may_begin_some (Greet number apdu) = false
+may_begin_some (Handle number apdu) = false
+may_begin_some (Serve number till header request) = true
+may_begin_some (Queue number till header request) = false
+may_begin_some (NextWaiting number) = true
+may_begin_some (Oversized number) = false
+may_begin_some (LinkLost number) = false
+may_begin_some (Late number) = false
+may_begin_some (Overdue key) = false
+may_begin_some (Due number) = false
 
--- what a till's message begins only begins to serve
-begins-serves : (known : Known) (till : ℕ) (as_read : ReadAs) → all_serve (begun_by known till as_read) ≡ true
-begins-serves known till as_read = form-begun (λ items. all_serve items ≡ true) known till refl as_read (λ number header request is. refl)
+-- what holds of each of these holds of one that is
+pub each-beginning : (P : RoundItem → Type 0) (item : RoundItem) → may_begin_some item ≡ true → ((number till : ℕ) (header : Header) (request : SaleRequest) → P (Serve number till header request)) → ((number : ℕ) → P (NextWaiting number)) → P item
+each-beginning P (Crowded till) e serves nexts = no-true e
+each-beginning P (Message till bytes) e serves nexts = no-true e
+each-beginning P (Asked till as_read) e serves nexts = no-true e
+each-beginning P (Unframed till) e serves nexts = no-true e
+each-beginning P (Gone till) e serves nexts = no-true e
+each-beginning P (Greet number apdu) e serves nexts = no-true e
+each-beginning P (Handle number apdu) e serves nexts = no-true e
+each-beginning P (Serve number till header request) e serves nexts = serves number till header request
+each-beginning P (Queue number till header request) e serves nexts = no-true e
+each-beginning P (NextWaiting number) e serves nexts = nexts number
+each-beginning P (Oversized number) e serves nexts = no-true e
+each-beginning P (LinkLost number) e serves nexts = no-true e
+each-beginning P (Late number) e serves nexts = no-true e
+each-beginning P (Overdue key) e serves nexts = no-true e
+each-beginning P (Due number) e serves nexts = no-true e
+
+-- the item may come next after one that has begun: with it a request is begun or stopped, joins those that wait or leaves them, or the next of those is looked at
+abbrev pub may_follow : RoundItem → Bool
+may_follow (Crowded till) = false
+may_follow (Message till bytes) = false
+may_follow (Asked till as_read) = false
+may_follow (Unframed till) = false
+may_follow (Gone till) = false
+may_follow (Greet number apdu) = false
+may_follow (Handle number apdu) = false
+may_follow (Serve number till header request) = true
+may_follow (Queue number till header request) = true
+may_follow (NextWaiting number) = true
+may_follow (Oversized number) = false
+may_follow (LinkLost number) = false
+may_follow (Late number) = false
+may_follow (Overdue key) = false
+may_follow (Due number) = false
+
+-- what holds of each of these holds of one that is
+pub each-following : (P : RoundItem → Type 0) (item : RoundItem) → may_follow item ≡ true → ((number till : ℕ) (header : Header) (request : SaleRequest) → P (Serve number till header request))
+    → ((number till : ℕ) (header : Header) (request : SaleRequest) → P (Queue number till header request)) → ((number : ℕ) → P (NextWaiting number)) → P item
+each-following P (Crowded till) e serves queues nexts = no-true e
+each-following P (Message till bytes) e serves queues nexts = no-true e
+each-following P (Asked till as_read) e serves queues nexts = no-true e
+each-following P (Unframed till) e serves queues nexts = no-true e
+each-following P (Gone till) e serves queues nexts = no-true e
+each-following P (Greet number apdu) e serves queues nexts = no-true e
+each-following P (Handle number apdu) e serves queues nexts = no-true e
+each-following P (Serve number till header request) e serves queues nexts = serves number till header request
+each-following P (Queue number till header request) e serves queues nexts = queues number till header request
+each-following P (NextWaiting number) e serves queues nexts = nexts number
+each-following P (Oversized number) e serves queues nexts = no-true e
+each-following P (LinkLost number) e serves queues nexts = no-true e
+each-following P (Late number) e serves queues nexts = no-true e
+each-following P (Overdue key) e serves queues nexts = no-true e
+each-following P (Due number) e serves queues nexts = no-true e
+
+-- each of these may
+abbrev pub all_follow : List RoundItem → Bool
+all_follow [] = true
+all_follow (item ∷ items) = may_follow item && all_follow items
+
+-- what a till's message begins may
+begins-follow : (known : Known) (till : ℕ) (as_read : ReadAs) → all_follow (begun_by known till as_read) ≡ true
+begins-follow known till as_read = form-begun (λ items. all_follow items ≡ true) known till refl as_read (λ number header request is. refl) (λ number header request is. refl)
 
 -- ---- rows that leave each terminal linked, or due, as it was
 
@@ -208,10 +288,10 @@ pub record KeepsLinks (moment : ℕ) (core : Core) (row : Row) : Type 0 where
   pub settings : settings_of row.core ≡ settings_of core
   pub fits : EachFits moment row.core row.calls
 
--- the items that come next only begin to serve
+-- the items that come next are of those that may
 pub record LeavesLinks (moment : ℕ) (core : Core) (row : Row) : Type 0 where
   pub states : (number : ℕ) → state_in row.core number ≡ state_in core number
-  pub items : all_serve row.items ≡ true
+  pub items : all_follow row.items ≡ true
   pub settings : settings_of row.core ≡ settings_of core
   pub fits : EachFits moment row.core row.calls
 
@@ -372,6 +452,7 @@ loses (Gone till) = false
 loses (Greet number apdu) = false
 loses (Handle number apdu) = false
 loses (Serve number till header request) = false
+loses (Queue number till header request) = false
 loses (NextWaiting number) = false
 loses (Oversized number) = false
 loses (LinkLost number) = true
@@ -379,25 +460,145 @@ loses (Late number) = false
 loses (Overdue key) = false
 loses (Due number) = false
 
--- a message that was read
-abbrev pub is_asked : RoundItem → Bool
-is_asked (Crowded till) = false
-is_asked (Message till bytes) = false
-is_asked (Asked till as_read) = true
-is_asked (Unframed till) = false
-is_asked (Gone till) = false
-is_asked (Greet number apdu) = false
-is_asked (Handle number apdu) = false
-is_asked (Serve number till header request) = false
-is_asked (NextWaiting number) = false
-is_asked (Oversized number) = false
-is_asked (LinkLost number) = false
-is_asked (Late number) = false
-is_asked (Overdue key) = false
-is_asked (Due number) = false
+-- an item after which others may come: a message that was read, or a look at what waits
+abbrev pub may_bring_more : RoundItem → Bool
+may_bring_more (Crowded till) = false
+may_bring_more (Message till bytes) = false
+may_bring_more (Asked till as_read) = true
+may_bring_more (Unframed till) = false
+may_bring_more (Gone till) = false
+may_bring_more (Greet number apdu) = false
+may_bring_more (Handle number apdu) = false
+may_bring_more (Serve number till header request) = false
+may_bring_more (Queue number till header request) = false
+may_bring_more (NextWaiting number) = true
+may_bring_more (Oversized number) = false
+may_bring_more (LinkLost number) = false
+may_bring_more (Late number) = false
+may_bring_more (Overdue key) = false
+may_bring_more (Due number) = false
 
--- and no row but that of a message adds an item
-pub alone-keep : (tills : List Connection) (known : Known) (item : RoundItem) → ((number : ℕ) → state_in known.core number ≢ Odd) → loses item ≡ false → is_asked item ≡ false → KeepsLinks known.moment known.core (row_of tills known item)
+-- what holds of a message that was read, and of each look at what waits, holds of one that is
+pub each-bringing : (P : RoundItem → Type 0) (item : RoundItem) → may_bring_more item ≡ true → ((till : ℕ) (as_read : ReadAs) → P (Asked till as_read)) → ((number : ℕ) → P (NextWaiting number)) → P item
+each-bringing P (Crowded till) e asked nexts = no-true e
+each-bringing P (Message till bytes) e asked nexts = no-true e
+each-bringing P (Asked till as_read) e asked nexts = asked till as_read
+each-bringing P (Unframed till) e asked nexts = no-true e
+each-bringing P (Gone till) e asked nexts = no-true e
+each-bringing P (Greet number apdu) e asked nexts = no-true e
+each-bringing P (Handle number apdu) e asked nexts = no-true e
+each-bringing P (Serve number till header request) e asked nexts = no-true e
+each-bringing P (Queue number till header request) e asked nexts = no-true e
+each-bringing P (NextWaiting number) e asked nexts = nexts number
+each-bringing P (Oversized number) e asked nexts = no-true e
+each-bringing P (LinkLost number) e asked nexts = no-true e
+each-bringing P (Late number) e asked nexts = no-true e
+each-bringing P (Overdue key) e asked nexts = no-true e
+each-bringing P (Due number) e asked nexts = no-true e
+
+-- the item is a message that was read
+abbrev pub is_message : RoundItem → Bool
+is_message (Crowded till) = false
+is_message (Message till bytes) = false
+is_message (Asked till as_read) = true
+is_message (Unframed till) = false
+is_message (Gone till) = false
+is_message (Greet number apdu) = false
+is_message (Handle number apdu) = false
+is_message (Serve number till header request) = false
+is_message (Queue number till header request) = false
+is_message (NextWaiting number) = false
+is_message (Oversized number) = false
+is_message (LinkLost number) = false
+is_message (Late number) = false
+is_message (Overdue key) = false
+is_message (Due number) = false
+
+-- it is a look at what waits
+abbrev pub is_look : RoundItem → Bool
+is_look (Crowded till) = false
+is_look (Message till bytes) = false
+is_look (Asked till as_read) = false
+is_look (Unframed till) = false
+is_look (Gone till) = false
+is_look (Greet number apdu) = false
+is_look (Handle number apdu) = false
+is_look (Serve number till header request) = false
+is_look (Queue number till header request) = false
+is_look (NextWaiting number) = true
+is_look (Oversized number) = false
+is_look (LinkLost number) = false
+is_look (Late number) = false
+is_look (Overdue key) = false
+is_look (Due number) = false
+
+-- each of these is
+abbrev pub all_look : List RoundItem → Bool
+all_look [] = true
+all_look (item ∷ items) = is_look item && all_look items
+
+-- what holds of each look holds of one that is
+pub each-look : (P : RoundItem → Type 0) (item : RoundItem) → is_look item ≡ true → ((number : ℕ) → P (NextWaiting number)) → P item
+each-look P (Crowded till) e nexts = no-true e
+each-look P (Message till bytes) e nexts = no-true e
+each-look P (Asked till as_read) e nexts = no-true e
+each-look P (Unframed till) e nexts = no-true e
+each-look P (Gone till) e nexts = no-true e
+each-look P (Greet number apdu) e nexts = no-true e
+each-look P (Handle number apdu) e nexts = no-true e
+each-look P (Serve number till header request) e nexts = no-true e
+each-look P (Queue number till header request) e nexts = no-true e
+each-look P (NextWaiting number) e nexts = nexts number
+each-look P (Oversized number) e nexts = no-true e
+each-look P (LinkLost number) e nexts = no-true e
+each-look P (Late number) e nexts = no-true e
+each-look P (Overdue key) e nexts = no-true e
+each-look P (Due number) e nexts = no-true e
+
+-- what waits for a terminal may join, or leave, and nothing else changes
+queue-keeps : (known : Known) (number till : ℕ) (header : Header) (request : SaleRequest) → KeepsLinks known.moment known.core (queue_row known number till header request)
+queue-keeps known number till header request = each-queued (KeepsLinks known.moment known.core) known number till header request (record {
+  none = owing-keeps known [] tt;
+  joins = λ terminal key at. record { states = λ other. refl; items = refl; settings = refl; fits = tt };
+  taken = λ wait at. record { states = λ other. refl; items = refl; settings = refl; fits = (tt, tt) };
+})
+
+overdue-keeps : (known : Known) (key : Key) → KeepsLinks known.moment known.core (overdue_row known key)
+overdue-keeps known key = each-overdue (KeepsLinks known.moment known.core) known key (record {
+  none = owing-keeps known [] tt;
+  taken = λ wait is overdue. record { states = λ other. refl; items = refl; settings = refl; fits = (tt, tt) };
+})
+
+next-keeps : (known : Known) (number : ℕ) → LeavesLinks known.moment known.core (next_waiting_row known number)
+next-keeps known number = each-next (LeavesLinks known.moment known.core) known number (record {
+  none = record { states = λ other. refl; items = refl; settings = refl; fits = tt };
+  refused = λ terminal last wait condition first is. record { states = λ other. refl; items = refl; settings = refl; fits = (tt, tt) };
+  begins = λ terminal last wait asking at.
+      let k = begun-keeps (known_without known wait) number wait.till terminal last asking at.first.found (ap (λ s. standing_state s terminal.talk) at.first.standing_is) in
+      record { states = k.states; items = ap all_follow k.items; settings = k.settings; fits = k.fits };
+  day = λ terminal last wait at.
+      let k : KeepsLinks known.moment (core_without_wait known.core wait.key) (day_row (known_without known wait) number wait.till wait.header terminal last) =
+      becomes-keeps (known_without known wait) number terminal _ _ at.first.found (ap (λ s. standing_state s terminal.talk) at.first.standing_is) refl refl (λ there. (there, tt)) in
+      record { states = k.states; items = ap all_follow k.items; settings = k.settings; fits = k.fits };
+  left = λ terminal last wait first. record { states = λ other. refl; items = refl; settings = refl; fits = tt };
+})
+
+-- a look at what waits brings another look at most
+pub next-looks : (known : Known) (number : ℕ) → all_look (next_waiting_row known number).items ≡ true
+next-looks known number = each-next (λ (row : Row). all_look row.items ≡ true) known number (record {
+  none = refl;
+  refused = λ terminal last wait condition first is. refl;
+  begins = λ terminal last wait asking at. refl;
+  day = λ terminal last wait at. refl;
+  left = λ terminal last wait first. refl;
+})
+
+-- where its terminal isn't ready nothing is owed
+pub next-unready : (known : Known) (number : ℕ) (terminal : Terminal) → terminal_at known number ≡ Some terminal → is_ready_standing terminal.standing ≡ false → next_waiting_row known number ≡ owing_nothing known
+next-unready known number terminal found none = rw (found, none) refl
+
+-- and no row brings an item but that of a message, and of a look at what waits
+pub alone-keep : (tills : List Connection) (known : Known) (item : RoundItem) → ((number : ℕ) → state_in known.core number ≢ Odd) → loses item ≡ false → may_bring_more item ≡ false → KeepsLinks known.moment known.core (row_of tills known item)
 alone-keep tills known (Crowded till) even stays none = owing-keeps known (CutTill till ∷ []) (tt, tt)
 alone-keep tills known (Message till bytes) even stays none = owing-keeps known [] tt
 alone-keep tills known (Asked till as_read) even stays none = no-true (sym none)
@@ -406,24 +607,25 @@ alone-keep tills known (Gone till) even stays none = record { states = without-s
 alone-keep tills known (Greet number apdu) even stays none = greet-keeps known number (decode_pt_message apdu)
 alone-keep tills known (Handle number apdu) even stays none = handle-keeps known number apdu
 alone-keep tills known (Serve number till header request) even stays none = serve-keeps known number till header request
-alone-keep tills known (NextWaiting number) even stays none = owing-keeps known [] tt
+alone-keep tills known (Queue number till header request) even stays none = queue-keeps known number till header request
+alone-keep tills known (NextWaiting number) even stays none = no-true (sym none)
 alone-keep tills known (Oversized number) even stays none = outside-keeps known number
 alone-keep tills known (LinkLost number) even stays none = no-true (sym stays)
 alone-keep tills known (Late number) even stays none = late-keeps known number (even number)
-alone-keep tills known (Overdue key) even stays none = owing-keeps known [] tt
+alone-keep tills known (Overdue key) even stays none = overdue-keeps known key
 alone-keep tills known (Due number) even stays none = due-keeps known number (even number)
 
 asked-keeps : (there : Bool) (known : Known) (till : ℕ) (as_read : ReadAs) → LeavesLinks known.moment known.core (owing_where there known (asked_row known till as_read))
-asked-keeps true known till as_read = record { states = λ number. refl; items = begins-serves known till as_read; settings = refl; fits = reply-fits known.moment known.core (Some till) (reply_to known as_read) }
+asked-keeps true known till as_read = record { states = λ number. refl; items = begins-follow known till as_read; settings = refl; fits = reply-fits known.moment known.core (Some till) (reply_to known as_read) }
 asked-keeps false known till as_read = record { states = λ number. refl; items = refl; settings = refl; fits = tt }
 
 pub rows-keep : (tills : List Connection) (known : Known) (item : RoundItem) → ((number : ℕ) → state_in known.core number ≢ Odd) → loses item ≡ false → LeavesLinks known.moment known.core (row_of tills known item)
-rows-keep tills known item even stays = by_test item stays (is_asked item) refl
+rows-keep tills known item even stays = by_test item stays (may_bring_more item) refl
   where
     leaves : (item : RoundItem) → KeepsLinks known.moment known.core (row_of tills known item) → LeavesLinks known.moment known.core (row_of tills known item)
-    leaves item k = record { states = k.states; items = ap all_serve k.items; settings = k.settings; fits = k.fits }
+    leaves item k = record { states = k.states; items = ap all_follow k.items; settings = k.settings; fits = k.fits }
 
-    by_test : (item : RoundItem) → loses item ≡ false → (test : Bool) → is_asked item ≡ test → LeavesLinks known.moment known.core (row_of tills known item)
+    by_test : (item : RoundItem) → loses item ≡ false → (test : Bool) → may_bring_more item ≡ test → LeavesLinks known.moment known.core (row_of tills known item)
     by_test item stays false e = leaves item (alone-keep tills known item even stays e)
     by_test (Asked till as_read) stays true e = asked-keeps (is_connected tills till) known till as_read
     by_test (Crowded till) stays true e = no-true e
@@ -433,7 +635,8 @@ rows-keep tills known item even stays = by_test item stays (is_asked item) refl
     by_test (Greet number apdu) stays true e = no-true e
     by_test (Handle number apdu) stays true e = no-true e
     by_test (Serve number till header request) stays true e = no-true e
-    by_test (NextWaiting number) stays true e = no-true e
+    by_test (Queue number till header request) stays true e = no-true e
+    by_test (NextWaiting number) stays true e = next-keeps known number
     by_test (Oversized number) stays true e = no-true e
     by_test (LinkLost number) stays true e = no-true e
     by_test (Late number) stays true e = no-true e

@@ -16,7 +16,7 @@ use Rattle.zvt_apdu.specs.Grammar.{ApduValue}
 use Rattle.gw_owes.specs.Calls.{OwedCall, SendPt, LinkPt, CutPt as OwedCutPt}
 use Rattle.gw_owes.specs.Core.{Core, Wait, new_core, new_terminal}
 use Rattle.gw_owes.specs.Events.{till_opened_items, has_bad_length, decoded_items, is_oversized, apdu_items, decoded_apdu_items, for_each_terminal, waits_by_deadline, items_due}
-use Rattle.gw_owes.specs.Items.{RoundItem, Crowded, Message, Asked, Unframed, Gone, Greet, Handle, Serve, NextWaiting, Oversized, LinkLost, Late, Overdue, Due}
+use Rattle.gw_owes.specs.Items.{RoundItem, Crowded, Message, Asked, Unframed, Gone, Greet, Handle, Serve, Queue, NextWaiting, Oversized, LinkLost, Late, Overdue, Due}
 use Rattle.gw_owes.specs.Laws.{ends_in_one}
 use Rattle.gw_owes.specs.ReadAs.{ReadAs}
 use Rattle.gw_owes.specs.Row.{Row}
@@ -28,7 +28,7 @@ use Rattle.gw_rules.specs.Lawful.{first_call, may_begin, first_message, Begins, 
 use Rattle.gw_rules.specs.Scene.{Scene, records_of, known_in, row_in, row_at, link_made_at, link_lost_at}
 use Rattle.gw_rules.specs.Stage.{AtPoll, Handling, is_round, is_looking}
 use Rattle.gw_rules.specs.View.{View, Move, Begin, Read, Make, later, read_first, after, after_turn, view_from, at_first}
-use Rattle.gw_rules.proofs.LinkStateLemmas.{LinkState, Absent, On, Off, Odd, state_of, state_in, state_then, EachFits, Fits, fits-same, KeepsLinks, LeavesLinks, Turns, is_serve, each-serve, all_serve, is_asked, loses, alone-keep, rows-keep, made-turns, lost-turns, without-states, without-settings, apart}
+use Rattle.gw_rules.proofs.LinkStateLemmas.{LinkState, Absent, On, Off, Odd, state_of, state_in, state_then, EachFits, Fits, fits-same, KeepsLinks, LeavesLinks, Turns, may_bring_more, may_follow, each-following, all_follow, loses, alone-keep, rows-keep, made-turns, lost-turns, without-states, without-settings, apart}
 use Rattle.gw_rules.proofs.OpensLemmas.{opens-fit}
 use Rattle.gw_rules.proofs.OwedLemmas.{begin-ends, turn-ends, call-last}
 use Rattle.gw_rules.proofs.SetupLemmas.{HasSetup, IsInRun, first-run, begin-run, read-run, turn-run}
@@ -94,8 +94,8 @@ abbrev pub lose_none : List RoundItem → Bool
 lose_none [] = true
 lose_none (item ∷ items) = not (loses item) && lose_none items
 
-serve-stays : (item : RoundItem) → is_serve item ≡ true → loses item ≡ false
-serve-stays item e = each-serve (λ i. loses i ≡ false) item e (λ number till header request. refl)
+follow-stays : (item : RoundItem) → may_follow item ≡ true → loses item ≡ false
+follow-stays item e = each-following (λ i. loses i ≡ false) item e (λ number till header request. refl) (λ number till header request. refl) (λ number. refl)
 
 none-append : (items more : List RoundItem) → lose_none items ≡ true → lose_none more ≡ true → lose_none (items ++ more) ≡ true
 none-append [] more h k = k
@@ -103,12 +103,12 @@ none-append (item ∷ items) more h k =
     let p = and_parts (not (loses item)) (lose_none items) h in
     rw (p.0, none-append items more p.1 k) refl
 
--- those that only begin to serve
-serves-lose-none : (items : List RoundItem) → all_serve items ≡ true → lose_none items ≡ true
-serves-lose-none [] e = refl
-serves-lose-none (item ∷ items) e =
-    let p = and_parts (is_serve item) (all_serve items) e in
-    rw (serve-stays item p.0, serves-lose-none items p.1) refl
+-- those that may come next after one that begins
+follow-lose-none : (items : List RoundItem) → all_follow items ≡ true → lose_none items ≡ true
+follow-lose-none [] e = refl
+follow-lose-none (item ∷ items) e =
+    let p = and_parts (may_follow item) (all_follow items) e in
+    rw (follow-stays item p.0, follow-lose-none items p.1) refl
 
 none-each : (number : ℕ) (item : ℕ → RoundItem) (terminals : List Terminal) → ((n : ℕ) → loses (item n) ≡ false) → lose_none (for_each_terminal number item terminals) ≡ true
 none-each number item [] never = refl
@@ -206,8 +206,8 @@ pub at-keeps : (scene : Scene) (item : RoundItem) (setup : Setup) → scene.setu
 at-keeps scene item setup is even never =
     subst (λ (s : Option Setup). LeavesLinks scene.outside.moment scene.core (row_in scene (λ known. row_of scene.outside.tills known item) s)) (sym is) (rows-keep scene.outside.tills (known_in scene setup) item even never)
 
--- and a row that is of no message adds no item
-pub at-keeps-alone : (scene : Scene) (item : RoundItem) (setup : Setup) → scene.setup ≡ Some setup → ((number : ℕ) → state_in scene.core number ≢ Odd) → loses item ≡ false → is_asked item ≡ false → KeepsLinks scene.outside.moment scene.core (row_at scene item)
+-- and a row that is neither of a message nor of a look at what waits brings no item
+pub at-keeps-alone : (scene : Scene) (item : RoundItem) (setup : Setup) → scene.setup ≡ Some setup → ((number : ℕ) → state_in scene.core number ≢ Odd) → loses item ≡ false → may_bring_more item ≡ false → KeepsLinks scene.outside.moment scene.core (row_at scene item)
 at-keeps-alone scene item setup is even never asked =
     subst (λ (s : Option Setup). KeepsLinks scene.outside.moment scene.core (row_in scene (λ known. row_of scene.outside.tills known item) s)) (sym is) (alone-keep scene.outside.tills (known_in scene setup) item even never asked)
 
@@ -272,7 +272,7 @@ begin-settled v run s b = by_items v.items refl
           even = λ number odd. s.even number (sym (k.states number) ∙ odd);
           settings = configured-same v.scene.setup v.scene.core (row_at v.scene item).core k.settings s.settings;
           fits = k.fits;
-          none = none-append (row_at v.scene item).items rest (serves-lose-none (row_at v.scene item).items k.items) p.1;
+          none = none-append (row_at v.scene item).items rest (follow-lose-none (row_at v.scene item).items k.items) p.1;
         })
 
 begin-losing : (v : View) → IsInRun v → Losing v → Begins v → Settled (after v Begin)
@@ -299,6 +299,7 @@ none-read as_read (Gone till ∷ items) e = e
 none-read as_read (Greet pt apdu ∷ items) e = e
 none-read as_read (Handle pt apdu ∷ items) e = e
 none-read as_read (Serve pt till header request ∷ items) e = e
+none-read as_read (Queue pt till header request ∷ items) e = e
 none-read as_read (NextWaiting pt ∷ items) e = e
 none-read as_read (Oversized pt ∷ items) e = e
 none-read as_read (LinkLost pt ∷ items) e = e

@@ -16,7 +16,7 @@ use Rattle.zvt_msg.specs.declared.fault.PtFault.{PtFault}
 use Rattle.gw_owes.specs.Calls.{OwedCall, SendTill, SendPt, LinkPt, Sync, write_turn, CutTill as OwedCutTill, CutPt as OwedCutPt}
 use Rattle.gw_owes.specs.Events.{apdu_items, pt_bytes_items, items_due}
 use Rattle.gw_owes.specs.Greeting.{greet_decoded, oversized_row}
-use Rattle.gw_owes.specs.Items.{RoundItem, Crowded, Message, Asked, Unframed, Gone, Greet, Handle, Serve, NextWaiting, Oversized, LinkLost, Late, Overdue, Due}
+use Rattle.gw_owes.specs.Items.{RoundItem, Crowded, Message, Asked, Unframed, Gone, Greet, Handle, Serve, Queue, NextWaiting, Oversized, LinkLost, Late, Overdue, Due}
 use Rattle.gw_owes.specs.Links.{cutting}
 use Rattle.gw_owes.specs.Row.{Known, Row}
 use Rattle.gw_owes.specs.Rows.{row_of}
@@ -54,6 +54,7 @@ cuts_terminal pt (Gone till) = false
 cuts_terminal pt (Greet other apdu) = (other == pt) && is_outside (decode_pt_message apdu)
 cuts_terminal pt (Handle other apdu) = false
 cuts_terminal pt (Serve other till header request) = false
+cuts_terminal pt (Queue other till header request) = false
 cuts_terminal pt (NextWaiting other) = false
 cuts_terminal pt (Oversized other) = other == pt
 cuts_terminal pt (LinkLost other) = false
@@ -140,6 +141,7 @@ cut-owes pt scene setup (Greet other apdu) e is on =
     ∙ in-owes scene setup (Greet pt apdu) (OwedCutPt pt ∷ []) is (outside-owes (known_in scene setup) pt (decode_pt_message apdu) p.1 on)
 cut-owes pt scene setup (Handle other apdu) e is on = no-true e
 cut-owes pt scene setup (Serve other till header request) e is on = no-true e
+cut-owes pt scene setup (Queue other till header request) e is on = no-true e
 cut-owes pt scene setup (NextWaiting other) e is on = no-true e
 cut-owes pt scene setup (Oversized other) e is on =
     ap (λ n. (row_at scene (Oversized n)).calls) (eqb-true other pt e) ∙ in-owes scene setup (Oversized pt) (OwedCutPt pt ∷ []) is (cutting-owes (known_in scene setup) pt on)

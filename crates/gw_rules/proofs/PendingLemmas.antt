@@ -25,10 +25,11 @@ use Rattle.gw_owes.specs.Core.{Core, Wait}
 use Rattle.gw_owes.specs.Events.{is_oversized, apdu_items, decoded_apdu_items, for_each_terminal, waits_by_deadline, items_due}
 use Rattle.gw_owes.specs.DeviceRequests.{key_served}
 use Rattle.gw_owes.specs.Handling.{meaning_at, taking, consequence, handle_row}
-use Rattle.gw_owes.specs.Items.{RoundItem, Crowded, Message, Asked, Unframed, Gone, Greet, Handle, Serve, NextWaiting, Oversized, LinkLost, Late, Overdue, Due}
+use Rattle.gw_owes.specs.Items.{RoundItem, Crowded, Message, Asked, Unframed, Gone, Greet, Handle, Serve, Queue, NextWaiting, Oversized, LinkLost, Late, Overdue, Due}
 use Rattle.gw_owes.specs.Links.{is_linked}
 use Rattle.gw_owes.specs.ReadAs.{ReadAs}
-use Rattle.gw_owes.specs.Row.{Known, Row, owing_where}
+use Rattle.gw_owes.specs.Row.{Known, Row, owing_nothing, owing_where}
+use Rattle.gw_owes.specs.Steps.{is_ready_standing}
 use Rattle.gw_owes.specs.Rows.{row_of}
 use Rattle.gw_owes.specs.Serving.{staying}
 use Rattle.gw_owes.specs.declared.terminal.Standing.{Standing}
@@ -48,7 +49,7 @@ use Rattle.gw_rules.proofs.CutLemmas.{is_dead}
 use Rattle.gw_rules.proofs.HeardLemmas.{heard-bytes, bytes-append, stands-bytes}
 use Rattle.gw_rules.proofs.KeptLemmas.{kept_in, without_asker, changes, at-kept, made-kept, lost-kept, without-kept, other-number, by-equal, BeginsFirst, begins-first, left-alone}
 use Rattle.gw_rules.proofs.KeptPhaseLemmas.{spares-both, spares-later, off-disk}
-use Rattle.gw_rules.proofs.LinkStateLemmas.{On, state_of, state_in, is_serve, is_asked, loses}
+use Rattle.gw_rules.proofs.LinkStateLemmas.{On, state_of, state_in, may_begin_some, may_bring_more, is_message, is_look, all_look, each-look, next-unready, loses}
 use Rattle.gw_rules.proofs.LinkedLemmas.{Agrees, Settled, OrLost, lose_none, settled-turn, begin-agrees, event-settled, read-settled, call-setup, made-at-turns, lost-at-turns, turn-agrees, move-agrees, course-agrees, first-agrees, round-setup}
 use Rattle.gw_rules.proofs.OutsideCutLemmas.{no-link, same-rest}
 use Rattle.gw_rules.proofs.RoundLemmas.{turn-moment}
@@ -72,7 +73,8 @@ WillEnd IsSuch pt moment terminal (Handle other apdu ∷ items) =
     (other ≡ pt) × (message : MessageValue) × (decode_pt_message apdu ≡ Ok message)
     × (IsSuch (meaning_at terminal message) ⊎ ((is_end (meaning_at terminal message) ≡ false) × WillEnd IsSuch pt moment (with_message terminal message moment) items))
 WillEnd IsSuch pt moment terminal (Serve other till header request ∷ items) = ⊥
-WillEnd IsSuch pt moment terminal (NextWaiting other ∷ items) = WillEnd IsSuch pt moment terminal items
+WillEnd IsSuch pt moment terminal (Queue other till header request ∷ items) = ⊥
+WillEnd IsSuch pt moment terminal (NextWaiting other ∷ items) = (other ≡ pt) × WillEnd IsSuch pt moment terminal items
 WillEnd IsSuch pt moment terminal (Oversized other ∷ items) = ⊥
 WillEnd IsSuch pt moment terminal (LinkLost other ∷ items) = ⊥
 WillEnd IsSuch pt moment terminal (Late other ∷ items) = ⊥
@@ -104,7 +106,7 @@ ends-own IsSuch terminal moment (apdu ∷ apdus) (message, is, inr (goes, more))
 apdus-end : (IsSuch : Heard → Type 0) (pt moment : ℕ) (terminal : Terminal) (apdus : List ApduValue) (rest : List RoundItem) → EndsWith IsSuch terminal moment apdus → WillEnd IsSuch pt moment terminal (flat_map (apdu_items pt) apdus ++ rest)
 apdus-end IsSuch pt moment terminal [] rest none = absurd none
 apdus-end IsSuch pt moment terminal (apdu ∷ apdus) rest (message, is, inl such) = (refl, message, is, inl such)
-apdus-end IsSuch pt moment terminal (apdu ∷ apdus) rest (message, is, inr (goes, more)) = (refl, message, is, inr (goes, apdus-end IsSuch pt moment (with_message terminal message moment) apdus rest more))
+apdus-end IsSuch pt moment terminal (apdu ∷ apdus) rest (message, is, inr (goes, more)) = (refl, message, is, inr (goes, (refl, apdus-end IsSuch pt moment (with_message terminal message moment) apdus rest more)))
 
 read-ends : (IsSuch : Heard → Type 0) (pt moment : ℕ) (terminal : Terminal) (as_read : ReadAs) (items : List RoundItem) → WillEnd IsSuch pt moment terminal items → WillEnd IsSuch pt moment terminal (read_first as_read items)
 read-ends IsSuch pt moment terminal as_read [] h = h
@@ -116,6 +118,7 @@ read-ends IsSuch pt moment terminal as_read (Gone till ∷ items) h = h
 read-ends IsSuch pt moment terminal as_read (Greet other apdu ∷ items) h = h
 read-ends IsSuch pt moment terminal as_read (Handle other apdu ∷ items) h = h
 read-ends IsSuch pt moment terminal as_read (Serve other till header request ∷ items) h = h
+read-ends IsSuch pt moment terminal as_read (Queue other till header request ∷ items) h = h
 read-ends IsSuch pt moment terminal as_read (NextWaiting other ∷ items) h = h
 read-ends IsSuch pt moment terminal as_read (Oversized other ∷ items) h = h
 read-ends IsSuch pt moment terminal as_read (LinkLost other ∷ items) h = h
@@ -135,6 +138,7 @@ asks (Gone till) = false
 asks (Greet other apdu) = false
 asks (Handle other apdu) = false
 asks (Serve other till header request) = true
+asks (Queue other till header request) = false
 asks (NextWaiting other) = false
 asks (Oversized other) = false
 asks (LinkLost other) = false
@@ -180,7 +184,7 @@ bytes-ask-none pt decoded core =
     (ask-none-append (flat_map (apdu_items pt) decoded.apdus) _ (ask-none-apdus pt decoded.apdus) (ask-none-last pt (is_oversized (decode_apdu decoded.rest)))) (ask-none-due core)
 
 -- so the item that begins adds none
-asks-asked : (item : RoundItem) → asks item ≡ false → is_asked item ≡ false
+asks-asked : (item : RoundItem) → asks item ≡ false → is_message item ≡ false
 asks-asked (Crowded till) e = refl
 asks-asked (Message till bytes) e = refl
 asks-asked (Asked till as_read) e = no-true (sym e)
@@ -189,6 +193,7 @@ asks-asked (Gone till) e = refl
 asks-asked (Greet other apdu) e = refl
 asks-asked (Handle other apdu) e = refl
 asks-asked (Serve other till header request) e = refl
+asks-asked (Queue other till header request) e = refl
 asks-asked (NextWaiting other) e = refl
 asks-asked (Oversized other) e = refl
 asks-asked (LinkLost other) e = refl
@@ -196,17 +201,23 @@ asks-asked (Late other) e = refl
 asks-asked (Overdue key) e = refl
 asks-asked (Due other) e = refl
 
--- where none is to come, the item that begins is of none, and those after it are left
+look-asks-none : (items : List RoundItem) → all_look items ≡ true → ask_none items ≡ true
+look-asks-none [] e = refl
+look-asks-none (item ∷ items) e =
+    let p = and_parts (is_look item) (all_look items) e in
+    rw (each-look (λ i. asks i ≡ false) item p.0 (λ number. refl), look-asks-none items p.1) refl
+
+-- where none is to come, the item that begins is of none, and so are those that come then
 pub record BeginsAlone (v : View) (first : BeginsFirst v) : Type 0 where
   pub none : asks first.item ≡ false
   pub rest : ask_none first.rest ≡ true
-  pub left : (after v Begin).items ≡ first.rest
+  pub left : ask_none (after v Begin).items ≡ true
 
 pub begins-alone : (v : View) (first : BeginsFirst v) → ask_none v.items ≡ true → BeginsAlone v first
 begins-alone v first none =
     let p = and_parts (not (asks first.item)) (ask_none first.rest) (subst (λ l. ask_none l ≡ true) first.items_are none) in
     let own = not-true (asks first.item) p.0 in
-    record { none = own; rest = p.1; left = left-alone v first (asks-asked first.item own) }
+    record { none = own; rest = p.1; left = ap ask_none first.left ∙ ask-none-append first.new first.rest (look-asks-none first.new (first.looks (asks-asked first.item own))) p.1 }
 
 pub read-asks-none : (as_read : ReadAs) (items : List RoundItem) → ask_none items ≡ true → ask_none (read_first as_read items) ≡ true
 read-asks-none as_read [] h = h
@@ -218,6 +229,7 @@ read-asks-none as_read (Gone till ∷ items) h = h
 read-asks-none as_read (Greet other apdu ∷ items) h = h
 read-asks-none as_read (Handle other apdu ∷ items) h = h
 read-asks-none as_read (Serve other till header request ∷ items) h = h
+read-asks-none as_read (Queue other till header request ∷ items) h = h
 read-asks-none as_read (NextWaiting other ∷ items) h = h
 read-asks-none as_read (Oversized other ∷ items) h = h
 read-asks-none as_read (LinkLost other ∷ items) h = h
@@ -277,6 +289,7 @@ spares-turn records v turn s ok e = by_turn turn ok e
 
 -- where the dialogue of this standing goes on, a message leaves the terminal as it has become
 pub record GoesOnIn (standing : Standing) : Type 0 where
+  pub unready : is_ready_standing standing ≡ false
   pub linked : is_linked standing ≡ true
   pub on : (terminal : Terminal) → terminal.standing ≡ standing → state_of (Some terminal) ≡ On
   pub stays : (known : Known) (pt : ℕ) (terminal : Terminal) (meant : Heard) → is_end meant ≡ false → consequence known pt terminal meant standing ≡ staying known pt terminal
@@ -341,7 +354,7 @@ taken-owes known pt terminal false = refl
 
 pub begin-pending : (IsSuch : Heard → Type 0) (standing : Standing) (settings : Pt) (records : List Record) (pt moment : ℕ) (v : View) → GoesOnIn standing → Pending IsSuch standing settings records pt moment v → Begins v
     → Pending IsSuch standing settings records pt moment (after v Begin) ⊎ Ended IsSuch standing settings records pt moment (after v Begin)
-begin-pending IsSuch standing settings records pt moment v goes_on p b = by_item first.item core calls none (subst (WillEnd IsSuch pt moment p.terminal) first.items_are p.will)
+begin-pending IsSuch standing settings records pt moment v goes_on p b = by_item first.item core calls none (left-alone v first) items (subst (WillEnd IsSuch pt moment p.terminal) first.items_are p.will)
   where
     w : View
     w = after v Begin
@@ -364,6 +377,9 @@ begin-pending IsSuch standing settings records pt moment v goes_on p b = by_item
     calls : w.calls ≡ (row_at v.scene first.item).calls
     calls = ap (λ l. (after (record v { items = l }) Begin).calls) first.items_are
 
+    items : w.items ≡ (row_at v.scene first.item).items ++ first.rest
+    items = ap (λ l. (after (record v { items = l }) Begin).items) first.items_are
+
     row_is : (item : RoundItem) → row_at v.scene item ≡ row_of v.scene.outside.tills known item
     row_is item = ap (λ (o : Option Setup). row_in v.scene (λ known. row_of v.scene.outside.tills known item) o) run.setup_is
 
@@ -385,8 +401,8 @@ begin-pending IsSuch standing settings records pt moment v goes_on p b = by_item
     kept_is : w.scene.kept ≡ records
     kept_is = ap (λ l. (after (record v { items = l }) Begin).scene.kept) first.items_are ∙ p.spares.kept_is
 
-    pending : (terminal : Terminal) → kept_in w.scene.core pt ≡ Some terminal → terminal.standing ≡ standing → terminal.pt ≡ settings → spare_disk w.calls ≡ true → WillEnd IsSuch pt moment terminal first.rest → Pending IsSuch standing settings records pt moment w
-    pending terminal kept is are spares will = record {
+    pending : (terminal : Terminal) → kept_in w.scene.core pt ≡ Some terminal → terminal.standing ≡ standing → terminal.pt ≡ settings → spare_disk w.calls ≡ true → w.items ≡ first.rest → WillEnd IsSuch pt moment terminal first.rest → Pending IsSuch standing settings records pt moment w
+    pending terminal kept is are spares rest will = record {
       agrees = agrees;
       settled = settled;
       stage = stage;
@@ -396,15 +412,15 @@ begin-pending IsSuch standing settings records pt moment v goes_on p b = by_item
       standing_is = is;
       settings_are = are;
       spares = record { kept_is = kept_is; none = spares };
-      none = ap ask_none alone.left ∙ alone.rest;
-      will = subst (WillEnd IsSuch pt moment terminal) (sym alone.left) will;
+      none = alone.left;
+      will = subst (WillEnd IsSuch pt moment terminal) (sym rest) will;
     }
 
     Next : Type 0
     Next = Pending IsSuch standing settings records pt moment w ⊎ Ended IsSuch standing settings records pt moment w
 
-    same : (item : RoundItem) → w.scene.core ≡ (row_at v.scene item).core → is_serve item ≡ false → changes pt item ≡ false → spare_disk w.calls ≡ true → WillEnd IsSuch pt moment p.terminal first.rest → Next
-    same item core serves unchanged spares will = inl (pending p.terminal (ap (λ c. kept_in c pt) core ∙ at-kept v.scene item pt serves unchanged ∙ p.kept) p.standing_is p.settings_are spares will)
+    same : (item : RoundItem) → w.scene.core ≡ (row_at v.scene item).core → may_begin_some item ≡ false → changes pt item ≡ false → spare_disk w.calls ≡ true → w.items ≡ first.rest → WillEnd IsSuch pt moment p.terminal first.rest → Next
+    same item core serves unchanged spares rest will = inl (pending p.terminal (ap (λ c. kept_in c pt) core ∙ at-kept v.scene item pt serves unchanged ∙ p.kept) p.standing_is p.settings_are spares rest will)
 
     found : (own : Terminal) × (slice_get known.core.terminals pt ≡ Some own) × (without_asker own ≡ p.terminal)
     found = found-kept (slice_get v.scene.core.terminals pt) p.terminal p.kept
@@ -412,8 +428,8 @@ begin-pending IsSuch standing settings records pt moment v goes_on p b = by_item
     own_standing : found.0.standing ≡ standing
     own_standing = ap (λ (t : Terminal). t.standing) found.2 ∙ p.standing_is
 
-    handle : (apdu : ApduValue) → w.scene.core ≡ (handle_row known pt apdu).core → w.calls ≡ (handle_row known pt apdu).calls → WillEnd IsSuch pt moment p.terminal (Handle pt apdu ∷ first.rest) → Next
-    handle apdu core calls (is, message, decoded, inl such) = inr (record {
+    handle : (apdu : ApduValue) → w.scene.core ≡ (handle_row known pt apdu).core → w.calls ≡ (handle_row known pt apdu).calls → w.items ≡ first.rest → WillEnd IsSuch pt moment p.terminal (Handle pt apdu ∷ first.rest) → Next
+    handle apdu core calls rest (is, message, decoded, inl such) = inr (record {
       agrees = agrees;
       settled = settled;
       stage = stage;
@@ -430,15 +446,15 @@ begin-pending IsSuch standing settings records pt moment v goes_on p b = by_item
       core_is = core;
       calls_are = calls;
       kept_is = p.spares.kept_is;
-      none = ap ask_none alone.left ∙ alone.rest;
+      none = alone.left;
     })
-    handle apdu core calls (is, message, decoded, inr (goes, more)) =
+    handle apdu core calls rest (is, message, decoded, inr (goes, more)) =
         let own_goes : is_end (meaning_at found.0 message) ≡ false = ap (λ (t : Terminal). is_end (meaning_at t message)) found.2 ∙ goes in
         let row : handle_row known pt apdu ≡ owing_where (is_taken message) known (staying known pt (taking found.0 message known.moment)) = message-row standing goes_on known pt apdu found.0 message found.1 own_standing decoded own_goes in
         let none : w.calls ≡ [] = calls ∙ ap (λ (r : Row). r.calls) row ∙ taken-owes known pt (taking found.0 message known.moment) (is_taken message) in
         let next : kept_in (handle_row known pt apdu).core pt ≡ Some (with_message p.terminal message moment) =
         ap (λ (r : Row). kept_in r.core pt) row ∙ taken-kept known pt found.0 message (is_taken message) found.1 ∙ ap (λ (t : Terminal). Some (with_message t message known.moment)) found.2 ∙ ap (λ m. Some (with_message p.terminal message m)) p.moment_is in
-        inl (pending (with_message p.terminal message moment) (ap (λ c. kept_in c pt) core ∙ next) (still (is_taken message)) (still_pt (is_taken message)) (ap spare_disk none) more)
+        inl (pending (with_message p.terminal message moment) (ap (λ c. kept_in c pt) core ∙ next) (still (is_taken message)) (still_pt (is_taken message)) (ap spare_disk none) rest more)
       where
         still : (test : Bool) → (if test then taking p.terminal message moment else p.terminal).standing ≡ standing
         still true = p.standing_is
@@ -448,24 +464,28 @@ begin-pending IsSuch standing settings records pt moment v goes_on p b = by_item
         still_pt true = p.settings_are
         still_pt false = p.settings_are
 
-    by_item : (item : RoundItem) → w.scene.core ≡ (row_at v.scene item).core → w.calls ≡ (row_at v.scene item).calls → loses item ≡ false → WillEnd IsSuch pt moment p.terminal (item ∷ first.rest) → Next
-    by_item (Crowded till) core calls none will = absurd will
-    by_item (Message till bytes) core calls none will = absurd will
-    by_item (Asked till as_read) core calls none will = absurd will
-    by_item (Unframed till) core calls none will = absurd will
-    by_item (Gone till) core calls none will = absurd will
-    by_item (Greet other apdu) core calls none will =
-        same (Greet other apdu) core refl refl (ap spare_disk (calls ∙ ap (λ (r : Row). r.calls) (row_is (Greet other apdu))) ∙ greet-spares known other (decode_pt_message apdu)) will
-    by_item (Handle other apdu) core calls none will =
+    by_item : (item : RoundItem) → w.scene.core ≡ (row_at v.scene item).core → w.calls ≡ (row_at v.scene item).calls → loses item ≡ false → (may_bring_more item ≡ false → w.items ≡ first.rest) → w.items ≡ (row_at v.scene item).items ++ first.rest → WillEnd IsSuch pt moment p.terminal (item ∷ first.rest) → Next
+    by_item (Crowded till) core calls none alone items will = absurd will
+    by_item (Message till bytes) core calls none alone items will = absurd will
+    by_item (Asked till as_read) core calls none alone items will = absurd will
+    by_item (Unframed till) core calls none alone items will = absurd will
+    by_item (Gone till) core calls none alone items will = absurd will
+    by_item (Greet other apdu) core calls none alone items will =
+        same (Greet other apdu) core refl refl (ap spare_disk (calls ∙ ap (λ (r : Row). r.calls) (row_is (Greet other apdu))) ∙ greet-spares known other (decode_pt_message apdu)) (alone refl) will
+    by_item (Handle other apdu) core calls none alone items will =
         let row : row_at v.scene (Handle other apdu) ≡ handle_row known pt apdu = ap (λ n. row_at v.scene (Handle n apdu)) will.0 ∙ row_is (Handle pt apdu) in
-        handle apdu (core ∙ ap (λ (r : Row). r.core) row) (calls ∙ ap (λ (r : Row). r.calls) row) (refl, will.1, will.2, will.3)
-    by_item (Serve other till header request) core calls none will = absurd will
-    by_item (NextWaiting other) core calls none will = same (NextWaiting other) core refl refl (ap spare_disk (calls ∙ ap (λ (r : Row). r.calls) (row_is (NextWaiting other)))) will
-    by_item (Oversized other) core calls none will = absurd will
-    by_item (LinkLost other) core calls none will = absurd will
-    by_item (Late other) core calls none will = absurd will
-    by_item (Overdue key) core calls none will = absurd will
-    by_item (Due other) core calls none will = absurd will
+        handle apdu (core ∙ ap (λ (r : Row). r.core) row) (calls ∙ ap (λ (r : Row). r.calls) row) (alone refl) (refl, will.1, will.2, will.3)
+    by_item (Serve other till header request) core calls none alone items will = absurd will
+    by_item (Queue other till header request) core calls none alone items will = absurd will
+    by_item (NextWaiting other) core calls none alone items will =
+        let row : row_at v.scene (NextWaiting other) ≡ owing_nothing known =
+        ap (λ n. row_at v.scene (NextWaiting n)) will.0 ∙ row_is (NextWaiting pt) ∙ next-unready known pt found.0 found.1 (ap is_ready_standing own_standing ∙ goes_on.unready) in
+        inl (pending p.terminal (ap (λ c. kept_in c pt) (core ∙ ap (λ (r : Row). r.core) row) ∙ p.kept) p.standing_is p.settings_are (ap spare_disk (calls ∙ ap (λ (r : Row). r.calls) row)) (items ∙ ap (λ (r : Row). r.items ++ first.rest) row) will.1)
+    by_item (Oversized other) core calls none alone items will = absurd will
+    by_item (LinkLost other) core calls none alone items will = absurd will
+    by_item (Late other) core calls none alone items will = absurd will
+    by_item (Overdue key) core calls none alone items will = absurd will
+    by_item (Due other) core calls none alone items will = absurd will
 
 -- ---- turns
 

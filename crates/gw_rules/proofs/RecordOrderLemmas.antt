@@ -1,13 +1,11 @@
 -- What is known is in order between items, along each lawful course; so each lawful log is one of a gateway that keeps its journal by the ledger's rules.
 use Rattle.std.proofs.Common.{◌≡◌, ◌≢◌, ◌≤◌, ℕ, ◌+◌, ◌*◌, Bool, true, false, List, [], ◌∷◌, ◌++◌, length, refl, sym, ◌∙◌, ap, subst, arith, inl, inr, append_assoc, append-nil}
 use Rattle.std.proofs.lemmas.Bool.{ltb-false}
-use Rattle.std.proofs.lemmas.Int.{ints}
 use Rattle.std.proofs.lemmas.List.Elements.{All-nil, All-cons, All-head, All-tail, All-append}
-use Rattle.std.specs.Prelude.{◌⊎◌, ◌||◌, nat_lt, pos, All, map, slice_get, Option, Some, None, option_to_list}
-use Rattle.gw_base.specs.Moment.{IsMoment, last_moment}
+use Rattle.std.specs.Prelude.{◌⊎◌, ◌||◌, nat_lt, All, map, slice_get, Option, Some, None, option_to_list}
+use Rattle.gw_base.specs.Moment.{last_moment}
 use Rattle.gw_base.specs.declared.setup.Setup.{Setup}
-use Rattle.gw_base.proofs.MomentLemmas.{moment_of_bound}
-use Rattle.gw_site.specs.Outside.{Outside, heard_on, outside_after, outside_from, outside_of}
+use Rattle.gw_site.specs.Outside.{Outside, heard_on, outside_of}
 use Rattle.gw_site.specs.declared.turn.Turn.{Turn}
 use Rattle.gw_site.specs.declared.turn.Turn.TheVariants.{Start, OpenFailed, Polled, Opened, HeardTill, Closed, HeardPt, Lost, Stopped, Linked, LinkFailed, SentTill, SentPt, CutTill, CutPt, Wrote, Synced, DiskFailed, Crash}
 use Rattle.sale_frame.specs.Decode.{DecodedFrames, decode_after, decode_frames}
@@ -18,7 +16,7 @@ use Rattle.jrn_log.proofs.SlotLemmas.{one_byte_slots, one_slots}
 use Rattle.gw_ledger.specs.Fold.{AreFolded}
 use Rattle.gw_ledger.specs.Sums.{open_count_of}
 use Rattle.gw_owes.specs.Calls.{OwedCall, SendTill, SendPt, LinkPt, WriteBody, WriteGate, WriteFirstGate, Sync, write_turn, records_kept, CutTill as OwedCutTill, CutPt as OwedCutPt}
-use Rattle.gw_owes.specs.Core.{Core, no_core, new_core}
+use Rattle.gw_owes.specs.Core.{Wait, Core, no_core, new_core}
 use Rattle.gw_owes.specs.Days.{days_served}
 use Rattle.gw_owes.specs.DeviceRequests.{greatest_device_number}
 use Rattle.gw_owes.specs.Events.{till_opened_items, decoded_items, decoded_apdu_items, items_due}
@@ -30,16 +28,20 @@ use Rattle.gw_owes.specs.Row.{Known, Row}
 use Rattle.gw_owes.specs.Rows.{row_of}
 use Rattle.gw_owes.specs.TerminalLaws.{settings_of}
 use Rattle.gw_owes.specs.Terminals.{core_without}
+use Rattle.gw_owes.specs.WaitingLaws.{AreWaitsInOrder}
+use Rattle.gw_owes.specs.Waits.{slots_reserved}
 use Rattle.gw_owes.specs.declared.terminal.Service.TheVariants.{Transaction, EndOfDay}
 use Rattle.gw_owes.specs.declared.terminal.Standing.{Standing}
 use Rattle.gw_owes.specs.declared.terminal.Standing.TheVariants.{Ready, Serving}
 use Rattle.gw_owes.specs.declared.terminal.Terminal.{Terminal}
 use Rattle.gw_owes.proofs.SetLemmas.{same-some}
+use Rattle.gw_owes.proofs.WaitingFrameLemmas.{gone-keeps-waits, links-keep-waits, moments-keep-waits, new-has-none-waiting}
 use Rattle.gw_rules.specs.JournalFiles.{is_on_disk, spare_disk, EachHasJournalFiles}
 use Rattle.gw_rules.specs.KeptLaws.{KeepsAtMostOne, KeepsOn, KeepsJournal}
 use Rattle.gw_rules.specs.Lawful.{first_call, AllowedTurn, may_begin, Begins, IsRead, IsCourse, turns_of, Stands}
 use Rattle.gw_rules.specs.LedgerRules.{ledger_rules, no_open_key, EachLawfulKeepsJournal, EachLawfulHasKept, LawfulRefusedOnlyWithFewerSlots}
 use Rattle.gw_rules.specs.Opening.{is_refused, opening}
+use Rattle.gw_rules.specs.QueueLaws.{EachLogHasWaitsInOrder}
 use Rattle.gw_rules.specs.RecordOrder.{records_coming, EachLogFolds, EachLogImageFolds, EachLogLeavesSlots, EachLogComesInOrder, EachItemWasRead, IsBetweenItems, EachLogIsInOrder, DayServedIsUnknown, ReadyHasNoneOpen, ServedIsOpen}
 use Rattle.gw_rules.specs.Scene.{Scene, records_of, known_in, row_in, row_at, link_made_at, link_lost_at}
 use Rattle.gw_rules.specs.Stage.{Stage, Resting, Opening, Looking, AtPoll, Handling, Over, Broken, busy, is_round, is_running, is_broken, stage_synced, stage_wrote}
@@ -60,6 +62,7 @@ use Rattle.gw_rules.proofs.SetupLemmas.{HasSetup, setup-within-limits}
 use Rattle.gw_rules.proofs.SpareLemmas.{KeepsOne, begin-keeps-one, lost-at-spares, made-at-spares}
 use Rattle.gw_rules.proofs.StageLemmas.{no-call, no-true, not-true, round-busy, busy-broken}
 use Rattle.gw_rules.proofs.TranscriptLogLemmas.{lost-at, made-at, not-number}
+use Rattle.gw_rules.proofs.RoomLemmas.{moment-from, moment-is, no-fewer, sum-without, fewer-days, with-no-days, fewer-reserved, CountsStay, same-counts, stays-numbered, none-stays}
 
 -- ---- what holds along a course
 
@@ -67,7 +70,7 @@ use Rattle.gw_rules.proofs.TranscriptLogLemmas.{lost-at, made-at, not-number}
 abbrev pub AreRead : View → Type 0
 AreRead v = (setup : Setup) → v.scene.setup ≡ Some setup → All (IsReadItem setup) v.items
 
--- while the run goes on a slot is left for the Outcome of each key that will be open, and the Settled of each end of day that is served
+-- while the run goes on a slot is left for the Outcome of each key that will be open, and those that are reserved for what is served or waits
 abbrev pub LeavesSlots : View → Type 0
 LeavesSlots v = (setup : Setup) → v.scene.setup ≡ Some setup → is_running v.scene.stage ≡ true → HasRoom setup.slots (records_coming v) v.scene.core
 
@@ -75,6 +78,14 @@ LeavesSlots v = (setup : Setup) → v.scene.setup ≡ Some setup → is_running 
 abbrev pub ComesInOrder : View → Type 0
 ComesInOrder v =
     is_broken v.scene.stage ≡ false → (pt : ℕ) (terminal : Terminal) → slice_get v.scene.core.terminals pt ≡ Some terminal → cut_owed pt v.calls ≡ false → IsTerminalInOrder (records_coming v) terminal
+
+-- what is known then, for the run's setup
+abbrev pub known_coming : View → Setup → Known
+known_coming v setup = record { setup = setup; core = v.scene.core; kept = records_coming v; moment = v.scene.outside.moment }
+
+-- until a call on the disk fails what waits is in order by the records that come
+abbrev pub HasWaits : View → Type 0
+HasWaits v = (setup : Setup) → v.scene.setup ≡ Some setup → is_broken v.scene.stage ≡ false → AreWaitsInOrder (known_coming v setup)
 
 pub record Ordered (log : List Turn) (v : View) : Type 0 where
   pub agrees : Agrees v
@@ -84,39 +95,12 @@ pub record Ordered (log : List Turn) (v : View) : Type 0 where
   pub read : AreRead v
   -- while a run opens its journal no record is kept
   pub quiet : is_opening v.scene.stage ≡ true → records_kept v.calls ≡ []
-  -- and no end of day is served
-  pub no_days : is_opening v.scene.stage ≡ true → days_served v.scene.core.terminals ≡ 0
+  -- and nothing is reserved
+  pub no_days : is_opening v.scene.stage ≡ true → slots_reserved v.scene.core ≡ 0
   pub room : LeavesSlots v
   pub numbered : IsNumbered v.scene.core
   pub terminals : ComesInOrder v
-
-moment-after : (o : Outside) (turn : Turn) → o.moment ≤ last_moment → (outside_after o turn).moment ≤ last_moment
-moment-after o (Start setup) h = omega arith
-moment-after o OpenFailed h = omega arith
-moment-after o (Polled now) h = moment_of_bound now
-moment-after o (Opened till) h = h
-moment-after o (HeardTill till bytes) h = h
-moment-after o (Closed till) h = h
-moment-after o (HeardPt pt bytes) h = h
-moment-after o (Lost pt) h = h
-moment-after o Stopped h = h
-moment-after o (Linked pt) h = h
-moment-after o (LinkFailed pt) h = h
-moment-after o (SentTill till bytes ok) h = h
-moment-after o (SentPt pt bytes ok) h = h
-moment-after o (CutTill till) h = h
-moment-after o (CutPt pt) h = h
-moment-after o (Wrote offset bytes) h = h
-moment-after o Synced h = h
-moment-after o DiskFailed h = h
-moment-after o (Crash file) h = omega arith
-
-moment-from : (o : Outside) (turns : List Turn) → o.moment ≤ last_moment → (outside_from o turns).moment ≤ last_moment
-moment-from o [] h = h
-moment-from o (turn ∷ turns) h = moment-from (outside_after o turn) turns (moment-after o turn h)
-
-moment-is : (moment : ℕ) → moment ≤ last_moment → IsMoment (pos moment)
-moment-is moment h = (omega (arith, ints), omega (arith, ints))
+  pub waits : HasWaits v
 
 pub configured : (v : View) (setup : Setup) → Agrees v → v.scene.setup ≡ Some setup → settings_of v.scene.core ≡ setup.terminals
 configured v setup a is = subst (λ o. AreConfigured o v.scene.core) is (by_links a.links)
@@ -139,6 +123,13 @@ between-items log v o k running calls =
       terminals = λ pt terminal found. subst (λ l. IsTerminalInOrder l terminal) coming (o.terminals (clear-where v.scene.stage is_running refl running) pt terminal found (ap (cut_owed pt) calls));
     }
 
+-- so is what waits
+pub waits-between-items : (log : List Turn) (v : View) → Ordered log v → (k : HasSetup v.scene) → is_running v.scene.stage ≡ true → v.calls ≡ [] → AreWaitsInOrder (known_in v.scene k.setup)
+waits-between-items log v o k running calls =
+    let h : Holds (owned ledger_rules) log v = holds ledger_rules log v o.keeps in
+    let coming : records_coming v ≡ v.scene.kept = coming-kept v (ap spare_disk calls) (idle-rests (owned ledger_rules) log v h running calls).is_open.no_flight in
+    subst (λ (l : List Record). AreWaitsInOrder (record { setup = k.setup; core = v.scene.core; kept = l; moment = v.scene.outside.moment })) coming (o.waits k.setup k.setup_is (clear-where v.scene.stage is_running refl running))
+
 -- ---- items that begin
 
 -- what the first item has of a till was read
@@ -159,45 +150,20 @@ item-in-order : OrderLaws → (log : List Turn) (v : View) (item : RoundItem) (r
 item-in-order laws log v item rest o k b e =
     let known : Known = known_in v.scene k.setup in
     let i : IsInOrder known = between-items log v o k (round-runs v.scene.stage b.idle.round) b.idle.calls in
-    subst (LeavesInOrder known) (sym (row-is v.scene k item)) (rows-in-order laws v.scene.outside.tills known item i (first-was-read log v item rest o k e))
+    let w : AreWaitsInOrder known = waits-between-items log v o k (round-runs v.scene.stage b.idle.round) b.idle.calls in
+    subst (LeavesInOrder known) (sym (row-is v.scene k item)) (rows-in-order laws v.scene.outside.tills known item i w (first-was-read log v item rest o k e))
 
--- ---- slots
+-- so is what waits then
+item-keeps-waits : OrderLaws → (log : List Turn) (v : View) (item : RoundItem) (rest : List RoundItem) → Ordered log v → (k : HasSetup v.scene) → Begins v → v.items ≡ item ∷ rest
+    → AreWaitsInOrder (record (known_in v.scene k.setup) { core = (row_at v.scene item).core; kept = v.scene.kept ++ records_kept (row_at v.scene item).calls })
+item-keeps-waits laws log v item rest o k b e =
+    let known : Known = known_in v.scene k.setup in
+    let i : IsInOrder known = between-items log v o k (round-runs v.scene.stage b.idle.round) b.idle.calls in
+    let w : AreWaitsInOrder known = waits-between-items log v o k (round-runs v.scene.stage b.idle.round) b.idle.calls in
+    subst (λ (row : Row). AreWaitsInOrder (record (known_in v.scene k.setup) { core = row.core; kept = v.scene.kept ++ records_kept row.calls })) (sym (row-is v.scene k item))
+    (laws.waits v.scene.outside.tills known item i w (first-was-read log v item rest o k e))
 
-no-fewer : (count : ℕ) → count ≤ count
-no-fewer count = omega arith
-
-sum-falls : (records keys days fewer slots : ℕ) → fewer ≤ days → records + (keys + days) ≤ slots → records + (keys + fewer) ≤ slots
-sum-falls records keys days fewer slots falls room = omega arith
-
-sum-without : (records keys days slots : ℕ) → records + (keys + days) ≤ slots → records + keys ≤ slots
-sum-without records keys days slots room = omega arith
-
-sum-with-none : (records keys days slots : ℕ) → days ≡ 0 → records + keys ≤ slots → records + (keys + days) ≤ slots
-sum-with-none records keys days slots none room = omega arith
-
--- where fewer ends of day are served, as many slots are enough
-fewer-days : (slots : ℕ) (records : List Record) (core new : Core) → days_served new.terminals ≤ days_served core.terminals → HasRoom slots records core → HasRoom slots records new
-fewer-days slots records core new falls room = sum-falls (length records) (open_count_of records) (days_served core.terminals) (days_served new.terminals) slots falls room
-
--- where none is served
-with-no-days : (slots : ℕ) (records : List Record) (core : Core) → days_served core.terminals ≡ 0 → length records + open_count_of records ≤ slots → HasRoom slots records core
-with-no-days slots records core none room = sum-with-none (length records) (open_count_of records) (days_served core.terminals) slots none room
-
--- no more ends of day are served, and nothing is requested of a device
-abbrev CountsStay : Core → Core → Type 0
-CountsStay core new = (days_served new.terminals ≤ days_served core.terminals) × (new.device_requests ≡ core.device_requests)
-
-same-counts : (core : Core) → CountsStay core core
-same-counts core = (no-fewer (days_served core.terminals), refl)
-
-stays-numbered : (core new : Core) → CountsStay core new → IsNumbered core → IsNumbered new
-stays-numbered core new counts numbered = subst (λ number. number ≤ greatest_device_number) (sym counts.1) numbered
-
-none-stays : (core new : Core) → CountsStay core new → days_served core.terminals ≡ 0 → days_served new.terminals ≡ 0
-none-stays core new counts none = at-most-none (days_served new.terminals) (subst (λ days. days_served new.terminals ≤ days) none counts.0)
-  where
-    at-most-none : (days : ℕ) → days ≤ 0 → days ≡ 0
-    at-most-none days h = omega arith
+-- ---- the journal
 
 -- calls that keep a record in order are those of a gateway that keeps its journal
 keeps-at-most-one : (scene : Scene) (k : HasSetup scene) (row : Row) → LeavesInOrder (known_in scene k.setup) row → KeepsOne scene.kept row.calls → KeepsAtMostOne ledger_rules scene row.calls
@@ -212,7 +178,7 @@ keeps-at-most-one scene k row l (inr n) =
       spares = n.spares;
       within = last-within scene.kept n.the_record folded.within;
       follows = last-fits [] scene.kept n.the_record folded.fit;
-      room = record { setup = k.setup; setup_is = k.setup_is; room = sum-without _ _ (days_served row.core.terminals) k.setup.slots (subst (λ r. HasRoom k.setup.slots (scene.kept ++ r) row.core) keeps l.room) };
+      room = record { setup = k.setup; setup_is = k.setup_is; room = sum-without _ _ (slots_reserved row.core) k.setup.slots (subst (λ r. HasRoom k.setup.slots (scene.kept ++ r) row.core) keeps l.room) };
     })
 
 pub begin-ordered : OrderLaws → (log : List Turn) (v : View) → Ordered log v → Begins v → Ordered log (after v Begin)
@@ -242,12 +208,16 @@ begin-ordered laws log v o b = by_items v.items refl
               subst (λ (s : Setup). All (IsReadItem s) (row.items ++ rest)) same
               (All-append (IsReadItem k.setup) row.items rest (item-brings laws log v item rest o k b e) (All-tail (IsReadItem k.setup) item rest (subst (λ i. All (IsReadItem k.setup) i) e (o.read k.setup k.setup_is)))));
           quiet = subst (λ (w : View). is_opening w.scene.stage ≡ true → records_kept w.calls ≡ []) is (λ opening. no-true (sym (ap is_opening at) ∙ opening));
-          no_days = subst (λ (w : View). is_opening w.scene.stage ≡ true → days_served w.scene.core.terminals ≡ 0) is (λ opening. no-true (sym (ap is_opening at) ∙ opening));
+          no_days = subst (λ (w : View). is_opening w.scene.stage ≡ true → slots_reserved w.scene.core ≡ 0) is (λ opening. no-true (sym (ap is_opening at) ∙ opening));
           room = subst LeavesSlots is (λ setup setup_is running.
               let same : k.setup ≡ setup = same-some k.setup setup (sym k.setup_is ∙ setup_is) in
               subst (λ (s : Setup). HasRoom s.slots (records_coming next) row.core) same (subst (λ r. HasRoom k.setup.slots r row.core) (sym coming) l.room));
           numbered = subst (λ (w : View). IsNumbered w.scene.core) is l.numbered;
           terminals = subst ComesInOrder is (λ clear pt terminal found no_cut. subst (λ r. IsTerminalInOrder r terminal) (sym coming) (l.terminals pt terminal found no_cut));
+          waits = subst HasWaits is (λ setup setup_is clear.
+              let same : k.setup ≡ setup = same-some k.setup setup (sym k.setup_is ∙ setup_is) in
+              subst (λ (s : Setup). AreWaitsInOrder (record { setup = s; core = row.core; kept = records_coming next; moment = v.scene.outside.moment })) same
+              (subst (λ (r : List Record). AreWaitsInOrder (record { setup = k.setup; core = row.core; kept = r; moment = v.scene.outside.moment })) (sym coming) (item-keeps-waits laws log v item rest o k b e)));
         }
 
 -- once anything follows, a run opens its journal as before
@@ -259,6 +229,13 @@ busy-opening AtPoll e = no-true e
 busy-opening Handling e = e
 busy-opening Over e = e
 busy-opening Broken e = e
+
+-- the same records come, and the same waits
+same-waits : (v w : View) → HasWaits v → records_coming w ≡ records_coming v → w.scene.core ≡ v.scene.core → w.scene.setup ≡ v.scene.setup → (is_broken w.scene.stage ≡ false → is_broken v.scene.stage ≡ false) → HasWaits w
+same-waits v w h coming core setup clear = λ run is w_clear.
+    subst (λ (c : Core). AreWaitsInOrder (record { setup = run; core = c; kept = records_coming w; moment = w.scene.outside.moment })) (sym core)
+    (subst (λ (l : List Record). AreWaitsInOrder (record { setup = run; core = v.scene.core; kept = l; moment = w.scene.outside.moment })) (sym coming)
+    (moments-keep-waits (known_coming v run) w.scene.outside.moment (h run (sym setup ∙ is) (clear w_clear))))
 
 -- ---- messages that are read
 
@@ -277,6 +254,7 @@ read-ordered log v as_read o r =
       numbered = o.numbered;
       terminals = λ clear pt terminal found no_cut.
           subst (λ l. IsTerminalInOrder l terminal) (sym coming) (o.terminals (clear-where v.scene.stage is_round refl r.idle.round) pt terminal found (ap (cut_owed pt) r.idle.calls));
+      waits = same-waits v (after v (Read as_read)) o.waits coming refl refl (λ clear. clear-where v.scene.stage is_round refl r.idle.round);
     }
 
 -- ---- turns
@@ -295,10 +273,11 @@ same-slots v w r coming counts setup_is running = λ setup is w_running.
 record Leaves (w : View) : Type 0 where
   read : AreRead w
   quiet : is_opening w.scene.stage ≡ true → records_kept w.calls ≡ []
-  no_days : is_opening w.scene.stage ≡ true → days_served w.scene.core.terminals ≡ 0
+  no_days : is_opening w.scene.stage ≡ true → slots_reserved w.scene.core ≡ 0
   room : LeavesSlots w
   numbered : IsNumbered w.scene.core
   terminals : ComesInOrder w
+  waits : HasWaits w
 
 -- no call was owed and none is, and the run went on
 event-leaves : (log : List Turn) (v w : View) → Ordered log v → is_running v.scene.stage ≡ true → v.calls ≡ [] → w.calls ≡ [] → w.scene.kept ≡ v.scene.kept → w.scene.flight ≡ v.scene.flight → w.scene.core ≡ v.scene.core → w.scene.setup ≡ v.scene.setup
@@ -313,6 +292,7 @@ event-leaves log v w o running before none kept flight core setup closed reads =
       room = same-slots v w o.room coming (subst (CountsStay v.scene.core) (sym core) (same-counts v.scene.core)) setup (λ w_running. running);
       numbered = subst IsNumbered (sym core) o.numbered;
       terminals = same-terminals v w o.terminals coming core (λ w_clear. clear-where v.scene.stage is_running refl running) (λ pt no_cut. ap (cut_owed pt) before);
+      waits = same-waits v w o.waits coming core setup (λ w_clear. clear-where v.scene.stage is_running refl running);
     }
 
 pub busy-running : (stage : Stage) → is_running (busy stage) ≡ true → is_running stage ≡ true
@@ -326,8 +306,9 @@ busy-running Broken e = e
 
 -- a call was made that isn't on the disk, and none on the disk is owed then
 call-leaves : (log : List Turn) (v w : View) (call : OwedCall) → Ordered log v → first_call v.calls ≡ Some call → is_on_disk call ≡ false → spare_disk w.calls ≡ true → w.scene.stage ≡ busy v.scene.stage → w.scene.kept ≡ v.scene.kept → w.scene.flight ≡ v.scene.flight
-    → w.scene.setup ≡ v.scene.setup → w.items ≡ v.items → CountsStay v.scene.core w.scene.core → (records_coming w ≡ records_coming v → ComesInOrder w) → Leaves w
-call-leaves log v w call o next off spares stage kept flight setup items counts terminals =
+    → w.scene.setup ≡ v.scene.setup → w.items ≡ v.items → CountsStay v.scene.core w.scene.core → (records_coming w ≡ records_coming v → ComesInOrder w)
+    → (records_coming w ≡ records_coming v → records_coming v ≡ v.scene.kept → HasWaits w) → Leaves w
+call-leaves log v w call o next off spares stage kept flight setup items counts terminals waits =
     let h : Holds (owned ledger_rules) log v = holds ledger_rules log v o.keeps in
     let r = rests-owing (owned ledger_rules) log v.scene.kept v.scene.flight v.calls v.scene.stage call h.phase next off in
     let coming : records_coming w ≡ records_coming v = coming-kept w spares (flight ∙ r.is_open.no_flight) ∙ kept ∙ sym (coming-kept v r.spares r.is_open.no_flight) in
@@ -338,6 +319,7 @@ call-leaves log v w call o next off spares stage kept flight setup items counts 
       numbered = stays-numbered v.scene.core w.scene.core counts o.numbered;
       room = same-slots v w o.room coming counts setup (λ w_running. busy-running v.scene.stage (sym (ap is_running stage) ∙ w_running));
       terminals = terminals coming;
+      waits = waits coming (coming-kept v r.spares r.is_open.no_flight);
     }
 
 -- a call that isn't on the disk is the last of those that spare it
@@ -362,7 +344,7 @@ link-leaves : OrderLaws → (log : List Turn) (v w : View) (number : ℕ) (event
     → ((pt : ℕ) → pt ≢ number → cuts_terminal pt call ≡ false) → spare_disk w.calls ≡ true → w.scene.stage ≡ busy v.scene.stage → w.scene.kept ≡ v.scene.kept → w.scene.flight ≡ v.scene.flight
     → w.scene.setup ≡ v.scene.setup → w.items ≡ v.items → w.scene.core ≡ (link_row (known_in v.scene k.setup) number event).core → Leaves w
 link-leaves laws log v w number event call k o next off last other spares stage kept flight setup items core =
-    call-leaves log v w call o next off spares stage kept flight setup items (subst (CountsStay v.scene.core) (sym core) (stays.days, stays.device_requests)) by_coming
+    call-leaves log v w call o next off spares stage kept flight setup items (subst (CountsStay v.scene.core) (sym core) (reserved, stays.device_requests)) by_coming by_waits
   where
     h : Holds (owned ledger_rules) log v
     h = holds ledger_rules log v o.keeps
@@ -375,6 +357,22 @@ link-leaves laws log v w number event call k o next off last other spares stage 
 
     stays : LinkKeepsInOrder (known_in v.scene k.setup) number (link_row (known_in v.scene k.setup) number event).core
     stays = laws.links (known_in v.scene k.setup) number event
+
+    reserved : slots_reserved (link_row (known_in v.scene k.setup) number event).core ≤ slots_reserved v.scene.core
+    reserved =
+        fewer-reserved (days_served (link_row (known_in v.scene k.setup) number event).core.terminals) (days_served v.scene.core.terminals) (length (link_row (known_in v.scene k.setup) number event).core.waits) (length v.scene.core.waits) stays.days
+        (subst (λ (waits : List Wait). length waits ≤ length v.scene.core.waits) (sym stays.waits) (no-fewer (length v.scene.core.waits)))
+
+    by_waits : records_coming w ≡ records_coming v → records_coming v ≡ v.scene.kept → HasWaits w
+    by_waits coming is_kept run is w_clear =
+        let same : k.setup ≡ run = same-some k.setup run (sym k.setup_is ∙ sym setup ∙ is) in
+        let before : AreWaitsInOrder (known_in v.scene k.setup) =
+        subst (λ (l : List Record). AreWaitsInOrder (record { setup = k.setup; core = v.scene.core; kept = l; moment = v.scene.outside.moment })) is_kept (o.waits k.setup k.setup_is (stage-clear v w stage w_clear)) in
+        let linked : AreWaitsInOrder (record (known_in v.scene k.setup) { core = (link_row (known_in v.scene k.setup) number event).core }) = links-keep-waits (known_in v.scene k.setup) number event before in
+        let later : AreWaitsInOrder (record { setup = k.setup; core = (link_row (known_in v.scene k.setup) number event).core; kept = v.scene.kept; moment = w.scene.outside.moment }) = moments-keep-waits _ w.scene.outside.moment linked in
+        subst (λ (s : Setup). AreWaitsInOrder (record { setup = s; core = w.scene.core; kept = records_coming w; moment = w.scene.outside.moment })) same
+        (subst (λ (c : Core). AreWaitsInOrder (record { setup = k.setup; core = c; kept = records_coming w; moment = w.scene.outside.moment })) (sym core)
+        (subst (λ (l : List Record). AreWaitsInOrder (record { setup = k.setup; core = (link_row (known_in v.scene k.setup) number event).core; kept = l; moment = w.scene.outside.moment })) (sym (coming ∙ is_kept)) later))
 
     by_coming : records_coming w ≡ records_coming v → ComesInOrder w
     by_coming coming clear pt terminal found no_cut =
@@ -478,7 +476,7 @@ opening-writes log v call turn o next writes opening = by_phase h.phase
     by_phase (inr (inr m)) = by_step m.0
 
 -- where no record comes there are slots enough
-none-leaves-slots : (records : List Record) (slots : ℕ) (core : Core) → records ≡ [] → days_served core.terminals ≡ 0 → HasRoom slots records core
+none-leaves-slots : (records : List Record) (slots : ℕ) (core : Core) → records ≡ [] → slots_reserved core ≡ 0 → HasRoom slots records core
 none-leaves-slots records slots core none no_days = with-no-days slots records core no_days (subst (λ l. length l + open_count_of l ≤ slots) (sym none) (let open_none = no_open_key in omega arith))
 
 wrote-leaves : (log : List Turn) (v : View) (offset : ℕ) (bytes : List ℕ) → Ordered log v → AllowedTurn v (Wrote offset bytes) → Leaves (after_turn v (Wrote offset bytes))
@@ -492,6 +490,7 @@ wrote-leaves log v offset bytes o ok =
       numbered = o.numbered;
       room = λ setup is running. by_running setup is coming (wrote-running v.scene.stage running);
       terminals = same-terminals v (after_turn v turn) o.terminals coming refl (λ clear. sym (wrote-broken v.scene.stage) ∙ clear) (λ pt no_cut. later-cuts pt v.calls ok.0 ok.1 (writes-cut-none pt ok.0 turn ok.2) no_cut);
+      waits = same-waits v (after_turn v turn) o.waits coming refl refl (λ clear. sym (wrote-broken v.scene.stage) ∙ clear);
     }
   where
     by_running : (setup : Setup) → v.scene.setup ≡ Some setup → records_coming (after_turn v (Wrote offset bytes)) ≡ records_coming v → (is_running v.scene.stage ≡ true) ⊎ (is_opening v.scene.stage ≡ true)
@@ -523,6 +522,7 @@ synced-leaves log v o ok =
       numbered = o.numbered;
       room = same-slots v (after_turn v Synced) o.room coming (same-counts v.scene.core) refl (λ running. sym (synced-running v.scene.stage) ∙ running);
       terminals = same-terminals v (after_turn v Synced) o.terminals coming refl (λ clear. sym (synced-broken v.scene.stage) ∙ clear) (λ pt no_cut. later-cuts pt v.calls Sync ok refl no_cut);
+      waits = same-waits v (after_turn v Synced) o.waits coming refl refl (λ clear. sym (synced-broken v.scene.stage) ∙ clear);
     }
 
 -- ---- the ends of runs, and their beginning
@@ -536,6 +536,7 @@ nobody-leaves w nobody no_setup items closed = record {
   numbered = subst IsNumbered (sym nobody) (no-fewer-than-none greatest_device_number);
   room = λ setup is running. absurd (let n : None ≡ Some setup = sym no_setup ∙ is in cc);
   terminals = λ clear pt terminal found no_cut. absurd (none pt terminal (ap (λ (c : Core). slice_get c.terminals pt) (sym nobody) ∙ found));
+  waits = λ setup is clear. absurd (let n : None ≡ Some setup = sym no_setup ∙ is in cc);
 }
   where
     no-fewer-than-none : (count : ℕ) → 0 ≤ count
@@ -571,14 +572,28 @@ start-leaves laws v setup =
           (with-no-days setup.slots (records_coming w) (new_core setup) (laws.new setup (records_coming w)).1
           (subst (λ l. length l + open_count_of l ≤ setup.slots) (sym coming) (taken-leaves-slots setup.slots (length v.scene.outside.file) (records_of v.scene) (not-true (opening setup v.scene.outside.file (records_of v.scene)).refused running))));
       terminals = λ clear pt terminal found no_cut. (laws.new setup (records_coming w)).0 pt terminal found;
+      waits = λ other is clear.
+          let same : setup ≡ other = same-some setup other is in
+          subst (λ (s : Setup). AreWaitsInOrder (record { setup = s; core = new_core setup; kept = records_coming w; moment = w.scene.outside.moment })) same (new-has-none-waiting setup (records_coming w) w.scene.outside.moment);
     }
   where
     first_number : (count : ℕ) → 0 ≤ count
     first_number count = omega arith
 
--- a till that is gone leaves as many ends of day
+-- a till that is gone leaves as many ends of day, and no more requests that wait
 gone-counts : (laws : OrderLaws) (core : Core) (till : ℕ) → CountsStay core (core_without core till)
-gone-counts laws core till = (subst (λ days. days ≤ days_served core.terminals) (sym (laws.gone core till)) (no-fewer (days_served core.terminals)), refl)
+gone-counts laws core till = (
+  fewer-reserved (days_served (core_without core till).terminals) (days_served core.terminals) (length (core_without core till).waits) (length core.waits)
+      (subst (λ days. days ≤ days_served core.terminals) (sym (laws.gone core till).0) (no-fewer (days_served core.terminals))) (laws.gone core till).1,
+  refl,
+)
+
+-- and what waits then is in order
+gone-waits : (v w : View) (till : ℕ) → HasWaits v → records_coming w ≡ records_coming v → w.scene.core ≡ core_without v.scene.core till → w.scene.setup ≡ v.scene.setup → (is_broken w.scene.stage ≡ false → is_broken v.scene.stage ≡ false) → HasWaits w
+gone-waits v w till h coming core setup clear = λ run is w_clear.
+    subst (λ (c : Core). AreWaitsInOrder (record { setup = run; core = c; kept = records_coming w; moment = w.scene.outside.moment })) (sym core)
+    (subst (λ (l : List Record). AreWaitsInOrder (record { setup = run; core = core_without v.scene.core till; kept = l; moment = w.scene.outside.moment })) (sym coming)
+    (moments-keep-waits (record (known_coming v run) { core = core_without v.scene.core till }) w.scene.outside.moment (gone-keeps-waits (known_coming v run) till (h run (sym setup ∙ is) (clear w_clear)))))
 
 -- ---- each turn
 
@@ -616,26 +631,31 @@ turn-leaves laws log v (SentTill till bytes true) o ok =
     let w : View = after_turn v (SentTill till bytes true) in
     call-leaves log v w (SendTill till ok.0) o ok.1 refl (call-spares log v (SendTill till ok.0) o ok.1 refl) refl refl refl refl refl (same-counts v.scene.core)
     (λ coming. same-terminals v w o.terminals coming refl (stage-clear v w refl) (λ pt no_cut. later-cuts pt v.calls (SendTill till ok.0) ok.1 refl no_cut))
+    (λ coming is_kept. same-waits v w o.waits coming refl refl (stage-clear v w refl))
 turn-leaves laws log v (SentTill till bytes false) o ok =
     let w : View = after_turn v (SentTill till bytes false) in
     call-leaves log v w (SendTill till ok.0) o ok.1 refl refl refl refl refl refl refl (same-counts v.scene.core)
     (λ coming. same-terminals v w o.terminals coming refl (stage-clear v w refl)
     (λ pt no_cut. last-cuts pt v.calls (SendTill till ok.0) ok.1 (call-last v.calls (SendTill till ok.0) (λ more. refl) ok.1 o.agrees.ends) refl))
+    (λ coming is_kept. same-waits v w o.waits coming refl refl (stage-clear v w refl))
 turn-leaves laws log v (SentPt number bytes true) o ok =
     let w : View = after_turn v (SentPt number bytes true) in
     call-leaves log v w (SendPt number ok.0) o ok.1 refl (call-spares log v (SendPt number ok.0) o ok.1 refl) refl refl refl refl refl (same-counts v.scene.core)
     (λ coming. same-terminals v w o.terminals coming refl (stage-clear v w refl) (λ pt no_cut. later-cuts pt v.calls (SendPt number ok.0) ok.1 refl no_cut))
+    (λ coming is_kept. same-waits v w o.waits coming refl refl (stage-clear v w refl))
 turn-leaves laws log v (SentPt number bytes false) o ok =
     let w : View = after_turn v (SentPt number bytes false) in
     call-leaves log v w (SendPt number ok.0) o ok.1 refl refl refl refl refl refl refl (same-counts v.scene.core)
     (λ coming. same-terminals v w o.terminals coming refl (stage-clear v w refl)
     (λ pt no_cut. last-cuts pt v.calls (SendPt number ok.0) ok.1 (call-last v.calls (SendPt number ok.0) (λ more. refl) ok.1 o.agrees.ends) refl))
+    (λ coming is_kept. same-waits v w o.waits coming refl refl (stage-clear v w refl))
 turn-leaves laws log v (CutTill till) o ok =
     let w : View = after_turn v (CutTill till) in
     call-leaves log v w (OwedCutTill till) o ok refl (call-spares log v (OwedCutTill till) o ok refl) refl refl refl refl refl (gone-counts laws v.scene.core till)
     (λ coming clear pt terminal found no_cut.
     subst (λ l. IsTerminalInOrder l terminal) (sym coming)
     (forgotten-in-order (records_coming v) till v.scene.core pt terminal found (λ before there. o.terminals (stage-clear v w refl clear) pt before there (later-cuts pt v.calls (OwedCutTill till) ok refl no_cut))))
+    (λ coming is_kept. gone-waits v w till o.waits coming refl refl (stage-clear v w refl))
 turn-leaves laws log v (CutPt pt) o ok =
     let k = call-setup v (OwedCutPt pt) o.agrees.run ok in
     let spares = spares-both (link_lost_at v.scene pt).calls (later v.calls) (lost-at-spares v.scene pt) (call-spares log v (OwedCutPt pt) o ok refl) in
@@ -650,6 +670,7 @@ turn-leaves laws log v DiskFailed o ok = record {
   numbered = o.numbered;
   room = λ setup is running. no-true running;
   terminals = λ clear pt terminal found no_cut. no-true (sym clear);
+  waits = λ setup is clear. no-true (sym clear);
 }
 turn-leaves laws log v (Crash file) o ok = nobody-leaves (after_turn v (Crash file)) refl refl refl refl
 
@@ -667,6 +688,7 @@ turn-ordered laws log v turn o ok =
       room = l.room;
       numbered = l.numbered;
       terminals = l.terminals;
+      waits = l.waits;
     }
 
 -- ---- along a course
@@ -681,7 +703,7 @@ course-ordered laws log v (Make turn ∷ moves) o c =
 pub first-ordered : Ordered [] at_first
 first-ordered =
     let l = nobody-leaves at_first refl refl refl refl in
-    record { agrees = first-agrees; keeps = KeepsOn.NoMoves; owed = []; owing = first-owing; read = l.read; quiet = l.quiet; no_days = l.no_days; room = l.room; numbered = l.numbered; terminals = l.terminals }
+    record { agrees = first-agrees; keeps = KeepsOn.NoMoves; owed = []; owing = first-owing; read = l.read; quiet = l.quiet; no_days = l.no_days; room = l.room; numbered = l.numbered; terminals = l.terminals; waits = l.waits }
 
 pub log-ordered : OrderLaws → (log : List Turn) (v : View) → Stands log v → Ordered log v
 log-ordered laws log v s = subst (λ w. Ordered log w) s.view_is (subst (λ l. Ordered l (view_from at_first s.course)) s.log_is (course-ordered laws [] at_first s.course first-ordered s.lawful))
@@ -719,6 +741,9 @@ pub each-log-is-in-order : OrderLaws → EachLogIsInOrder
 each-log-is-in-order laws log v setup s is between =
     let k : HasSetup v.scene = record { setup = setup; setup_is = is; within = setup-within-limits log v setup s is } in
     between-items log v (log-ordered laws log v s) k between.running between.calls
+
+pub each-log-has-waits : OrderLaws → EachLogHasWaitsInOrder
+each-log-has-waits laws log v setup s = (log-ordered laws log v s).waits setup
 
 -- what a terminal's standing says is on record between items
 between-records : OrderLaws → (log : List Turn) (v : View) (pt : ℕ) (terminal : Terminal) (standing : Standing) → Stands log v → IsBetweenItems v → slice_get v.scene.core.terminals pt ≡ Some terminal → terminal.standing ≡ standing

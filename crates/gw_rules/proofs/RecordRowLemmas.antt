@@ -1,5 +1,5 @@
 -- The records fold at each moment of a log along which they are kept, and a row keeps what is known in order.
-use Rattle.std.proofs.Common.{◌≡◌, ◌≤◌, ℕ, ◌+◌, Bool, true, false, List, [], ◌∷◌, ◌++◌, length, refl, sym, ◌∙◌, ap, subst, inl, inr, append_assoc, append-nil}
+use Rattle.std.proofs.Common.{◌≡◌, ◌≢◌, ◌≤◌, ℕ, ◌+◌, ◌*◌, Bool, true, false, List, [], ◌∷◌, ◌++◌, length, refl, sym, ◌∙◌, ap, subst, arith, inl, inr, append_assoc, append-nil}
 use Rattle.std.proofs.lemmas.List.Elements.{All-nil, All-cons, All-head, All-tail, All-append}
 use Rattle.std.specs.Prelude.{nat_lt, nat_le, if◌then◌else◌, IsTrue, All, map, slice_get, Option, Some, None, option_to_list}
 use Rattle.std.specs.List.{flat_map}
@@ -16,10 +16,11 @@ use Rattle.gw_ledger.specs.Fold.{fits, Fit, AreFolded}
 use Rattle.gw_ledger.specs.Sums.{open_count_of}
 use Rattle.gw_owes.specs.Calls.{OwedCall, SendTill, SendPt, LinkPt, WriteBody, WriteGate, WriteFirstGate, Sync, write_turn, records_kept, CutTill as OwedCutTill, CutPt as OwedCutPt}
 use Rattle.gw_owes.specs.Core.{Core, Wait}
+use Rattle.gw_owes.specs.Days.{days_served}
 use Rattle.gw_owes.specs.Events.{till_opened_items, has_bad_length, decoded_items, is_oversized, apdu_items, decoded_apdu_items, for_each_terminal, waits_by_deadline, items_due}
-use Rattle.gw_owes.specs.Items.{RoundItem, Crowded, Message, Asked, Unframed, Gone, Greet, Handle, Serve, NextWaiting, Oversized, LinkLost, Late, Overdue, Due}
+use Rattle.gw_owes.specs.Items.{RoundItem, Crowded, Message, Asked, Unframed, Gone, Greet, Handle, Serve, Queue, NextWaiting, Oversized, LinkLost, Late, Overdue, Due}
 use Rattle.gw_owes.specs.ReadAs.{ReadAs, IsReadAs}
-use Rattle.gw_owes.specs.RecordLaws.{IsTerminalInOrder, IsReadItem, HasRoom, IsNumbered, IsInOrder, NewCoreIsInOrder, EachRowKeepsInOrder, EachCutKeepsInOrder, EachLinkKeepsInOrder, EachRowBringsReadItems, EachTillGoneLeavesDays}
+use Rattle.gw_owes.specs.RecordLaws.{IsTerminalInOrder, IsReadItem, HasRoom, IsNumbered, IsInOrder, NewCoreIsInOrder, EachRowKeepsInOrder, EachCutKeepsInOrder, EachLinkKeepsInOrder, EachRowBringsReadItems, EachTillGoneLeavesDays, EachQueueKeepsInOrder, EachOverdueKeepsInOrder, KeepsInOrder}
 use Rattle.gw_owes.specs.Reply.{ReplyValue}
 use Rattle.gw_owes.specs.Requests.{reply_to, begun_by}
 use Rattle.gw_owes.specs.Row.{Known, Row, owing}
@@ -27,6 +28,8 @@ use Rattle.gw_owes.specs.Rows.{asked_row, row_of}
 use Rattle.gw_owes.specs.TerminalLaws.{owes_cut}
 use Rattle.gw_owes.specs.TerminalRows.{terminal_of, terminal_row}
 use Rattle.gw_owes.specs.Terminals.{forgets_till, core_without, reply_calls_to, registers, unlinks, link_made, link_lost}
+use Rattle.gw_owes.specs.WaitingLaws.{AreWaitsInOrder, EachNextKeepsInOrder, EachRowKeepsWaits}
+use Rattle.gw_owes.specs.WaitingRows.{next_waiting_row, overdue_row, queue_row}
 use Rattle.gw_owes.specs.declared.terminal.Terminal.{Terminal}
 use Rattle.gw_owes.proofs.HandlingLemmas.{by-where, each-terminal}
 use Rattle.gw_owes.proofs.SetLemmas.{same-some}
@@ -53,6 +56,10 @@ pub record OrderLaws : Type 0 where
   pub links : EachLinkKeepsInOrder
   pub items : EachRowBringsReadItems
   pub gone : EachTillGoneLeavesDays
+  pub queues : EachQueueKeepsInOrder
+  pub overdue : EachOverdueKeepsInOrder
+  pub next : EachNextKeepsInOrder
+  pub waits : EachRowKeepsWaits
 
 -- ---- records
 
@@ -202,6 +209,7 @@ module _ (setup : Setup) where
   first-read as_read (Greet pt apdu ∷ items) bytes first reads all = all
   first-read as_read (Handle pt apdu ∷ items) bytes first reads all = all
   first-read as_read (Serve pt till header request ∷ items) bytes first reads all = all
+  first-read as_read (Queue pt till header request ∷ items) bytes first reads all = all
   first-read as_read (NextWaiting pt ∷ items) bytes first reads all = all
   first-read as_read (Oversized pt ∷ items) bytes first reads all = all
   first-read as_read (LinkLost pt ∷ items) bytes first reads all = all
@@ -274,8 +282,8 @@ forgotten-in-order kept till core pt terminal found each =
     subst (IsTerminalInOrder kept) same new
 
 -- the row of an item of a terminal
-terminal-in-order : OrderLaws → (known : Known) (item : RoundItem) (number : ℕ) → terminal_of item ≡ Some number → AreCallsOf (Some number) (terminal_row known item).calls → IsInOrder known → IsReadItem known.setup item → LeavesInOrder known (terminal_row known item)
-terminal-in-order laws known item number is of i read = by_cut (owes_cut (terminal_row known item).calls) refl
+terminal-in-order : OrderLaws → (known : Known) (item : RoundItem) (number : ℕ) → ((next : ℕ) → item ≢ NextWaiting next) → terminal_of item ≡ Some number → AreCallsOf (Some number) (terminal_row known item).calls → IsInOrder known → IsReadItem known.setup item → LeavesInOrder known (terminal_row known item)
+terminal-in-order laws known item number other is of i read = by_cut (owes_cut (terminal_row known item).calls) refl
   where
     by_cut : (test : Bool) → owes_cut (terminal_row known item).calls ≡ test → LeavesInOrder known (terminal_row known item)
     by_cut true cuts =
@@ -283,24 +291,34 @@ terminal-in-order laws known item number is of i read = by_cut (owes_cut (termin
         keeping-none known (terminal_row known item) i k.none_kept k.room k.numbered
         (λ pt terminal found no_cut. k.others pt terminal (λ same. no-true (sym no_cut ∙ ap (λ n. cut_owed n (terminal_row known item).calls) same ∙ (own-owed number known.moment (terminal_row known item).calls of).1 ∙ cuts)) found)
     by_cut false e =
-        let k = laws.rows known item i read e in
+        let k = laws.rows known item other i read e in
         record { folded = k.folded; room = k.room; numbered = k.numbered; terminals = λ pt terminal found no_cut. k.terminals pt terminal found }
 
-pub rows-in-order : OrderLaws → (tills : List Connection) (known : Known) (item : RoundItem) → IsInOrder known → IsReadItem known.setup item → LeavesInOrder known (row_of tills known item)
-rows-in-order laws tills known (Crowded till) i read = owing-in-order known (OwedCutTill till ∷ []) [] i refl
-rows-in-order laws tills known (Message till bytes) i read = owing-in-order known [] [] i refl
-rows-in-order laws tills known (Asked till as_read) i read =
+keeps-in-order : (known : Known) (row : Row) → KeepsInOrder known (records_kept row.calls) row.core → LeavesInOrder known row
+keeps-in-order known row k = record { folded = k.folded; room = k.room; numbered = k.numbered; terminals = λ pt terminal found no_cut. k.terminals pt terminal found }
+
+-- with fewer requests that wait as many slots are enough
+gone-room : (days before waits more : ℕ) (records keys slots : ℕ) → days ≡ before → waits ≤ more → records + (keys + (before + 2 * more)) ≤ slots → records + (keys + (days + 2 * waits)) ≤ slots
+gone-room days before waits more records keys slots same fewer room = omega arith
+
+pub rows-in-order : OrderLaws → (tills : List Connection) (known : Known) (item : RoundItem) → IsInOrder known → AreWaitsInOrder known → IsReadItem known.setup item → LeavesInOrder known (row_of tills known item)
+rows-in-order laws tills known (Crowded till) i w read = owing-in-order known (OwedCutTill till ∷ []) [] i refl
+rows-in-order laws tills known (Message till bytes) i w read = owing-in-order known [] [] i refl
+rows-in-order laws tills known (Asked till as_read) i w read =
     by-where (LeavesInOrder known) known (asked_row known till as_read) (is_connected tills till) (owing-in-order known [] [] i refl) (λ there. asked-in-order known till as_read i)
-rows-in-order laws tills known (Unframed till) i read =
+rows-in-order laws tills known (Unframed till) i w read =
     by-where (LeavesInOrder known) known (owing known (OwedCutTill till ∷ [])) (is_connected tills till) (owing-in-order known [] [] i refl) (λ there. owing-in-order known (OwedCutTill till ∷ []) [] i refl)
-rows-in-order laws tills known (Gone till) i read =
-    keeping-none known (row_of tills known (Gone till)) i refl (subst (λ days. length known.kept + (open_count_of known.kept + days) ≤ known.setup.slots) (sym (laws.gone known.core till)) i.room) i.numbered (λ pt terminal found no_cut. forgotten-in-order known.kept till known.core pt terminal found (i.terminals pt))
-rows-in-order laws tills known (Greet number apdu) i read = terminal-in-order laws known (Greet number apdu) number refl (rows-of tills known (Greet number apdu)) i read
-rows-in-order laws tills known (Handle number apdu) i read = terminal-in-order laws known (Handle number apdu) number refl (rows-of tills known (Handle number apdu)) i read
-rows-in-order laws tills known (Serve number till header request) i read = terminal-in-order laws known (Serve number till header request) number refl (rows-of tills known (Serve number till header request)) i read
-rows-in-order laws tills known (NextWaiting number) i read = terminal-in-order laws known (NextWaiting number) number refl (rows-of tills known (NextWaiting number)) i read
-rows-in-order laws tills known (Oversized number) i read = terminal-in-order laws known (Oversized number) number refl (rows-of tills known (Oversized number)) i read
-rows-in-order laws tills known (LinkLost number) i read = terminal-in-order laws known (LinkLost number) number refl (rows-of tills known (LinkLost number)) i read
-rows-in-order laws tills known (Late number) i read = terminal-in-order laws known (Late number) number refl (rows-of tills known (Late number)) i read
-rows-in-order laws tills known (Overdue key) i read = owing-in-order known [] [] i refl
-rows-in-order laws tills known (Due number) i read = terminal-in-order laws known (Due number) number refl (rows-of tills known (Due number)) i read
+rows-in-order laws tills known (Gone till) i w read =
+    keeping-none known (row_of tills known (Gone till)) i refl
+    (gone-room (days_served (core_without known.core till).terminals) (days_served known.core.terminals) (length (core_without known.core till).waits) (length known.core.waits) (length known.kept) (open_count_of known.kept) known.setup.slots (laws.gone known.core till).0 (laws.gone known.core till).1 i.room)
+    i.numbered (λ pt terminal found no_cut. forgotten-in-order known.kept till known.core pt terminal found (i.terminals pt))
+rows-in-order laws tills known (Greet number apdu) i w read = terminal-in-order laws known (Greet number apdu) number (λ next e. cc) refl (rows-of tills known (Greet number apdu)) i read
+rows-in-order laws tills known (Handle number apdu) i w read = terminal-in-order laws known (Handle number apdu) number (λ next e. cc) refl (rows-of tills known (Handle number apdu)) i read
+rows-in-order laws tills known (Serve number till header request) i w read = terminal-in-order laws known (Serve number till header request) number (λ next e. cc) refl (rows-of tills known (Serve number till header request)) i read
+rows-in-order laws tills known (Queue number till header request) i w read = keeps-in-order known (queue_row known number till header request) (laws.queues known number till header request i)
+rows-in-order laws tills known (NextWaiting number) i w read = keeps-in-order known (next_waiting_row known number) (laws.next known number i w)
+rows-in-order laws tills known (Oversized number) i w read = terminal-in-order laws known (Oversized number) number (λ next e. cc) refl (rows-of tills known (Oversized number)) i read
+rows-in-order laws tills known (LinkLost number) i w read = terminal-in-order laws known (LinkLost number) number (λ next e. cc) refl (rows-of tills known (LinkLost number)) i read
+rows-in-order laws tills known (Late number) i w read = terminal-in-order laws known (Late number) number (λ next e. cc) refl (rows-of tills known (Late number)) i read
+rows-in-order laws tills known (Overdue key) i w read = keeps-in-order known (overdue_row known key) (laws.overdue known key i)
+rows-in-order laws tills known (Due number) i w read = terminal-in-order laws known (Due number) number (λ next e. cc) refl (rows-of tills known (Due number)) i read

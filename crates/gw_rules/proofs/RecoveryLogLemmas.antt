@@ -20,9 +20,9 @@ use Rattle.gw_ledger.specs.History.{history}
 use Rattle.gw_owes.specs.Calls.{WriteBody, WriteGate}
 use Rattle.gw_owes.specs.ReadAs.{IsReadAs}
 use Rattle.gw_owes.specs.TerminalExample.{ack, completion}
-use Rattle.gw_owes.specs.declared.terminal.Standing.TheVariants.{Enquiring}
+use Rattle.gw_owes.specs.declared.terminal.Standing.TheVariants.{Enquiring, Ready}
 use Rattle.gw_owes.specs.declared.terminal.Terminal.{Terminal}
-use Rattle.gw_rules.specs.DialogueLaws.{EndsAlong, IsReport}
+use Rattle.gw_rules.specs.DialogueLaws.{EndsAlong, HasStanding, IsReport, view_along}
 use Rattle.gw_rules.specs.Lawful.{IsChunk, IsCourse, turns_of}
 use Rattle.gw_rules.specs.PaymentLogExample.{payment_request, logged_outcome, keep_moves, ready_none_log, ready_none_course, begun_log, begun_course}
 use Rattle.gw_rules.specs.RecoveryLogExample.{open_status_request, resolved_status_request, asked_status, open_status_reply, resolved_status_reply, intent_file, later_run_course, open_status_course, enquired_later_course, open_log, open_course, open_view, report_bytes, resolving_moves, OpenIsReported, resolved_status_course, RecoveryIsLawful}
@@ -31,7 +31,6 @@ use Rattle.gw_rules.specs.TerminalLogExample.{items_begin}
 use Rattle.gw_rules.specs.View.{View, Move, Begin, Make, view_from, at_first}
 use Rattle.gw_rules.proofs.CourseLemmas.{course-append}
 use Rattle.gw_rules.proofs.PaymentLogLemmas.{ready_none_view, ready-none-lawful, begun_view, begun-lawful, found}
-use Rattle.gw_rules.proofs.ReportLemmas.{report-makes-ready}
 use Rattle.gw_rules.proofs.RestLemmas.{lasts-tested}
 use Rattle.gw_rules.proofs.RowExampleLemmas.{formed}
 use Rattle.gw_rules.proofs.TestedLemmas.{course-tested}
@@ -216,6 +215,10 @@ open-ends = record {
   may_poll = record { running = refl; calls = refl; items = refl };
 }
 
+open-ready : HasStanding (view_along open_view 0 report_bytes resolving_moves).scene.core 0 (Ready 123)
+unfolding decode_apdus decode_apdus_within decode_pt_message decode_status decode_status_within decode_status_field decode_field_value history payment_request open_status_request
+open-ready = (found (slice_get (view_along open_view 0 report_bytes resolving_moves).scene.core.terminals 0), refl, refl)
+
 pub open-is-reported : OpenIsReported
 unfolding open-ends history payment_request open_status_request
 open-is-reported = record {
@@ -224,7 +227,7 @@ open-is-reported = record {
   chunk_is = refl;
   opened = refl;
   least = refl;
-  ready = report-makes-ready open_log open_view resolving_moves 0 open_terminal 123 open-ends (omega arith);
+  ready = open-ready;
 }
 
 -- ---- the till asks again

@@ -14,31 +14,35 @@ use Rattle.zvt_talk.specs.declared.meaning.Heard.{Heard}
 use Rattle.zvt_talk.specs.declared.meaning.Heard.TheVariants as heard
 use Rattle.jrn_record.specs.declared.records.Record.{Record}
 use Rattle.gw_ledger.specs.declared.entry.Entry.{Entry as TheEntry}
-use Rattle.gw_owes.specs.Core.{Core}
+use Rattle.gw_owes.specs.Core.{Core, Wait}
 use Rattle.gw_owes.specs.Handling.{meaning_at, taking, enquiring, consequence, handle_row}
-use Rattle.gw_owes.specs.Items.{RoundItem, Crowded, Message, Asked, Unframed, Gone, Greet, Handle, Serve, NextWaiting, Oversized, LinkLost, Late, Overdue, Due}
+use Rattle.gw_owes.specs.Items.{RoundItem, Crowded, Message, Asked, Unframed, Gone, Greet, Handle, Serve, Queue, NextWaiting, Oversized, LinkLost, Late, Overdue, Due}
 use Rattle.gw_owes.specs.ReadAs.{ReadAs}
 use Rattle.gw_owes.specs.Reports.{Report, OnRecord, on_record, least_against, least_reported, standing_reported, outcome_reported, report_of_open, report_against, report_row}
-use Rattle.gw_owes.specs.Row.{Known, Row}
+use Rattle.gw_owes.specs.Row.{Known, Row, owing_nothing, owing_where}
 use Rattle.gw_owes.specs.Rows.{row_of}
 use Rattle.gw_owes.specs.Serving.{at_rest, staying, done_with, resolves}
+use Rattle.gw_owes.specs.Steps.{is_ready_standing}
 use Rattle.gw_owes.specs.TerminalLaws.{GoesOnTo, ReportsAt}
 use Rattle.gw_owes.specs.Terminals.{terminal_at, terminal_becomes}
+use Rattle.gw_owes.specs.WaitingRows.{next_waiting_row}
+use Rattle.gw_owes.specs.Waits.{first_waiting, queue_of}
 use Rattle.gw_owes.specs.declared.terminal.Standing.{Standing}
 use Rattle.gw_owes.specs.declared.terminal.Standing.TheVariants.{Enquiring, Ready, Aside}
 use Rattle.gw_owes.specs.declared.terminal.Terminal.{Terminal}
 use Rattle.gw_owes.proofs.HandlingLemmas.{each-handled, reported-leads}
 use Rattle.gw_owes.proofs.SetLemmas.{new-is-there, same-some}
+use Rattle.gw_owes.proofs.TerminalLemmas.{row-changes-alone}
 use Rattle.gw_rules.specs.Lawful.{MayPoll, Begins, IsRead, AllowedTurn, IsCourse, turns_of}
 use Rattle.gw_rules.specs.LinkLaws.{EndsLink, EndsNone}
-use Rattle.gw_rules.specs.DialogueLaws.{HasStanding, IsReport, view_along, ReportMakesReady}
+use Rattle.gw_rules.specs.DialogueLaws.{HasStanding, IsReport, LooksWhileReady, view_along, ReportMakesReady}
 use Rattle.gw_rules.specs.Scene.{known_in, row_in, row_at}
 use Rattle.gw_rules.specs.Stage.{Handling}
 use Rattle.gw_rules.specs.View.{View, Move, Begin, Read, Make, after, after_turn, view_from}
 use Rattle.gw_rules.proofs.CourseLemmas.{begin-stage}
 use Rattle.gw_rules.proofs.CutLemmas.{is_dead, dead-round, dead-running, dead-turn}
-use Rattle.gw_rules.proofs.KeptLemmas.{kept_in, without_asker, changes, at-kept, by-equal, BeginsFirst, begins-first}
-use Rattle.gw_rules.proofs.LinkStateLemmas.{On, state_of, is_serve, loses}
+use Rattle.gw_rules.proofs.KeptLemmas.{kept_in, without_asker, changes, at-kept, by-equal, other-number, BeginsFirst, begins-first}
+use Rattle.gw_rules.proofs.LinkStateLemmas.{On, state_of, may_begin_some, loses}
 use Rattle.gw_rules.proofs.LinkedLemmas.{Agrees, Settled, lose_none, begin-agrees, read-settled, turn-agrees, move-agrees, round-setup}
 use Rattle.gw_rules.proofs.PendingLemmas.{WillEnd, asks, ask_none, BeginsAlone, begins-alone, read-asks-none, GoesOnIn, Pending, Ended, begin-pending, turn-pending, read-pending, heard-pending, round-settled, turn-core, SameItems, turn-items, kept-linked}
 use Rattle.gw_rules.proofs.SetupLemmas.{HasSetup}
@@ -112,6 +116,7 @@ report-leaves-ready known pt apdu terminal report reports least =
 
 enquiring-goes-on : GoesOnIn Enquiring
 enquiring-goes-on = record {
+  unready = refl;
   linked = refl;
   on = λ terminal is. rw is refl;
   stays = λ known pt terminal meant goes. enquiring-stays known pt terminal meant goes;
@@ -151,15 +156,25 @@ ended-ready settings records pt moment reported w may e =
       ready = subst (λ c. StandingKept c pt (Ready reported)) (sym e.core_is) (stands-kept (handle_row e.known pt e.apdu).core pt (Ready reported) (report-leaves-ready e.known pt e.apdu e.own report reports least));
     }
 
--- and stays so with each item
-begin-ready : (pt moment reported : ℕ) (v : View) → IsReady pt moment reported v → Begins v → IsReady pt moment reported (after v Begin)
-begin-ready pt moment reported v r b = record {
-  agrees = move-agrees v Begin r.agrees b;
-  settled = (begin-agrees v r.agrees b).1;
-  stage = begin-stage v.scene v.items ∙ round-busy v.scene.stage b.idle.round;
-  none = ap ask_none alone.left ∙ alone.rest;
-  ready = by_item first.item core none alone.none;
-}
+-- the first request that waits for it is looked at while it is ready with the trace number
+record Looks (pt reported : ℕ) (v : View) : Type 0 where
+  rest : List RoundItem
+  items_are : v.items ≡ NextWaiting pt ∷ rest
+  ready : HasStanding v.scene.core pt (Ready reported)
+  wait : Wait
+  first_is : first_waiting (queue_of pt v.scene.core.waits) ≡ Some wait
+
+where-nothing : (test : Bool) (known : Known) → owing_where test known (owing_nothing known) ≡ owing_nothing known
+where-nothing true known = refl
+where-nothing false known = refl
+
+-- where nobody waits for it nothing is owed
+pub none-waiting : (known : Known) (number : ℕ) (terminal : Terminal) → terminal_at known number ≡ Some terminal → first_waiting (queue_of number known.core.waits) ≡ None → next_waiting_row known number ≡ owing_nothing known
+none-waiting known number terminal found none = rw (found, none) (where-nothing (is_ready_standing terminal.standing) known)
+
+-- and stays so with each item, or with this one the first that waits is looked at
+begin-ready : (pt moment reported : ℕ) (v : View) → IsReady pt moment reported v → Begins v → IsReady pt moment reported (after v Begin) ⊎ Looks pt reported v
+begin-ready pt moment reported v r b = by_next (by_item first.item first.items_are core none alone.none)
   where
     first : BeginsFirst v
     first = begins-first v r.agrees b
@@ -179,32 +194,64 @@ begin-ready pt moment reported v r b = record {
     core : (after v Begin).scene.core ≡ (row_at v.scene first.item).core
     core = ap (λ l. (after (record v { items = l }) Begin).scene.core) first.items_are
 
-    same : (item : RoundItem) → (after v Begin).scene.core ≡ (row_at v.scene item).core → is_serve item ≡ false → changes pt item ≡ false → StandingKept (after v Begin).scene.core pt (Ready reported)
-    same item core other unchanged = (r.ready.0, ap (λ c. kept_in c pt) core ∙ at-kept v.scene item pt other unchanged ∙ r.ready.1, r.ready.2)
+    same : (item : RoundItem) → (after v Begin).scene.core ≡ (row_at v.scene item).core → may_begin_some item ≡ false → changes pt item ≡ false → StandingKept (after v Begin).scene.core pt (Ready reported) ⊎ Looks pt reported v
+    same item core other unchanged = inl (r.ready.0, ap (λ c. kept_in c pt) core ∙ at-kept v.scene item pt other unchanged ∙ r.ready.1, r.ready.2)
 
-    handle : (apdu : ApduValue) → (after v Begin).scene.core ≡ (handle_row known pt apdu).core → StandingKept (after v Begin).scene.core pt (Ready reported)
+    found : (own : Terminal) × (slice_get v.scene.core.terminals pt ≡ Some own) × (without_asker own ≡ r.ready.0)
+    found = found-kept (slice_get v.scene.core.terminals pt) r.ready.0 r.ready.1
+
+    standing : found.0.standing ≡ Ready reported
+    standing = ap (λ (t : Terminal). t.standing) found.2 ∙ r.ready.2
+
+    handle : (apdu : ApduValue) → (after v Begin).scene.core ≡ (handle_row known pt apdu).core → StandingKept (after v Begin).scene.core pt (Ready reported) ⊎ Looks pt reported v
     handle apdu core =
-        let found = found-kept (slice_get v.scene.core.terminals pt) r.ready.0 r.ready.1 in
-        let standing : found.0.standing ≡ Ready reported = ap (λ (t : Terminal). t.standing) found.2 ∙ r.ready.2 in
-        subst (λ c. StandingKept c pt (Ready reported)) (sym core) (stands-kept (handle_row known pt apdu).core pt (Ready reported) (ready-stays known pt apdu reported (found.0, found.1, standing)))
+        inl (subst (λ c. StandingKept c pt (Ready reported)) (sym core) (stands-kept (handle_row known pt apdu).core pt (Ready reported) (ready-stays known pt apdu reported (found.0, found.1, standing))))
 
-    by_item : (item : RoundItem) → (after v Begin).scene.core ≡ (row_at v.scene item).core → loses item ≡ false → asks item ≡ false → StandingKept (after v Begin).scene.core pt (Ready reported)
-    by_item (Crowded till) core none apart = same (Crowded till) core refl refl
-    by_item (Message till bytes) core none apart = no-true (sym apart)
-    by_item (Asked till as_read) core none apart = no-true (sym apart)
-    by_item (Unframed till) core none apart = same (Unframed till) core refl refl
-    by_item (Gone till) core none apart = same (Gone till) core refl refl
-    by_item (Greet other apdu) core none apart = same (Greet other apdu) core refl refl
-    by_item (Handle other apdu) core none apart = by-equal pt other
+    row_of_next : (number : ℕ) → row_at v.scene (NextWaiting number) ≡ next_waiting_row known number
+    row_of_next number = ap (λ (o : Option Setup). row_in v.scene (λ known. row_of v.scene.outside.tills known (NextWaiting number)) o) run.setup_is
+
+    next : (other : ℕ) → v.items ≡ NextWaiting other ∷ first.rest → (after v Begin).scene.core ≡ (row_at v.scene (NextWaiting other)).core → StandingKept (after v Begin).scene.core pt (Ready reported) ⊎ Looks pt reported v
+    next other items core = by-equal pt other
+        (λ number. by_first (items ∙ ap (λ n. NextWaiting n ∷ first.rest) number) (core ∙ ap (λ n. (row_at v.scene (NextWaiting n)).core) number) (first_waiting (queue_of pt v.scene.core.waits)) refl)
+        (λ differs.
+        inl (r.ready.0, ap (λ c. kept_in c pt) (core ∙ ap (λ (row : Row). row.core) (row_of_next other)) ∙ ap (option_map without_asker) ((row-changes-alone known (NextWaiting other) other refl).others pt (other-number pt other differs)) ∙ r.ready.1, r.ready.2))
+      where
+        by_first : v.items ≡ NextWaiting pt ∷ first.rest → (after v Begin).scene.core ≡ (row_at v.scene (NextWaiting pt)).core → (waits : Option Wait) → first_waiting (queue_of pt v.scene.core.waits) ≡ waits
+            → StandingKept (after v Begin).scene.core pt (Ready reported) ⊎ Looks pt reported v
+        by_first items core None e = inl (r.ready.0, ap (λ c. kept_in c pt) (core ∙ ap (λ (row : Row). row.core) (row_of_next pt ∙ none-waiting known pt found.0 found.1 e)) ∙ r.ready.1, r.ready.2)
+        by_first items core (Some wait) e = inr (record { rest = first.rest; items_are = items; ready = (found.0, found.1, standing); wait = wait; first_is = e })
+
+    by_item : (item : RoundItem) → v.items ≡ item ∷ first.rest → (after v Begin).scene.core ≡ (row_at v.scene item).core → loses item ≡ false → asks item ≡ false → StandingKept (after v Begin).scene.core pt (Ready reported) ⊎ Looks pt reported v
+    by_item (Crowded till) items core none apart = same (Crowded till) core refl refl
+    by_item (Message till bytes) items core none apart = no-true (sym apart)
+    by_item (Asked till as_read) items core none apart = no-true (sym apart)
+    by_item (Unframed till) items core none apart = same (Unframed till) core refl refl
+    by_item (Gone till) items core none apart = same (Gone till) core refl refl
+    by_item (Greet other apdu) items core none apart = same (Greet other apdu) core refl refl
+    by_item (Handle other apdu) items core none apart = by-equal pt other
         (λ number. handle apdu (core ∙ ap (λ n. (row_at v.scene (Handle n apdu)).core) number ∙ ap (λ (o : Option Setup). (row_in v.scene (λ known. row_of v.scene.outside.tills known (Handle pt apdu)) o).core) run.setup_is))
         (λ differs. same (Handle other apdu) core refl differs)
-    by_item (Serve other till header request) core none apart = no-true (sym apart)
-    by_item (NextWaiting other) core none apart = same (NextWaiting other) core refl refl
-    by_item (Oversized other) core none apart = same (Oversized other) core refl refl
-    by_item (LinkLost other) core none apart = no-true (sym none)
-    by_item (Late other) core none apart = same (Late other) core refl refl
-    by_item (Overdue key) core none apart = same (Overdue key) core refl refl
-    by_item (Due other) core none apart = same (Due other) core refl refl
+    by_item (Serve other till header request) items core none apart = no-true (sym apart)
+    by_item (Queue other till header request) items core none apart = same (Queue other till header request) core refl refl
+    by_item (NextWaiting other) items core none apart = next other items core
+    by_item (Oversized other) items core none apart = same (Oversized other) core refl refl
+    by_item (LinkLost other) items core none apart = no-true (sym none)
+    by_item (Late other) items core none apart = same (Late other) core refl refl
+    by_item (Overdue key) items core none apart = same (Overdue key) core refl refl
+    by_item (Due other) items core none apart = same (Due other) core refl refl
+
+    ready : StandingKept (after v Begin).scene.core pt (Ready reported) → IsReady pt moment reported (after v Begin)
+    ready stands = record {
+      agrees = move-agrees v Begin r.agrees b;
+      settled = (begin-agrees v r.agrees b).1;
+      stage = begin-stage v.scene v.items ∙ round-busy v.scene.stage b.idle.round;
+      none = alone.left;
+      ready = stands;
+    }
+
+    by_next : StandingKept (after v Begin).scene.core pt (Ready reported) ⊎ Looks pt reported v → IsReady pt moment reported (after v Begin) ⊎ Looks pt reported v
+    by_next (inl stands) = inl (ready stands)
+    by_next (inr looks) = inr looks
 
 -- and with each turn, unless its link ends
 turn-ready : (pt moment reported : ℕ) (v : View) (turn : Turn) → IsReady pt moment reported v → AllowedTurn v turn → is_sort_of_round (sort_of turn) ≡ true → (EndsLink pt turn → ⊥) → IsReady pt moment reported (after_turn v turn) ⊎ (is_dead (after_turn v turn).scene.stage ≡ true)
@@ -225,14 +272,18 @@ turn-ready pt moment reported v turn r ok e lasts = by_items (turn-items v turn 
 
 -- ---- along the course
 
-begin-over : (settings : Pt) (records : List Record) (pt moment reported : ℕ) (v : View) → MayReport settings records reported → OrOver settings records pt moment reported v → Begins v → OrOver settings records pt moment reported (after v Begin)
+begin-over : (settings : Pt) (records : List Record) (pt moment reported : ℕ) (v : View) → MayReport settings records reported → OrOver settings records pt moment reported v → Begins v → OrOver settings records pt moment reported (after v Begin) ⊎ Looks pt reported v
 begin-over settings records pt moment reported v may (inr dead) b = dead-round v.scene.stage dead b.idle.round
-begin-over settings records pt moment reported v may (inl (inl r)) b = inl (inl (begin-ready pt moment reported v r b))
+begin-over settings records pt moment reported v may (inl (inl r)) b = by_next (begin-ready pt moment reported v r b)
+  where
+    by_next : IsReady pt moment reported (after v Begin) ⊎ Looks pt reported v → OrOver settings records pt moment reported (after v Begin) ⊎ Looks pt reported v
+    by_next (inl ready) = inl (inl (inl ready))
+    by_next (inr looks) = inr looks
 begin-over settings records pt moment reported v may (inl (inr p)) b = by_end (begin-pending (IsReport reported) Enquiring settings records pt moment v enquiring-goes-on p b)
   where
-    by_end : Pending (IsReport reported) Enquiring settings records pt moment (after v Begin) ⊎ Ended (IsReport reported) Enquiring settings records pt moment (after v Begin) → OrOver settings records pt moment reported (after v Begin)
-    by_end (inl pending) = inl (inr pending)
-    by_end (inr ended) = inl (inl (ended-ready settings records pt moment reported (after v Begin) may ended))
+    by_end : Pending (IsReport reported) Enquiring settings records pt moment (after v Begin) ⊎ Ended (IsReport reported) Enquiring settings records pt moment (after v Begin) → OrOver settings records pt moment reported (after v Begin) ⊎ Looks pt reported v
+    by_end (inl pending) = inl (inl (inr pending))
+    by_end (inr ended) = inl (inl (inl (ended-ready settings records pt moment reported (after v Begin) may ended)))
 
 read-over : (settings : Pt) (records : List Record) (pt moment reported : ℕ) (v : View) (as_read : ReadAs) → OrOver settings records pt moment reported v → IsRead v as_read → OrOver settings records pt moment reported (after v (Read as_read))
 read-over settings records pt moment reported v as_read (inr dead) r = dead-round v.scene.stage dead r.idle.round
@@ -258,11 +309,46 @@ turn-over settings records pt moment reported v turn (inl (inr p)) ok e lasts = 
     by_next (inl pending) = inl (inr pending)
     by_next (inr dead) = inr dead
 
-moves-over : (settings : Pt) (records : List Record) (pt moment reported : ℕ) (v : View) (moves : List Move) → MayReport settings records reported → OrOver settings records pt moment reported v → IsCourse v moves → AreOfRound (turns_of moves) → EndsNone pt (turns_of moves) → OrOver settings records pt moment reported (view_from v moves)
-moves-over settings records pt moment reported v [] may h c a lasts = h
-moves-over settings records pt moment reported v (Begin ∷ moves) may h c a lasts = moves-over settings records pt moment reported (after v Begin) moves may (begin-over settings records pt moment reported v may h c.0) c.1 a lasts
-moves-over settings records pt moment reported v (Read as_read ∷ moves) may h c a lasts = moves-over settings records pt moment reported (after v (Read as_read)) moves may (read-over settings records pt moment reported v as_read h c.0) c.1 a lasts
-moves-over settings records pt moment reported v (Make turn ∷ moves) may h c a lasts = moves-over settings records pt moment reported (after_turn v turn) moves may (turn-over settings records pt moment reported v turn h c.0 a.0 lasts.0) c.1 a.1 lasts.1
+-- it is looked at in these moves after this one
+later-looks : (pt reported : ℕ) (v : View) (move : Move) (moves : List Move) → LooksWhileReady (after v move) moves pt reported → LooksWhileReady v (move ∷ moves) pt reported
+later-looks pt reported v move moves l = record {
+  earlier = move ∷ l.earlier;
+  later = l.later;
+  moves_are = ap (λ m. move ∷ m) l.moves_are;
+  rest = l.rest;
+  items_are = l.items_are;
+  ready = l.ready;
+  wait = l.wait;
+  first_is = l.first_is;
+}
+
+moves-over : (settings : Pt) (records : List Record) (pt moment reported : ℕ) (v : View) (moves : List Move) → MayReport settings records reported → OrOver settings records pt moment reported v → IsCourse v moves → AreOfRound (turns_of moves) → EndsNone pt (turns_of moves)
+    → OrOver settings records pt moment reported (view_from v moves) ⊎ LooksWhileReady v moves pt reported
+moves-over settings records pt moment reported v [] may h c a lasts = inl h
+moves-over settings records pt moment reported v (Begin ∷ moves) may h c a lasts = by_next (λ over. moves-over settings records pt moment reported (after v Begin) moves may over c.1 a lasts) (begin-over settings records pt moment reported v may h c.0)
+  where
+    onward : OrOver settings records pt moment reported (view_from (after v Begin) moves) ⊎ LooksWhileReady (after v Begin) moves pt reported → OrOver settings records pt moment reported (view_from (after v Begin) moves) ⊎ LooksWhileReady v (Begin ∷ moves) pt reported
+    onward (inl over) = inl over
+    onward (inr looks) = inr (later-looks pt reported v Begin moves looks)
+
+    by_next : (OrOver settings records pt moment reported (after v Begin) → OrOver settings records pt moment reported (view_from (after v Begin) moves) ⊎ LooksWhileReady (after v Begin) moves pt reported)
+        → OrOver settings records pt moment reported (after v Begin) ⊎ Looks pt reported v → OrOver settings records pt moment reported (view_from (after v Begin) moves) ⊎ LooksWhileReady v (Begin ∷ moves) pt reported
+    by_next more (inl over) = onward (more over)
+    by_next more (inr looks) = inr (record { earlier = []; later = moves; moves_are = refl; rest = looks.rest; items_are = looks.items_are; ready = looks.ready; wait = looks.wait; first_is = looks.first_is })
+moves-over settings records pt moment reported v (Read as_read ∷ moves) may h c a lasts =
+    onward (moves-over settings records pt moment reported (after v (Read as_read)) moves may (read-over settings records pt moment reported v as_read h c.0) c.1 a lasts)
+  where
+    onward : OrOver settings records pt moment reported (view_from (after v (Read as_read)) moves) ⊎ LooksWhileReady (after v (Read as_read)) moves pt reported
+        → OrOver settings records pt moment reported (view_from (after v (Read as_read)) moves) ⊎ LooksWhileReady v (Read as_read ∷ moves) pt reported
+    onward (inl over) = inl over
+    onward (inr looks) = inr (later-looks pt reported v (Read as_read) moves looks)
+moves-over settings records pt moment reported v (Make turn ∷ moves) may h c a lasts =
+    onward (moves-over settings records pt moment reported (after_turn v turn) moves may (turn-over settings records pt moment reported v turn h c.0 a.0 lasts.0) c.1 a.1 lasts.1)
+  where
+    onward : OrOver settings records pt moment reported (view_from (after_turn v turn) moves) ⊎ LooksWhileReady (after_turn v turn) moves pt reported
+        → OrOver settings records pt moment reported (view_from (after_turn v turn) moves) ⊎ LooksWhileReady v (Make turn ∷ moves) pt reported
+    onward (inl over) = inl over
+    onward (inr looks) = inr (later-looks pt reported v (Make turn) moves looks)
 
 -- once the next poll may come it is ready
 over-ready : (settings : Pt) (records : List Record) (pt moment reported : ℕ) (v : View) → OrOver settings records pt moment reported v → MayPoll v → HasStanding v.scene.core pt (Ready reported)
@@ -276,4 +362,9 @@ pub report-makes-ready : ReportMakesReady
 report-makes-ready log v moves pt terminal reported e least =
     let p = heard-pending (IsReport reported) Enquiring log v moves pt terminal e in
     let moment : ℕ = v.scene.outside.moment in
-    over-ready terminal.pt v.scene.kept pt moment reported (view_along v pt e.chunk moves) (moves-over terminal.pt v.scene.kept pt moment reported (after_turn v (HeardPt pt e.chunk)) moves least (inl (inr p)) e.lawful.1 e.round e.lasts) e.may_poll
+    by_end (moves-over terminal.pt v.scene.kept pt moment reported (after_turn v (HeardPt pt e.chunk)) moves least (inl (inr p)) e.lawful.1 e.round e.lasts)
+  where
+    by_end : OrOver terminal.pt v.scene.kept pt v.scene.outside.moment reported (view_along v pt e.chunk moves) ⊎ LooksWhileReady (after_turn v (HeardPt pt e.chunk)) moves pt reported
+        → HasStanding (view_along v pt e.chunk moves).scene.core pt (Ready reported) ⊎ LooksWhileReady (after_turn v (HeardPt pt e.chunk)) moves pt reported
+    by_end (inl over) = inl (over-ready terminal.pt v.scene.kept pt v.scene.outside.moment reported (view_along v pt e.chunk moves) over e.may_poll)
+    by_end (inr looks) = inr looks

@@ -8,7 +8,7 @@ use Rattle.gw_site.specs.declared.turn.Turn.{Turn}
 use Rattle.gw_site.specs.declared.turn.Turn.TheVariants.{Start, OpenFailed, Polled, Opened, HeardTill, Closed, HeardPt, Lost, Stopped, Linked, LinkFailed, SentTill, SentPt, CutTill, CutPt, Wrote, Synced, DiskFailed, Crash}
 use Rattle.gw_owes.specs.Calls.{OwedCall}
 use Rattle.gw_owes.specs.Events.{till_opened_items, till_bytes_items, pt_bytes_items, items_due}
-use Rattle.gw_owes.specs.Items.{RoundItem, Crowded, Message, Asked, Unframed, Gone, Greet, Handle, Serve, NextWaiting, Oversized, LinkLost, Late, Overdue, Due}
+use Rattle.gw_owes.specs.Items.{RoundItem, Crowded, Message, Asked, Unframed, Gone, Greet, Handle, Serve, Queue, NextWaiting, Oversized, LinkLost, Late, Overdue, Due}
 use Rattle.gw_owes.specs.Laws.{ends_in_one}
 use Rattle.gw_owes.specs.ReadAs.{ReadAs}
 use Rattle.gw_rules.specs.Lawful.{first_call, first_message, Begins, IsRead, AllowedTurn, IsCourse, turns_of}
@@ -264,6 +264,7 @@ read-such d as_read (Gone other ∷ items) bytes is m h = h
 read-such d as_read (Greet pt apdu ∷ items) bytes is m h = h
 read-such d as_read (Handle pt apdu ∷ items) bytes is m h = h
 read-such d as_read (Serve pt till header request ∷ items) bytes is m h = h
+read-such d as_read (Queue pt till header request ∷ items) bytes is m h = h
 read-such d as_read (NextWaiting pt ∷ items) bytes is m h = h
 read-such d as_read (Oversized pt ∷ items) bytes is m h = h
 read-such d as_read (LinkLost pt ∷ items) bytes is m h = h

@@ -21,20 +21,22 @@ use Rattle.gw_owes.specs.DeviceRequests.{requests_device}
 use Rattle.gw_owes.specs.Diagnosis.{NamedTerminal, named_terminal}
 use Rattle.gw_owes.specs.Displays.{display_result, serving_display}
 use Rattle.gw_owes.specs.Handling.{taking, meaning_at, enquires, registering, enquiring, serving, consequence, handle_row}
-use Rattle.gw_owes.specs.Items.{RoundItem, Serve}
+use Rattle.gw_owes.specs.Core.{Wait}
+use Rattle.gw_owes.specs.Items.{RoundItem, Serve, Queue}
 use Rattle.gw_owes.specs.Links.{is_linked}
 use Rattle.gw_owes.specs.ReadAs.{ReadAs, Request, Silent, NoMessage, NoJson}
 use Rattle.gw_owes.specs.Reconciliations.{settle_calls, serving_day}
 use Rattle.gw_owes.specs.Reply.{ReplyValue}
 use Rattle.gw_owes.specs.Reports.{Report, on_record, standing_reported, outcome_reported, report_of_open, report_against}
-use Rattle.gw_owes.specs.Requests.{begun_at, begun_by}
+use Rattle.gw_owes.specs.Requests.{abort_items, begun_at, begun_by}
 use Rattle.gw_owes.specs.Row.{Known, Row, owing_nothing}
 use Rattle.gw_owes.specs.Serving.{at_rest, done_with, staying, breaking, stops, resolves, approved_outcome, approved_row, serving_transaction}
 use Rattle.gw_owes.specs.SessionRows.{session_result}
-use Rattle.gw_owes.specs.Steps.{StepResult, KeptReply, Fails, Begins, step_result, item_of_result, items_of_result}
+use Rattle.gw_owes.specs.Steps.{StepResult, KeptReply, Fails, Begins, Waits, step_result, item_of_result, items_of_result}
 use Rattle.gw_owes.specs.Stops.{serves_key, stop_items_at}
 use Rattle.gw_owes.specs.Terminals.{terminal_at, terminal_becomes, reply_calls_to}
 use Rattle.gw_owes.specs.Transcript.{Carried, Wished, wished_of, wished_for}
+use Rattle.gw_owes.specs.Waits.{waiting_with}
 use Rattle.gw_owes.specs.declared.terminal.Service.{Service}
 use Rattle.gw_owes.specs.declared.terminal.Service.TheVariants.{Transaction, EndOfDay, Display}
 use Rattle.gw_owes.specs.declared.terminal.Standing.{Standing}
@@ -182,16 +184,18 @@ form-handled P known number apdu none each =
 
 -- ---- what a till's message begins
 
--- what holds of no item, and of the one with which the request is begun at a terminal, or stops what that serves, holds of what a message begins
+-- what holds of no item, of the one with which the request is begun at a terminal, or stops what that serves, and of the one with which it joins those that wait, or takes one of them out, holds of what a message begins
 module _ (P : List RoundItem → Type 0) (known : Known) (till : ℕ) (none : P []) where
-  form-result : (header : Header) (request : SaleRequest) (number : ℕ) (given : StepResult) → P (Serve number till header request ∷ []) → P (item_of_result till header request number given)
-  form-result header request number KeptReply some = none
-  form-result header request number (Fails condition) some = none
-  form-result header request number Begins some = some
+  form-result : (header : Header) (request : SaleRequest) (number : ℕ) (given : StepResult) → P (Serve number till header request ∷ []) → P (Queue number till header request ∷ []) → P (item_of_result till header request number given)
+  form-result header request number KeptReply serves queues = none
+  form-result header request number (Fails condition) serves queues = none
+  form-result header request number Begins serves queues = serves
+  form-result header request number Waits serves queues = queues
 
-  form-results : (header : Header) (request : SaleRequest) (named : Option NamedTerminal) (given : StepResult) → ((number : ℕ) → P (Serve number till header request ∷ [])) → P (items_of_result till header request named given)
-  form-results header request None given some = none
-  form-results header request (Some named) given some = form-result header request named.number given (some named.number)
+  form-results : (header : Header) (request : SaleRequest) (named : Option NamedTerminal) (given : StepResult) → ((number : ℕ) → P (Serve number till header request ∷ [])) → ((number : ℕ) → P (Queue number till header request ∷ []))
+      → P (items_of_result till header request named given)
+  form-results header request None given serves queues = none
+  form-results header request (Some named) given serves queues = form-result header request named.number given (serves named.number) (queues named.number)
 
   form-stop-where : (test : Bool) (item : RoundItem) → P (item ∷ []) → P (if test then item ∷ [] else [])
   form-stop-where true item some = some
@@ -202,23 +206,29 @@ module _ (P : List RoundItem → Type 0) (known : Known) (till : ℕ) (none : P 
   form-stop header reference (Some named) some =
       form-stop-where (serves_key known.kept (key_of header reference) named.terminal) (Serve named.number till header (requests.Abort reference)) (some named.number)
 
-  form-begun-at : (named : Option NamedTerminal) (header : Header) (request : SaleRequest) → ((number : ℕ) → P (Serve number till header request ∷ [])) → P (begun_at named known till header request)
-  form-begun-at named header requests.Login some = form-results header requests.Login named (session_result known header requests.Login named) some
-  form-begun-at named header requests.Logout some = form-results header requests.Logout named (session_result known header requests.Logout named) some
-  form-begun-at named header (requests.Payment ask) some = form-results header (requests.Payment ask) named (step_result known header (requests.Payment ask) named) some
-  form-begun-at named header (requests.Reversal ask) some = form-results header (requests.Reversal ask) named (step_result known header (requests.Reversal ask) named) some
-  form-begun-at named header (requests.Abort reference) some = form-stop header reference (named_terminal known.core (key_of header reference).poi) some
-  form-begun-at named header (requests.Status reference) some = none
-  form-begun-at named header (requests.Reconciliation period) some = form-results header (requests.Reconciliation period) named (step_result known header (requests.Reconciliation period) named) some
-  form-begun-at named header (requests.Display outputs) some = form-results header (requests.Display outputs) named (display_result outputs named) some
-  form-begun-at named header (requests.Print qualifier) some = none
-  form-begun-at named header requests.Diagnosis some = none
+  form-abort : (header : Header) (reference : Reference) (waits : Option Wait) → ((number : ℕ) → P (Serve number till header (requests.Abort reference) ∷ [])) → ((number : ℕ) → P (Queue number till header (requests.Abort reference) ∷ []))
+      → P (abort_items known till header reference waits)
+  form-abort header reference None serves queues = form-stop header reference (named_terminal known.core (key_of header reference).poi) serves
+  form-abort header reference (Some wait) serves queues = queues wait.pt
 
-  pub form-begun : (as_read : ReadAs) → ((number : ℕ) (header : Header) (request : SaleRequest) → as_read ≡ Request header request → P (Serve number till header request ∷ [])) → P (begun_by known till as_read)
-  form-begun (Request header request) some = form-begun-at (named_terminal known.core header.poi) header request (λ number. some number header request refl)
-  form-begun Silent some = none
-  form-begun (NoMessage fault) some = none
-  form-begun (NoJson fault) some = none
+  form-begun-at : (named : Option NamedTerminal) (header : Header) (request : SaleRequest) → ((number : ℕ) → P (Serve number till header request ∷ [])) → ((number : ℕ) → P (Queue number till header request ∷ [])) → P (begun_at named known till header request)
+  form-begun-at named header requests.Login serves queues = form-results header requests.Login named (session_result known header requests.Login named) serves queues
+  form-begun-at named header requests.Logout serves queues = form-results header requests.Logout named (session_result known header requests.Logout named) serves queues
+  form-begun-at named header (requests.Payment ask) serves queues = form-results header (requests.Payment ask) named (step_result known header (requests.Payment ask) named) serves queues
+  form-begun-at named header (requests.Reversal ask) serves queues = form-results header (requests.Reversal ask) named (step_result known header (requests.Reversal ask) named) serves queues
+  form-begun-at named header (requests.Abort reference) serves queues = form-abort header reference (waiting_with (key_of header reference) known.core.waits) serves queues
+  form-begun-at named header (requests.Status reference) serves queues = none
+  form-begun-at named header (requests.Reconciliation period) serves queues = form-results header (requests.Reconciliation period) named (step_result known header (requests.Reconciliation period) named) serves queues
+  form-begun-at named header (requests.Display outputs) serves queues = form-results header (requests.Display outputs) named (display_result outputs named) serves queues
+  form-begun-at named header (requests.Print qualifier) serves queues = none
+  form-begun-at named header requests.Diagnosis serves queues = none
+
+  pub form-begun : (as_read : ReadAs) → ((number : ℕ) (header : Header) (request : SaleRequest) → as_read ≡ Request header request → P (Serve number till header request ∷ []))
+      → ((number : ℕ) (header : Header) (request : SaleRequest) → as_read ≡ Request header request → P (Queue number till header request ∷ [])) → P (begun_by known till as_read)
+  form-begun (Request header request) serves queues = form-begun-at (named_terminal known.core header.poi) header request (λ number. serves number header request refl) (λ number. queues number header request refl)
+  form-begun Silent serves queues = none
+  form-begun (NoMessage fault) serves queues = none
+  form-begun (NoJson fault) serves queues = none
 
 -- ---- what a request wishes
 

@@ -15,7 +15,7 @@ use Rattle.zvt_msg.specs.MessageDecode.{decode_pt_message}
 use Rattle.zvt_msg.specs.declared.fault.PtFault.{PtFault}
 use Rattle.zvt_talk.specs.Came.{is_taken}
 use Rattle.gw_owes.specs.Calls.{Sending, Ask, Acknowledge, Refuse, OwedCall, SendTill, LinkPt, WriteBody, WriteGate, WriteFirstGate, Sync, SendPt as OwedSendPt, CutTill as OwedCutTill, CutPt as OwedCutPt}
-use Rattle.gw_owes.specs.Items.{RoundItem, Crowded, Message, Asked, Unframed, Gone, Greet, Handle, Serve, NextWaiting, Oversized, LinkLost, Late, Overdue, Due}
+use Rattle.gw_owes.specs.Items.{RoundItem, Crowded, Message, Asked, Unframed, Gone, Greet, Handle, Serve, Queue, NextWaiting, Oversized, LinkLost, Late, Overdue, Due}
 use Rattle.gw_owes.specs.Links.{is_linked}
 use Rattle.gw_owes.specs.ReadAs.{Request}
 use Rattle.gw_owes.specs.Reports.{on_record, least_reported}
@@ -105,6 +105,7 @@ took-said log pt known (Greet number apdu) transcript now own brought h = h
 took-said log pt known (Handle number apdu) transcript now own brought h =
     handled-said log pt known apdu (terminal_at known number) transcript now (subst (λ n. HasSaidApdu log n apdu) (eqb-true number pt own) brought) h
 took-said log pt known (Serve number till header request) transcript now own brought h = wished-said log pt known number till header request transcript brought h
+took-said log pt known (Queue number till header request) transcript now own brought h = h
 took-said log pt known (NextWaiting number) transcript now own brought h = h
 took-said log pt known (Oversized number) transcript now own brought h = h
 took-said log pt known (LinkLost number) transcript now own brought h = h

@@ -10,7 +10,7 @@ use Rattle.zvt_msg.specs.MessageDecode.{decode_pt_message}
 use Rattle.zvt_msg.specs.declared.fault.PtFault.{PtFault}
 use Rattle.zvt_talk.specs.Came.{is_taken}
 use Rattle.gw_owes.specs.Calls.{Sending, Ask, Acknowledge, Refuse, sending_bytes, OwedCall, LinkPt, SendPt as OwedSendPt}
-use Rattle.gw_owes.specs.Items.{RoundItem, Crowded, Message, Asked, Unframed, Gone, Greet, Handle, Serve, NextWaiting, Oversized, LinkLost, Late, Overdue, Due}
+use Rattle.gw_owes.specs.Items.{RoundItem, Crowded, Message, Asked, Unframed, Gone, Greet, Handle, Serve, Queue, NextWaiting, Oversized, LinkLost, Late, Overdue, Due}
 use Rattle.gw_owes.specs.Links.{is_linked}
 use Rattle.gw_owes.specs.Reports.{on_record, least_reported}
 use Rattle.gw_owes.specs.Row.{Known}
@@ -55,6 +55,7 @@ took-none known (Handle number apdu) transcript = by_terminal (terminal_at known
     by_terminal None decoded = refl
     by_terminal (Some terminal) decoded = by_linked (least_reported (on_record known.kept terminal.pt.poi)) (is_linked terminal.standing) decoded
 took-none known (Serve number till header request) transcript = form-wished (λ l. spelled_commands (l ++ transcript) ≡ spelled_commands transcript) known number header request refl refl
+took-none known (Queue number till header request) transcript = refl
 took-none known (NextWaiting number) transcript = refl
 took-none known (Oversized number) transcript = refl
 took-none known (LinkLost number) transcript = refl
@@ -84,6 +85,7 @@ item-sent known pt item transcript lasts = by_own (is_number pt (terminal_of ite
     by_item (Greet number apdu) lasts e = refl
     by_item (Handle number apdu) lasts e = refl
     by_item (Serve number till header request) lasts e = refl
+    by_item (Queue number till header request) lasts e = refl
     by_item (NextWaiting number) lasts e = refl
     by_item (Oversized number) lasts e = refl
     by_item (LinkLost number) lasts e = absurd (lasts (ap LinkLost (eqb-true number pt e)))

@@ -12,7 +12,7 @@ use Rattle.zvt_talk.specs.Talk.{TalkFacts}
 use Rattle.gw_owes.specs.Calls.{CutPt as OwedCutPt}
 use Rattle.gw_owes.specs.Core.{Core, Wait}
 use Rattle.gw_owes.specs.Events.{for_each_terminal, waits_by_deadline, items_due}
-use Rattle.gw_owes.specs.Items.{RoundItem, Crowded, Message, Asked, Unframed, Gone, Greet, Handle, Serve, NextWaiting, Oversized, LinkLost, Late, Overdue, Due}
+use Rattle.gw_owes.specs.Items.{RoundItem, Crowded, Message, Asked, Unframed, Gone, Greet, Handle, Serve, Queue, NextWaiting, Oversized, LinkLost, Late, Overdue, Due}
 use Rattle.gw_owes.specs.Links.{is_linked}
 use Rattle.gw_owes.specs.ReadAs.{ReadAs}
 use Rattle.gw_owes.specs.Row.{Known}
@@ -208,6 +208,7 @@ read-late pt as_read (Gone other ∷ items) h = h
 read-late pt as_read (Greet other apdu ∷ items) h = h
 read-late pt as_read (Handle other apdu ∷ items) h = h
 read-late pt as_read (Serve other till header request ∷ items) h = h
+read-late pt as_read (Queue other till header request ∷ items) h = h
 read-late pt as_read (NextWaiting other ∷ items) h = h
 read-late pt as_read (Oversized other ∷ items) h = h
 read-late pt as_read (LinkLost other ∷ items) h = h

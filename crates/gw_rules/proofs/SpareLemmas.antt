@@ -1,6 +1,7 @@
 -- What a row owes on the disk: nothing, or that one record is kept in the next slot.
 use Rattle.std.proofs.Common.{◌≡◌, ℕ, Bool, true, false, List, [], ◌∷◌, ◌++◌, length, refl, sym, inl, inr}
 use Rattle.std.specs.Prelude.{◌⊎◌, Option, Some, None, Result, Ok, Err}
+use Rattle.gw_base.specs.declared.key.Key.{Key}
 use Rattle.gw_base.specs.declared.setup.Setup.{Setup}
 use Rattle.gw_site.specs.Outside.{Connection, is_connected}
 use Rattle.zvt_msg.specs.declared.fault.PtFault.{PtFault}
@@ -15,7 +16,7 @@ use Rattle.xlate.specs.Ask.{ask}
 use Rattle.gw_owes.specs.Calls.{Ask, OwedCall, SendPt, LinkPt, CutTill, keep_calls}
 use Rattle.gw_owes.specs.Deadlines.{is_late, is_due, late_row, due_row}
 use Rattle.gw_owes.specs.Greeting.{greeting, sending_calls, greet_decoded}
-use Rattle.gw_owes.specs.Items.{RoundItem, Crowded, Message, Asked, Unframed, Gone, Greet, Handle, Serve, NextWaiting, Oversized, LinkLost, Late, Overdue, Due}
+use Rattle.gw_owes.specs.Items.{RoundItem, Crowded, Message, Asked, Unframed, Gone, Greet, Handle, Serve, Queue, NextWaiting, Oversized, LinkLost, Late, Overdue, Due}
 use Rattle.gw_owes.specs.Links.{cutting}
 use Rattle.gw_owes.specs.Payments.{serve_row}
 use Rattle.gw_owes.specs.Reconciliations.{settle_calls, reply_to_settled}
@@ -25,13 +26,15 @@ use Rattle.gw_owes.specs.Row.{Known, Row, owing, owing_where}
 use Rattle.gw_owes.specs.Rows.{asked_row, row_of}
 use Rattle.gw_owes.specs.Serving.{reply_to_outcome}
 use Rattle.gw_owes.specs.Terminals.{registers, link_made, reply_calls_to, reply_to_lost, unlinks, link_lost}
+use Rattle.gw_owes.specs.WaitingRows.{next_waiting_row, overdue_row, queue_row}
 use Rattle.gw_owes.specs.declared.terminal.Terminal.{Terminal}
 use Rattle.gw_owes.proofs.HandlingLemmas.{each-terminal, each-linked}
+use Rattle.gw_owes.proofs.NextLemmas.{each-next, each-overdue, each-queued}
 use Rattle.gw_owes.proofs.PaymentLemmas.{each-served}
 use Rattle.gw_rules.specs.JournalFiles.{spare_disk}
 use Rattle.gw_rules.specs.Scene.{Scene, known_in, row_in, link_made_at, link_lost_at}
 use Rattle.gw_rules.specs.View.{begin}
-use Rattle.gw_rules.proofs.LinkStateLemmas.{is_serve}
+use Rattle.gw_rules.proofs.LinkStateLemmas.{may_begin_some}
 use Rattle.gw_rules.proofs.RowFormLemmas.{EachForm, form-handled}
 use Rattle.gw_rules.proofs.StageLemmas.{no-true}
 
@@ -127,6 +130,24 @@ serve-keeps known number till header request = each-served (RowKeeps known) know
   displays = λ terminal last outputs command at. inl refl;
 })
 
+-- ---- what waits
+
+queue-spares : (known : Known) (number till : ℕ) (header : Header) (request : SaleRequest) → Spares (queue_row known number till header request)
+queue-spares known number till header request = each-queued Spares known number till header request (record { none = refl; joins = λ terminal key at. refl; taken = λ wait at. refl })
+
+overdue-spares : (known : Known) (key : Key) → Spares (overdue_row known key)
+overdue-spares known key = each-overdue Spares known key (record { none = refl; taken = λ wait is overdue. refl })
+
+next-keeps-one : (known : Known) (number : ℕ) → RowKeeps known (next_waiting_row known number)
+next-keeps-one known number = each-next (RowKeeps known) known number (record {
+  none = inl refl;
+  refused = λ terminal last wait condition first is. inl refl;
+  begins = λ terminal last wait asking at.
+      inr (record { the_record = Intent asking.intent; more = SendPt number (Ask (ask asking.intent asking.original terminal.pt)) ∷ []; calls_are = refl; spares = refl });
+  day = λ terminal last wait at. inl refl;
+  left = λ terminal last wait first. inl refl;
+})
+
 -- ---- what may be due
 
 late-spares : (known : Known) (number : ℕ) → Spares (late_row known number)
@@ -149,6 +170,7 @@ is_handle (Gone till) = false
 is_handle (Greet number apdu) = false
 is_handle (Handle number apdu) = true
 is_handle (Serve number till header request) = false
+is_handle (Queue number till header request) = false
 is_handle (NextWaiting number) = false
 is_handle (Oversized number) = false
 is_handle (LinkLost number) = false
@@ -156,7 +178,7 @@ is_handle (Late number) = false
 is_handle (Overdue key) = false
 is_handle (Due number) = false
 
-pub others-spare : (tills : List Connection) (known : Known) (item : RoundItem) → is_handle item ≡ false → is_serve item ≡ false → Spares (row_of tills known item)
+pub others-spare : (tills : List Connection) (known : Known) (item : RoundItem) → is_handle item ≡ false → may_begin_some item ≡ false → Spares (row_of tills known item)
 others-spare tills known (Crowded till) no_handle no_serve = refl
 others-spare tills known (Message till bytes) no_handle no_serve = refl
 others-spare tills known (Asked till as_read) no_handle no_serve = where-spares (is_connected tills till) known (asked_row known till as_read) (reply-spares (Some till) (reply_to known as_read))
@@ -165,11 +187,12 @@ others-spare tills known (Gone till) no_handle no_serve = refl
 others-spare tills known (Greet number apdu) no_handle no_serve = greet-spares known number (decode_pt_message apdu)
 others-spare tills known (Handle number apdu) no_handle no_serve = no-true (sym no_handle)
 others-spare tills known (Serve number till header request) no_handle no_serve = no-true (sym no_serve)
-others-spare tills known (NextWaiting number) no_handle no_serve = refl
+others-spare tills known (Queue number till header request) no_handle no_serve = queue-spares known number till header request
+others-spare tills known (NextWaiting number) no_handle no_serve = no-true (sym no_serve)
 others-spare tills known (Oversized number) no_handle no_serve = each-linked Spares known number (λ terminal. cutting known number) refl (λ terminal found linked. cutting-spares known number)
 others-spare tills known (LinkLost number) no_handle no_serve = lost-spares known number
 others-spare tills known (Late number) no_handle no_serve = late-spares known number
-others-spare tills known (Overdue key) no_handle no_serve = refl
+others-spare tills known (Overdue key) no_handle no_serve = overdue-spares known key
 others-spare tills known (Due number) no_handle no_serve = due-spares known number
 
 rows-keep-one : (tills : List Connection) (known : Known) (item : RoundItem) → RowKeeps known (row_of tills known item)
@@ -181,7 +204,8 @@ rows-keep-one tills known (Gone till) = inl (others-spare tills known (Gone till
 rows-keep-one tills known (Greet number apdu) = inl (others-spare tills known (Greet number apdu) refl refl)
 rows-keep-one tills known (Handle number apdu) = form-handled (RowKeeps known) known number apdu (inl refl) (λ terminal message found linked is taken. forms-keep known number _)
 rows-keep-one tills known (Serve number till header request) = serve-keeps known number till header request
-rows-keep-one tills known (NextWaiting number) = inl (others-spare tills known (NextWaiting number) refl refl)
+rows-keep-one tills known (Queue number till header request) = inl (others-spare tills known (Queue number till header request) refl refl)
+rows-keep-one tills known (NextWaiting number) = next-keeps-one known number
 rows-keep-one tills known (Oversized number) = inl (others-spare tills known (Oversized number) refl refl)
 rows-keep-one tills known (LinkLost number) = inl (others-spare tills known (LinkLost number) refl refl)
 rows-keep-one tills known (Late number) = inl (others-spare tills known (Late number) refl refl)

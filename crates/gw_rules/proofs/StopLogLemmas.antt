@@ -3,6 +3,7 @@ use Rattle.std.proofs.Common.{◌≡◌, ℕ, List, [], ◌∷◌, ◌++◌, ref
 use Rattle.std.proofs.lemmas.Bool.{and_parts, eq-eqb}
 use Rattle.std.specs.Prelude.{pos, Bool, ◌&&◌, ◌||◌, ◌==◌, ◌⊎◌, not, if◌then◌else◌, option_and_then, Option, Some, None, Result, Ok, Err}
 use Rattle.std.specs.List.{list_any}
+use Rattle.gw_base.specs.declared.key.Key.{Key}
 use Rattle.gw_base.specs.declared.setup.Pt.{Pt}
 use Rattle.gw_base.specs.declared.setup.Setup.{Setup}
 use Rattle.gw_site.specs.Outside.{Connection, is_connected}
@@ -34,7 +35,7 @@ use Rattle.jrn_record.specs.declared.records.How.TheVariants as hows
 use Rattle.gw_owes.specs.AbortLaws.{is_stop_asked, owes_stop, stop_calls}
 use Rattle.gw_owes.specs.Calls.{Sending, Ask, Acknowledge, Refuse, OwedCall, SendTill, LinkPt, WriteBody, WriteGate, WriteFirstGate, Sync, SendPt as OwedSendPt, CutTill as OwedCutTill, CutPt as OwedCutPt, sending_bytes}
 use Rattle.gw_owes.specs.Handling.{taken_as, meaning_for, meaning_at, taking, consequence, handle_row}
-use Rattle.gw_owes.specs.Items.{RoundItem, Crowded, Message, Asked, Unframed, Gone, Greet, Handle, Serve, NextWaiting, Oversized, LinkLost, Late, Overdue, Due}
+use Rattle.gw_owes.specs.Items.{RoundItem, Crowded, Message, Asked, Unframed, Gone, Greet, Handle, Serve, Queue, NextWaiting, Oversized, LinkLost, Late, Overdue, Due}
 use Rattle.gw_owes.specs.Links.{is_linked, cutting}
 use Rattle.gw_owes.specs.Payments.{serve_row}
 use Rattle.gw_owes.specs.Reconciliations.{reply_to_settled, settled_of}
@@ -47,11 +48,13 @@ use Rattle.gw_owes.specs.Stops.{serves_key}
 use Rattle.gw_owes.specs.TerminalRows.{terminal_of, is_link_lost}
 use Rattle.gw_owes.specs.Terminals.{terminal_at, registers, link_made, link_lost}
 use Rattle.gw_owes.specs.Transcript.{Carried, Commanded, Took, Wished, awaited_by, dialogue_by, came_by, talk_going_on, talk_by, EachRowFollowsTranscript, FollowsTranscript, commanded, took_decoded, took_of, took_by, is_number}
+use Rattle.gw_owes.specs.WaitingRows.{next_waiting_row, overdue_row, queue_row}
 use Rattle.gw_owes.specs.declared.terminal.Service.TheVariants.{Transaction, EndOfDay, Display}
 use Rattle.gw_owes.specs.declared.terminal.Standing.{Standing}
 use Rattle.gw_owes.specs.declared.terminal.Standing.TheVariants.{Unlinked, Registering, Enquiring, Ready, Serving, Aside}
 use Rattle.gw_owes.specs.declared.terminal.Terminal.{Terminal}
 use Rattle.gw_owes.proofs.HandlingLemmas.{by-where, each-terminal, each-linked, each-handled}
+use Rattle.gw_owes.proofs.NextLemmas.{each-next, each-overdue, each-queued, known_without}
 use Rattle.gw_owes.proofs.PaymentLemmas.{each-served}
 use Rattle.gw_owes.proofs.SetLemmas.{same-some}
 use Rattle.gw_owes.proofs.StopLemmas.{never, reply-no-stop, greet-no-stop, lost-no-stop, late-no-stop, due-no-stop, registering-no-stop, enquiring-no-stop, transaction-stop, day-stop, display-no-stop, begun-no-stop, shown-no-stop, meets-wish, handed-ack, NoStop}
@@ -427,6 +430,21 @@ serve-sends known number till header request e = record {
         let sendable = sendable-phase dialogue_kind (messages (came_by transcript)) (is_stop_wished (came_by transcript)) (is_stop_sent dialogue_kind (came_by transcript)) (statuses_of (came_by transcript)) (ap may_send_stop (sym runs.1) ∙ h.may) in
         subst (λ l. StopsNow (l ++ transcript)) (sym took) (wish-stops transcript dialogue_kind sound sendable.0 sendable.1)
 
+queue-no-stop : (known : Known) (number till : ℕ) (header : Header) (request : SaleRequest) → NoStop (queue_row known number till header request)
+queue-no-stop known number till header request = each-queued NoStop known number till header request (record { none = refl; joins = λ terminal key at. refl; taken = λ wait at. refl })
+
+overdue-no-stop : (known : Known) (key : Key) → NoStop (overdue_row known key)
+overdue-no-stop known key = each-overdue NoStop known key (record { none = refl; taken = λ wait is overdue. refl })
+
+next-no-stop : (known : Known) (number : ℕ) → NoStop (next_waiting_row known number)
+next-no-stop known number = each-next NoStop known number (record {
+  none = refl;
+  refused = λ terminal last wait condition first is. refl;
+  begins = λ terminal last wait asking at. begun-no-stop (known_without known wait) number wait.till terminal last asking;
+  day = λ terminal last wait at. refl;
+  left = λ terminal last wait first. refl;
+})
+
 item-sends : (tills : List Connection) (known : Known) (item : RoundItem) → owes_stop (row_of tills known item).calls ≡ true → SendsStop known item (row_of tills known item).calls
 item-sends tills known (Crowded till) e = no-true e
 item-sends tills known (Message till bytes) e = no-true e
@@ -436,11 +454,12 @@ item-sends tills known (Gone till) e = no-true e
 item-sends tills known (Greet number apdu) e = never _ (greet-no-stop known number (decode_pt_message apdu)) e
 item-sends tills known (Handle number apdu) e = handle-sends known number apdu e
 item-sends tills known (Serve number till header request) e = serve-sends known number till header request e
-item-sends tills known (NextWaiting number) e = no-true e
+item-sends tills known (Queue number till header request) e = never _ (queue-no-stop known number till header request) e
+item-sends tills known (NextWaiting number) e = never _ (next-no-stop known number) e
 item-sends tills known (Oversized number) e = never _ (each-linked NoStop known number (λ terminal. cutting known number) refl (λ terminal found linked. refl)) e
 item-sends tills known (LinkLost number) e = never _ (lost-no-stop known number) e
 item-sends tills known (Late number) e = never _ (late-no-stop known number) e
-item-sends tills known (Overdue key) e = no-true e
+item-sends tills known (Overdue key) e = never _ (overdue-no-stop known key) e
 item-sends tills known (Due number) e = never _ (due-no-stop known number) e
 
 -- ---- calls
@@ -609,6 +628,7 @@ item-sound known (Gone till) transcript sound = sound
 item-sound known (Greet number apdu) transcript sound = sound
 item-sound known (Handle number apdu) transcript sound = took-of-sound known (terminal_at known number) (decode_pt_message apdu) transcript sound
 item-sound known (Serve number till header request) transcript sound = form-wished (λ l. IsSound (l ++ transcript)) known number header request sound (wished-sound transcript sound)
+item-sound known (Queue number till header request) transcript sound = sound
 item-sound known (NextWaiting number) transcript sound = sound
 item-sound known (Oversized number) transcript sound = sound
 item-sound known (LinkLost number) transcript sound = sound

@@ -15,181 +15,34 @@ use Rattle.sale_values.specs.declared.request.SaleRequest.TheVariants as request
 use Rattle.zvt_apdu.specs.Decode.{decode_apdu}
 use Rattle.zvt_apdu.specs.DecodeStream.{DecodedApdus, decode_apdus}
 use Rattle.zvt_apdu.specs.Grammar.{ApduValue}
-use Rattle.gw_owes.specs.AskerLaws.{KeepsTill, NeedsNoTill, BeginsFor, SendsItsTill, SendsAsking, is_till_gone, tills_sent}
-use Rattle.gw_owes.specs.Calls.{OwedCall, SendTill, SendPt, LinkPt, WriteBody, WriteGate, WriteFirstGate, Sync, CutTill as OwedCutTill, CutPt as OwedCutPt}
+use Rattle.gw_owes.specs.AskerLaws.{is_till_gone, tills_sent}
+use Rattle.gw_owes.specs.Calls.{OwedCall, SendTill, LinkPt, CutTill as OwedCutTill, CutPt as OwedCutPt}
 use Rattle.gw_owes.specs.Core.{Core, Wait, new_terminal}
 use Rattle.gw_owes.specs.Events.{till_opened_items, has_bad_length, decoded_items, is_oversized, apdu_items, decoded_apdu_items, for_each_terminal, waits_by_deadline, items_due}
-use Rattle.gw_owes.specs.Items.{RoundItem, Crowded, Message, Asked, Unframed, Gone, Greet, Handle, Serve, NextWaiting, Oversized, LinkLost, Late, Overdue, Due}
-use Rattle.gw_owes.specs.Links.{LinkEvent, LinkIsMade, LinkIsLost, link_row}
-use Rattle.gw_owes.specs.PaymentLaws.{BeginsSomething, is_asked_item}
+use Rattle.gw_owes.specs.Items.{RoundItem, Crowded, Message, Asked, Unframed, Gone, Greet, Handle, Serve, Queue, NextWaiting, Oversized, LinkLost, Late, Overdue, Due}
+use Rattle.gw_owes.specs.PaymentLaws.{BeginsSomething, LooksAtNext, is_asked_item}
 use Rattle.gw_owes.specs.ReadAs.{ReadAs}
 use Rattle.gw_owes.specs.Reply.{ReplyValue}
-use Rattle.gw_owes.specs.Requests.{reply_to}
-use Rattle.gw_owes.specs.Row.{Known, Row, owing, owing_where}
+use Rattle.gw_owes.specs.Row.{Known, Row, owing_where}
 use Rattle.gw_owes.specs.Rows.{asked_row, row_of}
-use Rattle.gw_owes.specs.Terminals.{asker_but, forgets_till, core_without, link_made, link_lost, reply_calls_to}
+use Rattle.gw_owes.specs.Terminals.{asker_but, forgets_till, core_without}
 use Rattle.gw_owes.specs.declared.terminal.Terminal.{Terminal}
 use Rattle.gw_owes.proofs.AskedLemmas.{asked-begins, only-asked-begins}
-use Rattle.gw_owes.proofs.AskerLemmas.{each-item-keeps-till, each-link-keeps-till, each-link-sends-its, each-send-to-its}
 use Rattle.gw_rules.specs.Lawful.{first_call, may_begin, first_message, Begins, IsRead, Allowed, AllowedTurn, IsCourse, Stands}
+use Rattle.gw_rules.specs.QueueLaws.{EachWaitingIsThere}
 use Rattle.gw_rules.specs.Scene.{Scene, records_of, known_in, row_in, row_at, link_made_at, link_lost_at}
 use Rattle.gw_rules.specs.Stage.{AtPoll, Handling, is_round, is_looking}
-use Rattle.gw_rules.specs.TillLaws.{is_there_after, AreThere, EachUsesTills, OwedIsThere, IsLeaving, EachServedIsThere, EachBeginningIsThere}
+use Rattle.gw_rules.specs.TillLaws.{is_there_after, AreThere, EachUsesTills, OwedIsThere, IsLeaving, EachServedIsThere, EachBeginningIsThere, EachQueueingIsThere}
 use Rattle.gw_rules.specs.View.{View, Move, Begin, Read, Make, begun, later, read_first, after, after_turn, view_from, at_first}
 use Rattle.gw_rules.proofs.CourseLemmas.{stands-outside}
 use Rattle.gw_rules.proofs.LinkStateLemmas.{apart}
-use Rattle.gw_rules.proofs.LinkedLemmas.{Agrees, connected-other, connected-heard, by-number, first-agrees, move-agrees, round-setup, call-setup, made-at-turns, lost-at-turns}
+use Rattle.gw_rules.proofs.LinkedLemmas.{Agrees, connected-other, by-number, first-agrees, move-agrees, round-setup, call-setup, made-at-turns, lost-at-turns}
 use Rattle.gw_rules.proofs.OpensLemmas.{opens-all}
 use Rattle.gw_rules.proofs.OwedLemmas.{call-last}
 use Rattle.gw_rules.proofs.SetupLemmas.{HasSetup}
 use Rattle.gw_rules.proofs.SplitLemmas.{SplitAt, split-log, split-stands}
 use Rattle.gw_rules.proofs.StageLemmas.{no-true, no-call, not-true, handling-not-polled, round-busy}
-
--- ---- connections
-
--- the till is among these
-abbrev IsThere : List Connection → ℕ → Type 0
-IsThere tills till = is_connected tills till ≡ true
-
-there-new : (tills : List Connection) (new till : ℕ) → IsThere tills till → IsThere (tills ++ new_connection new ∷ []) till
-there-new [] new till e = no-true e
-there-new (connection ∷ tills) new till e = by_test (connection.number == till) refl e (there-new tills new till)
-  where
-    by_test : (test : Bool) → (connection.number == till) ≡ test → IsThere (connection ∷ tills) till → (IsThere tills till → IsThere (tills ++ new_connection new ∷ []) till) → IsThere (connection ∷ (tills ++ new_connection new ∷ [])) till
-    by_test true t e more = rw t refl
-    by_test false t e more =
-        let same : is_connected (connection ∷ tills) till ≡ is_connected tills till = rw t refl in
-        rw t (more (sym same ∙ e))
-
-there-heard : (tills : List Connection) (heard till : ℕ) (bytes : List ℕ) → IsThere tills till → IsThere (hears tills heard bytes) till
-there-heard tills heard till bytes e = connected-heard tills heard till bytes ∙ e
-
--- ---- the tills of terminals, and those that are sent something
-
--- the till of each terminal that has one is such
-abbrev AskersAre : (ℕ → Type 0) → Core → Type 0
-AskersAre Is core = (number : ℕ) (terminal : Terminal) (till : ℕ) → slice_get core.terminals number ≡ Some terminal → terminal.asker ≡ Some till → Is till
-
-no-asker : {A : Type 0} (asker : Option ℕ) (till : ℕ) → asker ≡ None → asker ≡ Some till → A
-no-asker asker till none is = absurd (let n : None ≡ Some till = sym none ∙ is in cc)
-
--- with these tills there, each that the row leaves to a terminal, or owes anything, is there
-record RowIsThere (tills : List Connection) (row : Row) : Type 0 where
-  askers : AskersAre (IsThere tills) row.core
-  sends : AreThere tills (tills_sent row.calls)
-
-sends-append : (tills : List Connection) (calls more : List OwedCall) → AreThere tills (tills_sent calls) → AreThere tills (tills_sent more) → AreThere tills (tills_sent (calls ++ more))
-sends-append tills [] more h k = k
-sends-append tills (SendTill till reply ∷ calls) more h k = (h.0, sends-append tills calls more h.1 k)
-sends-append tills (SendPt pt sending ∷ calls) more h k = sends-append tills calls more h k
-sends-append tills (OwedCutTill till ∷ calls) more h k = sends-append tills calls more h k
-sends-append tills (OwedCutPt pt ∷ calls) more h k = sends-append tills calls more h k
-sends-append tills (LinkPt pt ∷ calls) more h k = sends-append tills calls more h k
-sends-append tills (WriteBody slot the_record ∷ calls) more h k = sends-append tills calls more h k
-sends-append tills (WriteGate slot the_record ∷ calls) more h k = sends-append tills calls more h k
-sends-append tills (WriteFirstGate ∷ calls) more h k = sends-append tills calls more h k
-sends-append tills (Sync ∷ calls) more h k = sends-append tills calls more h k
-
-later-there : (tills : List Connection) (calls : List OwedCall) → AreThere tills (tills_sent calls) → AreThere tills (tills_sent (later calls))
-later-there tills [] h = h
-later-there tills (SendTill till reply ∷ calls) h = h.1
-later-there tills (SendPt pt sending ∷ calls) h = h
-later-there tills (OwedCutTill till ∷ calls) h = h
-later-there tills (OwedCutPt pt ∷ calls) h = h
-later-there tills (LinkPt pt ∷ calls) h = h
-later-there tills (WriteBody slot the_record ∷ calls) h = h
-later-there tills (WriteGate slot the_record ∷ calls) h = h
-later-there tills (WriteFirstGate ∷ calls) h = h
-later-there tills (Sync ∷ calls) h = h
-
--- the till of the first call is
-first-there : (tills : List Connection) (calls : List OwedCall) (till : ℕ) (reply : ReplyValue) → AreThere tills (tills_sent calls) → first_call calls ≡ Some (SendTill till reply) → IsThere tills till
-first-there tills [] till reply h e = absurd (let n : None ≡ Some (SendTill till reply) = e in cc)
-first-there tills (call ∷ calls) till reply h e =
-    let same : call ≡ SendTill till reply = (let n : Some call ≡ Some (SendTill till reply) = e in cc) in
-    (subst (λ c. AreThere tills (tills_sent (c ∷ calls))) same h).0
-
--- ---- rows
-
-none-there : (tills : List Connection) (calls : List OwedCall) → tills_sent calls ≡ [] → AreThere tills (tills_sent calls)
-none-there tills calls none = subst (AreThere tills) (sym none) tt
-
-one-there : (tills : List Connection) (calls : List OwedCall) (till : ℕ) → tills_sent calls ≡ till ∷ [] → IsThere tills till → AreThere tills (tills_sent calls)
-one-there tills calls till one there = subst (AreThere tills) (sym one) (there, tt)
-
-link-there : (tills : List Connection) (known : Known) (at : ℕ) (event : LinkEvent) → AskersAre (IsThere tills) known.core → RowIsThere tills (link_row known at event)
-link-there tills known at event h = record {
-  askers = λ number new till found is. by_kept number new till is (each-link-keeps-till known at event number new found);
-  sends = by_sent (each-link-sends-its known at event);
-}
-  where
-    by_kept : (number : ℕ) (new : Terminal) (till : ℕ) → new.asker ≡ Some till → KeepsTill known.core number new ⊎ NeedsNoTill known.core number new → IsThere tills till
-    by_kept number new till is (inl keeps) = h number keeps.old till keeps.found (sym keeps.same ∙ is)
-    by_kept number new till is (inr needs) = no-asker new.asker till needs.none is
-
-    by_sent : (tills_sent (link_row known at event).calls ≡ []) ⊎ SendsItsTill known at (link_row known at event).calls → AreThere tills (tills_sent (link_row known at event).calls)
-    by_sent (inl none) = none-there tills (link_row known at event).calls none
-    by_sent (inr its) = one-there tills (link_row known at event).calls its.till its.sent (h at its.terminal its.till its.found its.asker_is)
-
-made-there : (tills : List Connection) (scene : Scene) (pt : ℕ) (setup : Option Setup) → AskersAre (IsThere tills) scene.core → RowIsThere tills (row_in scene (λ known. link_made known pt) setup)
-made-there tills scene pt None h = record { askers = h; sends = tt }
-made-there tills scene pt (Some setup) h = link-there tills (known_in scene setup) pt LinkIsMade h
-
-lost-there : (tills : List Connection) (scene : Scene) (pt : ℕ) (setup : Option Setup) → AskersAre (IsThere tills) scene.core → RowIsThere tills (row_in scene (λ known. link_lost known pt) setup)
-lost-there tills scene pt None h = record { askers = h; sends = tt }
-lost-there tills scene pt (Some setup) h = link-there tills (known_in scene setup) pt LinkIsLost h
-
--- an item that begins to be served is of a till that is there
-abbrev ServesThere : List Connection → RoundItem → Type 0
-ServesThere tills item = (number till : ℕ) (header : Header) (request : SaleRequest) → item ≡ Serve number till header request → IsThere tills till
-
-reply-there : (tills : List Connection) (till : ℕ) (reply : Option ReplyValue) → IsThere tills till → AreThere tills (tills_sent (reply_calls_to (Some till) reply))
-reply-there tills till None there = tt
-reply-there tills till (Some reply) there = (there, tt)
-
-item-sends : (tills : List Connection) (known : Known) (item : RoundItem) (number : ℕ) → ServesThere tills item → AskersAre (IsThere tills) known.core
-    → (tills_sent (row_of tills known item).calls ≡ []) ⊎ (SendsItsTill known number (row_of tills known item).calls ⊎ SendsAsking item number (row_of tills known item).calls) → AreThere tills (tills_sent (row_of tills known item).calls)
-item-sends tills known item number serves h (inl none) = none-there tills (row_of tills known item).calls none
-item-sends tills known item number serves h (inr (inl its)) = one-there tills (row_of tills known item).calls its.till its.sent (h number its.terminal its.till its.found its.asker_is)
-item-sends tills known item number serves h (inr (inr asking)) = one-there tills (row_of tills known item).calls asking.till asking.sent (serves number asking.till asking.header asking.request asking.item_is)
-
-row-sends : (tills : List Connection) (known : Known) (item : RoundItem) → ServesThere tills item → AskersAre (IsThere tills) known.core → AreThere tills (tills_sent (row_of tills known item).calls)
-row-sends tills known (Crowded till) serves h = tt
-row-sends tills known (Message till bytes) serves h = tt
-row-sends tills known (Asked till as_read) serves h = by_test (is_connected tills till) refl
-  where
-    by_test : (test : Bool) → is_connected tills till ≡ test → AreThere tills (tills_sent (owing_where test known (asked_row known till as_read)).calls)
-    by_test true there = reply-there tills till (reply_to known as_read) there
-    by_test false gone = tt
-row-sends tills known (Unframed till) serves h = by_test (is_connected tills till)
-  where
-    by_test : (test : Bool) → AreThere tills (tills_sent (owing_where test known (owing known (OwedCutTill till ∷ []))).calls)
-    by_test true = tt
-    by_test false = tt
-row-sends tills known (Gone till) serves h = tt
-row-sends tills known (Greet number apdu) serves h = item-sends tills known (Greet number apdu) number serves h (each-send-to-its tills known (Greet number apdu) number refl)
-row-sends tills known (Handle number apdu) serves h = item-sends tills known (Handle number apdu) number serves h (each-send-to-its tills known (Handle number apdu) number refl)
-row-sends tills known (Serve number till header request) serves h = item-sends tills known (Serve number till header request) number serves h (each-send-to-its tills known (Serve number till header request) number refl)
-row-sends tills known (NextWaiting number) serves h = item-sends tills known (NextWaiting number) number serves h (each-send-to-its tills known (NextWaiting number) number refl)
-row-sends tills known (Oversized number) serves h = item-sends tills known (Oversized number) number serves h (each-send-to-its tills known (Oversized number) number refl)
-row-sends tills known (LinkLost number) serves h = item-sends tills known (LinkLost number) number serves h (each-send-to-its tills known (LinkLost number) number refl)
-row-sends tills known (Late number) serves h = item-sends tills known (Late number) number serves h (each-send-to-its tills known (Late number) number refl)
-row-sends tills known (Overdue key) serves h = tt
-row-sends tills known (Due number) serves h = item-sends tills known (Due number) number serves h (each-send-to-its tills known (Due number) number refl)
-
--- each item but that a till is gone
-row-there : (tills : List Connection) (known : Known) (item : RoundItem) → is_till_gone item ≡ false → ServesThere tills item → AskersAre (IsThere tills) known.core → RowIsThere tills (row_of tills known item)
-row-there tills known item stays serves h = record {
-  askers = λ number new till found is. by_kept number new till is (each-item-keeps-till tills known item number new stays found);
-  sends = row-sends tills known item serves h;
-}
-  where
-    by_kept : (number : ℕ) (new : Terminal) (till : ℕ) → new.asker ≡ Some till → KeepsTill known.core number new ⊎ (NeedsNoTill known.core number new ⊎ BeginsFor known.core item number new) → IsThere tills till
-    by_kept number new till is (inl keeps) = h number keeps.old till keeps.found (sym keeps.same ∙ is)
-    by_kept number new till is (inr (inl needs)) = no-asker new.asker till needs.none is
-    by_kept number new till is (inr (inr begins)) =
-        let same : begins.till ≡ till = (let n : Some begins.till ≡ Some till = sym begins.for_till ∙ is in cc) in
-        subst (IsThere tills) same (serves number begins.till begins.header begins.request begins.item_is)
+use Rattle.gw_rules.proofs.TillRowLemmas.{IsThere, there-new, there-heard, AskersAre, WaitsAre, waits-other, waits-without, waits-at, no-asker, sends-append, later-there, first-there, none-there, made-there, lost-there, IsOfRequest, ServesThere, row-there}
 
 -- ---- a till that is gone
 
@@ -220,7 +73,7 @@ had-till (terminal ∷ terminals) (suc number) till asked new found is =
 
 -- ---- items that may wait
 
--- a till is gone, or its request begins to be served: nothing comes before these
+-- a till is gone, or its request begins to be served, or joins those that wait or takes one out: nothing comes before these
 abbrev presses : RoundItem → Bool
 presses (Crowded till) = false
 presses (Message till bytes) = false
@@ -230,6 +83,7 @@ presses (Gone till) = true
 presses (Greet number apdu) = false
 presses (Handle number apdu) = false
 presses (Serve number till header request) = true
+presses (Queue number till header request) = true
 presses (NextWaiting number) = false
 presses (Oversized number) = false
 presses (LinkLost number) = false
@@ -246,6 +100,7 @@ calm-stays (Gone till) e = no-true (sym e)
 calm-stays (Greet number apdu) e = refl
 calm-stays (Handle number apdu) e = refl
 calm-stays (Serve number till header request) e = refl
+calm-stays (Queue number till header request) e = refl
 calm-stays (NextWaiting number) e = refl
 calm-stays (Oversized number) e = refl
 calm-stays (LinkLost number) e = refl
@@ -254,7 +109,8 @@ calm-stays (Overdue key) e = refl
 calm-stays (Due number) e = refl
 
 calm-serves : (tills : List Connection) (item : RoundItem) → presses item ≡ false → ServesThere tills item
-calm-serves tills item e number till header request is = no-true (sym e ∙ ap presses is)
+calm-serves tills item e number till header request (inl is) = no-true (sym e ∙ ap presses is)
+calm-serves tills item e number till header request (inr is) = no-true (sym e ∙ ap presses is)
 
 abbrev press_none : List RoundItem → Bool
 press_none [] = true
@@ -314,6 +170,7 @@ none-read as_read (Gone till ∷ items) e = e
 none-read as_read (Greet pt apdu ∷ items) e = e
 none-read as_read (Handle pt apdu ∷ items) e = e
 none-read as_read (Serve pt till header request ∷ items) e = e
+none-read as_read (Queue pt till header request ∷ items) e = e
 none-read as_read (NextWaiting pt ∷ items) e = e
 none-read as_read (Oversized pt ∷ items) e = e
 none-read as_read (LinkLost pt ∷ items) e = e
@@ -323,27 +180,30 @@ none-read as_read (Due pt ∷ items) e = e
 
 -- ---- what holds along a course
 
--- no item presses; the till of each terminal is there, and so is each that is owed anything
+-- no item presses; the till of each terminal, and of each request that waits, is there, and so is each that is owed anything
 record Calm (v : View) : Type 0 where
   askers : AskersAre (IsThere v.scene.outside.tills) v.scene.core
+  waits : WaitsAre (IsThere v.scene.outside.tills) v.scene.core.waits
   sends : AreThere v.scene.outside.tills (tills_sent v.calls)
   none : press_none v.items ≡ true
 
--- a request of a till that is there begins to be served
+-- a request of a till that is there begins to be served, or joins those that wait or takes one out
 record IsBeginning (tills : List Connection) (core : Core) (item : RoundItem) : Type 0 where
   number : ℕ
   till : ℕ
   header : Header
   request : SaleRequest
-  item_is : item ≡ Serve number till header request
+  item_is : IsOfRequest item number till header request
   there : IsThere tills till
   askers : AskersAre (IsThere tills) core
+  waits : WaitsAre (IsThere tills) core.waits
 
 -- a till is gone, which the terminals haven't forgotten yet
 record IsGone (tills : List Connection) (core : Core) (item : RoundItem) : Type 0 where
   till : ℕ
   item_is : item ≡ Gone till
   askers : AskersAre (λ other. (other ≡ till) ⊎ IsThere tills other) core
+  waits : WaitsAre (λ other. (other ≡ till) ⊎ IsThere tills other) core.waits
 
 -- the first item presses, and no other
 record Pressed (v : View) : Type 0 where
@@ -367,6 +227,7 @@ new-asker (pt ∷ pts) (suc number) terminal e = new-asker pts number terminal e
 start-calm : (v : View) (setup : Setup) → Calm (after_turn v (Start setup))
 start-calm v setup = record {
   askers = λ number terminal till found is. no-asker terminal.asker till (new-asker setup.terminals number terminal found) is;
+  waits = tt;
   sends = opens-all (λ calls. AreThere [] (tills_sent calls)) tt tt setup v.scene.outside.file (records_of v.scene);
   none = refl;
 }
@@ -375,16 +236,19 @@ none-found : {A : Type 0} (number : ℕ) (terminal : Terminal) → slice_get [] 
 none-found number terminal e = absurd (let n : None ≡ Some terminal = e in cc)
 
 not-opened-calm : (v : View) → Calm (after_turn v OpenFailed)
-not-opened-calm v = record { askers = λ number terminal till found is. none-found number terminal found; sends = tt; none = refl }
+not-opened-calm v = record { askers = λ number terminal till found is. none-found number terminal found; waits = tt; sends = tt; none = refl }
 
 crashed-calm : (v : View) (file : List ℕ) → Calm (after_turn v (Crash file))
-crashed-calm v file = record { askers = λ number terminal till found is. none-found number terminal found; sends = tt; none = refl }
+crashed-calm v file = record { askers = λ number terminal till found is. none-found number terminal found; waits = tt; sends = tt; none = refl }
 
 -- with the connection of the till gone, and forgotten by each terminal
 without-there : (tills : List Connection) (core : Core) (till : ℕ) → AskersAre (IsThere tills) core → AskersAre (IsThere (without tills till)) (core_without core till)
 without-there tills core till h number new asked found is =
     let had = had-till core.terminals number till asked new found is in
     connected-other tills till asked had.differs ∙ h number had.old asked had.found had.asker_is
+
+without-waits : (tills : List Connection) (core : Core) (till : ℕ) → WaitsAre (IsThere tills) core.waits → WaitsAre (IsThere (without tills till)) (core_without core till).waits
+without-waits tills core till w = waits-without (IsThere tills) (IsThere (without tills till)) till core.waits (λ other differs there. connected-other tills till other differs ∙ there) w
 
 closed-pressed : (v : View) (till : ℕ) → Calm v → Pressed (after_turn v (Closed till))
 closed-pressed v till c = record {
@@ -397,18 +261,22 @@ closed-pressed v till c = record {
   why = inr (record {
     till = till;
     item_is = refl;
-    askers = λ number terminal other found is.
-        by-number till other (λ same. inl same) (λ differs. inr (connected-other v.scene.outside.tills till other (λ e. differs (sym e)) ∙ c.askers number terminal other found is));
+    askers = λ number terminal other found is. or_gone other (c.askers number terminal other found is);
+    waits = waits-other (IsThere v.scene.outside.tills) (λ other. (other ≡ till) ⊎ IsThere (without v.scene.outside.tills till) other) v.scene.core.waits or_gone c.waits;
   });
 }
+  where
+    or_gone : (other : ℕ) → IsThere v.scene.outside.tills other → (other ≡ till) ⊎ IsThere (without v.scene.outside.tills till) other
+    or_gone other there = by-number till other (λ same. inl same) (λ differs. inr (connected-other v.scene.outside.tills till other (λ e. differs (sym e)) ∙ there))
 
 -- a link that is made, and one that is lost
 linked-calm : (v : View) (pt : ℕ) → Agrees v → Calm v → AllowedTurn v (Linked pt) → Calm (after_turn v (Linked pt))
 linked-calm v pt a c ok =
     let known = call-setup v (LinkPt pt) a.run ok in
-    let row = made-there v.scene.outside.tills v.scene pt v.scene.setup c.askers in
+    let row = made-there v.scene.outside.tills v.scene pt v.scene.setup c.askers c.waits in
     record {
       askers = row.askers;
+      waits = row.waits;
       sends = sends-append v.scene.outside.tills (link_made_at v.scene pt).calls (later v.calls) row.sends (later-there v.scene.outside.tills v.calls c.sends);
       none = ap (λ l. press_none (l ++ v.items)) (made-at-turns v.scene pt known.setup known.setup_is).items ∙ c.none;
     }
@@ -416,9 +284,10 @@ linked-calm v pt a c ok =
 failed-calm : (v : View) (pt : ℕ) → Agrees v → Calm v → AllowedTurn v (LinkFailed pt) → Calm (after_turn v (LinkFailed pt))
 failed-calm v pt a c ok =
     let known = call-setup v (LinkPt pt) a.run ok in
-    let row = lost-there v.scene.outside.tills v.scene pt v.scene.setup c.askers in
+    let row = lost-there v.scene.outside.tills v.scene pt v.scene.setup c.askers c.waits in
     record {
       askers = row.askers;
+      waits = row.waits;
       sends = sends-append v.scene.outside.tills (link_lost_at v.scene pt).calls [] row.sends tt;
       none = ap (λ l. press_none (l ++ v.items)) (lost-at-turns v.scene pt known.setup known.setup_is).items ∙ c.none;
     }
@@ -426,9 +295,10 @@ failed-calm v pt a c ok =
 cut-calm : (v : View) (pt : ℕ) → Agrees v → Calm v → AllowedTurn v (CutPt pt) → Calm (after_turn v (CutPt pt))
 cut-calm v pt a c ok =
     let known = call-setup v (OwedCutPt pt) a.run ok in
-    let row = lost-there v.scene.outside.tills v.scene pt v.scene.setup c.askers in
+    let row = lost-there v.scene.outside.tills v.scene pt v.scene.setup c.askers c.waits in
     record {
       askers = row.askers;
+      waits = row.waits;
       sends = sends-append v.scene.outside.tills (link_lost_at v.scene pt).calls (later v.calls) row.sends (later-there v.scene.outside.tills v.calls c.sends);
       none = ap (λ l. press_none (l ++ v.items)) (lost-at-turns v.scene pt known.setup known.setup_is).items ∙ c.none;
     }
@@ -437,6 +307,7 @@ cut-calm v pt a c ok =
 till-cut-calm : (v : View) (till : ℕ) → Agrees v → Calm v → AllowedTurn v (CutTill till) → Calm (after_turn v (CutTill till))
 till-cut-calm v till a c ok = record {
   askers = without-there v.scene.outside.tills v.scene.core till c.askers;
+  waits = without-waits v.scene.outside.tills v.scene.core till c.waits;
   sends = subst (λ l. AreThere (without v.scene.outside.tills till) (tills_sent l)) (sym (call-last v.calls (OwedCutTill till) (λ more. refl) ok a.ends)) tt;
   none = c.none;
 }
@@ -444,9 +315,10 @@ till-cut-calm v till a c ok = record {
 turn-calm : (v : View) (turn : Turn) → Agrees v → Calm v → AllowedTurn v turn → Calm (after_turn v turn) ⊎ Pressed (after_turn v turn)
 turn-calm v (Start setup) a c ok = inl (start-calm v setup)
 turn-calm v OpenFailed a c ok = inl (not-opened-calm v)
-turn-calm v (Polled now) a c ok = inl (record { askers = c.askers; sends = tt; none = none-due v.scene.core })
+turn-calm v (Polled now) a c ok = inl (record { askers = c.askers; waits = c.waits; sends = tt; none = none-due v.scene.core })
 turn-calm v (Opened till) a c ok = inl (record {
   askers = λ number terminal other found is. there-new v.scene.outside.tills till other (c.askers number terminal other found is);
+  waits = waits-other (IsThere v.scene.outside.tills) (IsThere (v.scene.outside.tills ++ new_connection till ∷ [])) v.scene.core.waits (there-new v.scene.outside.tills till) c.waits;
   sends = tt;
   none = none-append (till_opened_items till v.scene.outside.tills) _ (none-opened till v.scene.outside.tills) (none-due v.scene.core);
 })
@@ -454,26 +326,27 @@ turn-calm v (HeardTill till bytes) a c ok =
     let decoded : DecodedFrames = decode_after (decode_frames (heard_on v.scene.outside.tills till)).rest bytes in
     inl (record {
       askers = λ number terminal other found is. there-heard v.scene.outside.tills till other bytes (c.askers number terminal other found is);
+      waits = waits-other (IsThere v.scene.outside.tills) (IsThere (hears v.scene.outside.tills till bytes)) v.scene.core.waits (λ other. there-heard v.scene.outside.tills till other bytes) c.waits;
       sends = tt;
       none = none-append (decoded_items till decoded) _ (none-till till decoded) (none-due v.scene.core);
     })
 turn-calm v (Closed till) a c ok = inr (closed-pressed v till c)
 turn-calm v (HeardPt pt bytes) a c ok =
     let decoded : DecodedApdus = decode_apdus ((decode_apdus (heard_on v.scene.outside.links pt)).rest ++ bytes) in
-    inl (record { askers = c.askers; sends = tt; none = none-append (decoded_apdu_items pt decoded) _ (none-pt pt decoded) (none-due v.scene.core) })
-turn-calm v (Lost pt) a c ok = inl (record { askers = c.askers; sends = tt; none = none-due v.scene.core })
-turn-calm v Stopped a c ok = inl (record { askers = c.askers; sends = tt; none = refl })
+    inl (record { askers = c.askers; waits = c.waits; sends = tt; none = none-append (decoded_apdu_items pt decoded) _ (none-pt pt decoded) (none-due v.scene.core) })
+turn-calm v (Lost pt) a c ok = inl (record { askers = c.askers; waits = c.waits; sends = tt; none = none-due v.scene.core })
+turn-calm v Stopped a c ok = inl (record { askers = c.askers; waits = c.waits; sends = tt; none = refl })
 turn-calm v (Linked pt) a c ok = inl (linked-calm v pt a c ok)
 turn-calm v (LinkFailed pt) a c ok = inl (failed-calm v pt a c ok)
-turn-calm v (SentTill till bytes true) a c ok = inl (record { askers = c.askers; sends = later-there v.scene.outside.tills v.calls c.sends; none = c.none })
-turn-calm v (SentTill till bytes false) a c ok = inl (record { askers = c.askers; sends = tt; none = c.none })
-turn-calm v (SentPt pt bytes true) a c ok = inl (record { askers = c.askers; sends = later-there v.scene.outside.tills v.calls c.sends; none = c.none })
-turn-calm v (SentPt pt bytes false) a c ok = inl (record { askers = c.askers; sends = tt; none = c.none })
+turn-calm v (SentTill till bytes true) a c ok = inl (record { askers = c.askers; waits = c.waits; sends = later-there v.scene.outside.tills v.calls c.sends; none = c.none })
+turn-calm v (SentTill till bytes false) a c ok = inl (record { askers = c.askers; waits = c.waits; sends = tt; none = c.none })
+turn-calm v (SentPt pt bytes true) a c ok = inl (record { askers = c.askers; waits = c.waits; sends = later-there v.scene.outside.tills v.calls c.sends; none = c.none })
+turn-calm v (SentPt pt bytes false) a c ok = inl (record { askers = c.askers; waits = c.waits; sends = tt; none = c.none })
 turn-calm v (CutTill till) a c ok = inl (till-cut-calm v till a c ok)
 turn-calm v (CutPt pt) a c ok = inl (cut-calm v pt a c ok)
-turn-calm v (Wrote offset bytes) a c ok = inl (record { askers = c.askers; sends = later-there v.scene.outside.tills v.calls c.sends; none = c.none })
-turn-calm v Synced a c ok = inl (record { askers = c.askers; sends = later-there v.scene.outside.tills v.calls c.sends; none = c.none })
-turn-calm v DiskFailed a c ok = inl (record { askers = c.askers; sends = tt; none = refl })
+turn-calm v (Wrote offset bytes) a c ok = inl (record { askers = c.askers; waits = c.waits; sends = later-there v.scene.outside.tills v.calls c.sends; none = c.none })
+turn-calm v Synced a c ok = inl (record { askers = c.askers; waits = c.waits; sends = later-there v.scene.outside.tills v.calls c.sends; none = c.none })
+turn-calm v DiskFailed a c ok = inl (record { askers = c.askers; waits = c.waits; sends = tt; none = refl })
 turn-calm v (Crash file) a c ok = inl (crashed-calm v file)
 
 pressed-event : {A : Type 0} (v : View) → Pressed v → v.scene.stage ≡ AtPoll → A
@@ -511,31 +384,37 @@ turn-pressed v (Crash file) p ok = crashed-calm v file
 
 -- an item that isn't a message of a till, and not that a till is gone
 begun-calm : (scene : Scene) (item : RoundItem) (rest : List RoundItem) (setup : Setup) → scene.setup ≡ Some setup → is_till_gone item ≡ false → ServesThere scene.outside.tills item → AskersAre (IsThere scene.outside.tills) scene.core
-    → is_asked_item item ≡ false → press_none rest ≡ true → Calm (begun scene (row_at scene item) rest)
-begun-calm scene item rest setup is stays serves h alone none =
-    let row = row-there scene.outside.tills (known_in scene setup) item stays serves h in
+    → WaitsAre (IsThere scene.outside.tills) scene.core.waits → is_asked_item item ≡ false → press_none rest ≡ true → Calm (begun scene (row_at scene item) rest)
+begun-calm scene item rest setup is stays serves h w alone none =
+    let row = row-there scene.outside.tills (known_in scene setup) item stays serves h w in
     subst (λ (s : Option Setup). Calm (begun scene (row_in scene (λ known. row_of scene.outside.tills known item) s) rest)) (sym is) (record {
       askers = row.askers;
+      waits = row.waits;
       sends = row.sends;
-      none = ap (λ l. press_none (l ++ rest)) (only-asked-begins scene.outside.tills (known_in scene setup) item alone) ∙ none;
+      none = by_begins (only-asked-begins scene.outside.tills (known_in scene setup) item alone);
     })
+  where
+    by_begins : ((row_of scene.outside.tills (known_in scene setup) item).items ≡ []) ⊎ LooksAtNext item (row_of scene.outside.tills (known_in scene setup) item) → press_none ((row_of scene.outside.tills (known_in scene setup) item).items ++ rest) ≡ true
+    by_begins (inl none_come) = ap (λ l. press_none (l ++ rest)) none_come ∙ none
+    by_begins (inr looks) = ap (λ l. press_none (l ++ rest)) looks.items_are ∙ none
 
 -- where a till's message begins anything, the till is there
-asked-there : (tills : List Connection) (known : Known) (till number : ℕ) (as_read : ReadAs) (header : Header) (request : SaleRequest) → (row_of tills known (Asked till as_read)).items ≡ Serve number till header request ∷ [] → IsThere tills till
-asked-there tills known till number as_read header request items = by_test (is_connected tills till) refl
+asked-there : (tills : List Connection) (known : Known) (till : ℕ) (as_read : ReadAs) (item : RoundItem) → (row_of tills known (Asked till as_read)).items ≡ item ∷ [] → IsThere tills till
+asked-there tills known till as_read item items = by_test (is_connected tills till) refl
   where
     by_test : (test : Bool) → is_connected tills till ≡ test → test ≡ true
     by_test true e = refl
     by_test false e =
-        absurd (let n : [] ≡ Serve number till header request ∷ [] = ap (λ (holds : Bool). (owing_where holds known (asked_row known till as_read)).items) (sym e) ∙ items in cc)
+        absurd (let n : [] ≡ item ∷ [] = ap (λ (holds : Bool). (owing_where holds known (asked_row known till as_read)).items) (sym e) ∙ items in cc)
 
-asked-pressed : (scene : Scene) (till number : ℕ) (as_read : ReadAs) (header : Header) (request : SaleRequest) (rest : List RoundItem) (setup : Setup) → is_round scene.stage ≡ true → AskersAre (IsThere scene.outside.tills) scene.core → press_none rest ≡ true
-    → (row_of scene.outside.tills (known_in scene setup) (Asked till as_read)).items ≡ Serve number till header request ∷ [] → (row_of scene.outside.tills (known_in scene setup) (Asked till as_read)).calls ≡ []
+asked-pressed : (scene : Scene) (till number : ℕ) (as_read : ReadAs) (header : Header) (request : SaleRequest) (item : RoundItem) (rest : List RoundItem) (setup : Setup) → is_round scene.stage ≡ true → AskersAre (IsThere scene.outside.tills) scene.core
+    → WaitsAre (IsThere scene.outside.tills) scene.core.waits → press_none rest ≡ true → IsOfRequest item number till header request
+    → (row_of scene.outside.tills (known_in scene setup) (Asked till as_read)).items ≡ item ∷ [] → (row_of scene.outside.tills (known_in scene setup) (Asked till as_read)).calls ≡ []
     → Pressed (begun scene (row_of scene.outside.tills (known_in scene setup) (Asked till as_read)) rest)
-asked-pressed scene till number as_read header request rest setup round h none items calls =
-    let row = row-there scene.outside.tills (known_in scene setup) (Asked till as_read) refl (calm-serves scene.outside.tills (Asked till as_read) refl) h in
+asked-pressed scene till number as_read header request item rest setup round h w none is items calls =
+    let row = row-there scene.outside.tills (known_in scene setup) (Asked till as_read) refl (calm-serves scene.outside.tills (Asked till as_read) refl) h w in
     record {
-      item = Serve number till header request;
+      item = item;
       rest = rest;
       items_are = ap (λ l. l ++ rest) items;
       none = none;
@@ -546,9 +425,10 @@ asked-pressed scene till number as_read header request rest setup round h none i
         till = till;
         header = header;
         request = request;
-        item_is = refl;
-        there = asked-there scene.outside.tills (known_in scene setup) till number as_read header request items;
+        item_is = is;
+        there = asked-there scene.outside.tills (known_in scene setup) till as_read item items;
         askers = row.askers;
+        waits = row.waits;
       });
     }
 
@@ -556,44 +436,51 @@ asked-pressed scene till number as_read header request rest setup round h none i
 abbrev asked_at : Scene → Setup → ℕ → ReadAs → Row
 asked_at scene setup till as_read = row_of scene.outside.tills (known_in scene setup) (Asked till as_read)
 
-asked-begun : (scene : Scene) (till : ℕ) (as_read : ReadAs) (rest : List RoundItem) (setup : Setup) → is_round scene.stage ≡ true → AskersAre (IsThere scene.outside.tills) scene.core → press_none rest ≡ true
+asked-begun : (scene : Scene) (till : ℕ) (as_read : ReadAs) (rest : List RoundItem) (setup : Setup) → is_round scene.stage ≡ true → AskersAre (IsThere scene.outside.tills) scene.core → WaitsAre (IsThere scene.outside.tills) scene.core.waits → press_none rest ≡ true
     → Calm (begun scene (asked_at scene setup till as_read) rest) ⊎ Pressed (begun scene (asked_at scene setup till as_read) rest)
-asked-begun scene till as_read rest setup round h none = by_begins (asked-begins scene.outside.tills (known_in scene setup) till as_read)
+asked-begun scene till as_read rest setup round h w none = by_begins (asked-begins scene.outside.tills (known_in scene setup) till as_read)
   where
     pressed : (number : ℕ) (header : Header) (request : SaleRequest) → (asked_at scene setup till as_read).items ≡ Serve number till header request ∷ [] → (asked_at scene setup till as_read).calls ≡ []
         → Calm (begun scene (asked_at scene setup till as_read) rest) ⊎ Pressed (begun scene (asked_at scene setup till as_read) rest)
-    pressed number header request items calls = inr (asked-pressed scene till number as_read header request rest setup round h none items calls)
+    pressed number header request items calls = inr (asked-pressed scene till number as_read header request (Serve number till header request) rest setup round h w none (inl refl) items calls)
+
+    queued : (number : ℕ) (header : Header) (request : SaleRequest) → (asked_at scene setup till as_read).items ≡ Queue number till header request ∷ [] → (asked_at scene setup till as_read).calls ≡ []
+        → Calm (begun scene (asked_at scene setup till as_read) rest) ⊎ Pressed (begun scene (asked_at scene setup till as_read) rest)
+    queued number header request items calls = inr (asked-pressed scene till number as_read header request (Queue number till header request) rest setup round h w none (inr refl) items calls)
 
     by_begins : ((asked_at scene setup till as_read).items ≡ []) ⊎ BeginsSomething (known_in scene setup) till as_read (asked_at scene setup till as_read)
         → Calm (begun scene (asked_at scene setup till as_read) rest) ⊎ Pressed (begun scene (asked_at scene setup till as_read) rest)
     by_begins (inl no_items) =
-        let there = row-there scene.outside.tills (known_in scene setup) (Asked till as_read) refl (calm-serves scene.outside.tills (Asked till as_read) refl) h in
-        inl (record { askers = there.askers; sends = there.sends; none = ap (λ l. press_none (l ++ rest)) no_items ∙ none })
+        let there = row-there scene.outside.tills (known_in scene setup) (Asked till as_read) refl (calm-serves scene.outside.tills (Asked till as_read) refl) h w in
+        inl (record { askers = there.askers; waits = there.waits; sends = there.sends; none = ap (λ l. press_none (l ++ rest)) no_items ∙ none })
     by_begins (inr (inl begins)) = pressed begins.named.number begins.header begins.request begins.items_are begins.no_reply
     by_begins (inr (inr (inl stops))) = pressed stops.named.number stops.header (requests.Abort stops.reference) stops.items_are stops.no_reply
     by_begins (inr (inr (inr (inl logs)))) = pressed logs.named.number logs.header logs.request logs.items_are logs.no_reply
     by_begins (inr (inr (inr (inr (inl reconciles))))) = pressed reconciles.named.number reconciles.header (requests.Reconciliation reconciles.period) reconciles.items_are reconciles.no_reply
-    by_begins (inr (inr (inr (inr (inr shows))))) = pressed shows.named.number shows.header (requests.Display shows.outputs) shows.items_are shows.no_reply
+    by_begins (inr (inr (inr (inr (inr (inr (inl queues))))))) = queued queues.named.number queues.header queues.request queues.items_are queues.no_reply
+    by_begins (inr (inr (inr (inr (inr (inr (inr withdraws))))))) = queued withdraws.wait.pt withdraws.header (requests.Abort withdraws.reference) withdraws.items_are withdraws.no_reply
+    by_begins (inr (inr (inr (inr (inr (inl shows)))))) = pressed shows.named.number shows.header (requests.Display shows.outputs) shows.items_are shows.no_reply
 
 -- an item that doesn't press
-item-begun : (scene : Scene) (item : RoundItem) (rest : List RoundItem) (setup : Setup) → scene.setup ≡ Some setup → is_round scene.stage ≡ true → AskersAre (IsThere scene.outside.tills) scene.core → presses item ≡ false → press_none rest ≡ true
+item-begun : (scene : Scene) (item : RoundItem) (rest : List RoundItem) (setup : Setup) → scene.setup ≡ Some setup → is_round scene.stage ≡ true → AskersAre (IsThere scene.outside.tills) scene.core → WaitsAre (IsThere scene.outside.tills) scene.core.waits → presses item ≡ false → press_none rest ≡ true
     → Calm (begun scene (row_at scene item) rest) ⊎ Pressed (begun scene (row_at scene item) rest)
-item-begun scene item rest setup is round h quiet none = by_item item quiet
+item-begun scene item rest setup is round h w quiet none = by_item item quiet
   where
     other : (item : RoundItem) → presses item ≡ false → is_asked_item item ≡ false → Calm (begun scene (row_at scene item) rest) ⊎ Pressed (begun scene (row_at scene item) rest)
-    other item quiet alone = inl (begun-calm scene item rest setup is (calm-stays item quiet) (calm-serves scene.outside.tills item quiet) h alone none)
+    other item quiet alone = inl (begun-calm scene item rest setup is (calm-stays item quiet) (calm-serves scene.outside.tills item quiet) h w alone none)
 
     by_item : (item : RoundItem) → presses item ≡ false → Calm (begun scene (row_at scene item) rest) ⊎ Pressed (begun scene (row_at scene item) rest)
     by_item (Crowded till) quiet = other (Crowded till) quiet refl
     by_item (Message till bytes) quiet = other (Message till bytes) quiet refl
     by_item (Asked till as_read) quiet =
         subst (λ (s : Option Setup). Calm (begun scene (row_in scene (λ known. row_of scene.outside.tills known (Asked till as_read)) s) rest) ⊎ Pressed (begun scene (row_in scene (λ known. row_of scene.outside.tills known (Asked till as_read)) s) rest)) (sym is)
-        (asked-begun scene till as_read rest setup round h none)
+        (asked-begun scene till as_read rest setup round h w none)
     by_item (Unframed till) quiet = other (Unframed till) quiet refl
     by_item (Gone till) quiet = no-true (sym quiet)
     by_item (Greet number apdu) quiet = other (Greet number apdu) quiet refl
     by_item (Handle number apdu) quiet = other (Handle number apdu) quiet refl
     by_item (Serve number till header request) quiet = no-true (sym quiet)
+    by_item (Queue number till header request) quiet = no-true (sym quiet)
     by_item (NextWaiting number) quiet = other (NextWaiting number) quiet refl
     by_item (Oversized number) quiet = other (Oversized number) quiet refl
     by_item (LinkLost number) quiet = other (LinkLost number) quiet refl
@@ -602,9 +489,11 @@ item-begun scene item rest setup is round h quiet none = by_item item quiet
     by_item (Due number) quiet = other (Due number) quiet refl
 
 -- a till that is gone: each terminal forgets it
-gone-begun : (scene : Scene) (till : ℕ) (rest : List RoundItem) (setup : Setup) → scene.setup ≡ Some setup → AskersAre (λ other. (other ≡ till) ⊎ IsThere scene.outside.tills other) scene.core → press_none rest ≡ true → Calm (begun scene (row_at scene (Gone till)) rest)
-gone-begun scene till rest setup is h none =
-    subst (λ (s : Option Setup). Calm (begun scene (row_in scene (λ known. row_of scene.outside.tills known (Gone till)) s) rest)) (sym is) (record { askers = askers; sends = tt; none = none })
+gone-begun : (scene : Scene) (till : ℕ) (rest : List RoundItem) (setup : Setup) → scene.setup ≡ Some setup → AskersAre (λ other. (other ≡ till) ⊎ IsThere scene.outside.tills other) scene.core
+    → WaitsAre (λ other. (other ≡ till) ⊎ IsThere scene.outside.tills other) scene.core.waits → press_none rest ≡ true → Calm (begun scene (row_at scene (Gone till)) rest)
+gone-begun scene till rest setup is h w none =
+    subst (λ (s : Option Setup). Calm (begun scene (row_in scene (λ known. row_of scene.outside.tills known (Gone till)) s) rest)) (sym is)
+    (record { askers = askers; waits = waits-without (λ other. (other ≡ till) ⊎ IsThere scene.outside.tills other) (IsThere scene.outside.tills) till scene.core.waits by_either w; sends = tt; none = none })
   where
     by_either : (other : ℕ) → other ≢ till → (other ≡ till) ⊎ IsThere scene.outside.tills other → IsThere scene.outside.tills other
     by_either other differs (inl same) = absurd (differs same)
@@ -627,7 +516,14 @@ begin-calm v a c b = by_items v.items refl
     by_items (item ∷ rest) e =
         let known = round-setup v a.run b.idle.round in
         let p = and_parts (not (presses item)) (press_none rest) (subst (λ l. press_none l ≡ true) e c.none) in
-        with-items (λ w. Calm w ⊎ Pressed w) v item rest e (item-begun v.scene item rest known.setup known.setup_is b.idle.round c.askers (not-true (presses item) p.0) p.1)
+        with-items (λ w. Calm w ⊎ Pressed w) v item rest e (item-begun v.scene item rest known.setup known.setup_is b.idle.round c.askers c.waits (not-true (presses item) p.0) p.1)
+
+-- an item is of one till
+same-till : (one other : RoundItem) → one ≡ other → (n m till_one till_other : ℕ) (h k : Header) (q u : SaleRequest) → IsOfRequest one n till_one h q → IsOfRequest other m till_other k u → till_one ≡ till_other
+same-till one other e n m till_one till_other h k q u (inl a) (inl b) = let x : Serve n till_one h q ≡ Serve m till_other k u = sym a ∙ e ∙ b in cc
+same-till one other e n m till_one till_other h k q u (inl a) (inr b) = absurd (let x : Serve n till_one h q ≡ Queue m till_other k u = sym a ∙ e ∙ b in cc)
+same-till one other e n m till_one till_other h k q u (inr a) (inl b) = absurd (let x : Queue n till_one h q ≡ Serve m till_other k u = sym a ∙ e ∙ b in cc)
+same-till one other e n m till_one till_other h k q u (inr a) (inr b) = let x : Queue n till_one h q ≡ Queue m till_other k u = sym a ∙ e ∙ b in cc
 
 begin-pressed : (v : View) → Agrees v → Pressed v → Begins v → Calm (after v Begin)
 begin-pressed v a p b = by_why p.why
@@ -635,26 +531,37 @@ begin-pressed v a p b = by_why p.why
     known : HasSetup v.scene
     known = round-setup v a.run b.idle.round
 
+    at : (item : RoundItem) → p.item ≡ item → (begins : IsBeginning v.scene.outside.tills v.scene.core p.item) → is_till_gone item ≡ false → is_asked_item item ≡ false → Calm (after v Begin)
+    at item e begins stays alone =
+        with-items Calm v item p.rest (p.items_are ∙ ap (λ i. i ∷ p.rest) e)
+        (begun-calm v.scene item p.rest known.setup known.setup_is stays
+        (λ number till header request is.
+        subst (IsThere v.scene.outside.tills) (same-till p.item item e begins.number number begins.till till begins.header header begins.request request begins.item_is is) begins.there)
+        begins.askers begins.waits alone p.none)
+
+    by_item : (begins : IsBeginning v.scene.outside.tills v.scene.core p.item) → IsOfRequest p.item begins.number begins.till begins.header begins.request → Calm (after v Begin)
+    by_item begins (inl e) = at (Serve begins.number begins.till begins.header begins.request) e begins refl refl
+    by_item begins (inr e) = at (Queue begins.number begins.till begins.header begins.request) e begins refl refl
+
     by_why : IsBeginning v.scene.outside.tills v.scene.core p.item ⊎ IsGone v.scene.outside.tills v.scene.core p.item → Calm (after v Begin)
-    by_why (inl begins) =
-        let items = p.items_are ∙ ap (λ i. i ∷ p.rest) begins.item_is in
-        with-items Calm v (Serve begins.number begins.till begins.header begins.request) p.rest items
-        (begun-calm v.scene (Serve begins.number begins.till begins.header begins.request) p.rest known.setup known.setup_is refl
-        (λ number till header request is. subst (IsThere v.scene.outside.tills) (let same : begins.till ≡ till = (let n : Serve begins.number begins.till begins.header begins.request ≡ Serve number till header request = is in cc) in same) begins.there) begins.askers refl p.none)
+    by_why (inl begins) = by_item begins begins.item_is
     by_why (inr gone) =
-        with-items Calm v (Gone gone.till) p.rest (p.items_are ∙ ap (λ i. i ∷ p.rest) gone.item_is) (gone-begun v.scene gone.till p.rest known.setup known.setup_is gone.askers p.none)
+        with-items Calm v (Gone gone.till) p.rest (p.items_are ∙ ap (λ i. i ∷ p.rest) gone.item_is) (gone-begun v.scene gone.till p.rest known.setup known.setup_is gone.askers gone.waits p.none)
 
 -- ---- along a course
 
 read-calm : (v : View) (as_read : ReadAs) → Calm v → Calm (after v (Read as_read))
-read-calm v as_read c = record { askers = c.askers; sends = tt; none = none-read as_read v.items c.none }
+read-calm v as_read c = record { askers = c.askers; waits = c.waits; sends = tt; none = none-read as_read v.items c.none }
 
 read-pressed : {A : Type 0} (v : View) (as_read : ReadAs) → Pressed v → IsRead v as_read → A
 read-pressed {A} v as_read p r = by_why p.why
   where
+    by_item : (number till : ℕ) (header : Header) (request : SaleRequest) → IsOfRequest p.item number till header request → A
+    by_item number till header request (inl e) = absurd (let n : None ≡ Some r.bytes = sym (ap first_message (p.items_are ∙ ap (λ i. i ∷ p.rest) e)) ∙ r.message in cc)
+    by_item number till header request (inr e) = absurd (let n : None ≡ Some r.bytes = sym (ap first_message (p.items_are ∙ ap (λ i. i ∷ p.rest) e)) ∙ r.message in cc)
+
     by_why : IsBeginning v.scene.outside.tills v.scene.core p.item ⊎ IsGone v.scene.outside.tills v.scene.core p.item → A
-    by_why (inl begins) =
-        absurd (let n : None ≡ Some r.bytes = sym (ap first_message (p.items_are ∙ ap (λ i. i ∷ p.rest) begins.item_is)) ∙ r.message in cc)
+    by_why (inl begins) = by_item begins.number begins.till begins.header begins.request begins.item_is
     by_why (inr gone) = absurd (let n : None ≡ Some r.bytes = sym (ap first_message (p.items_are ∙ ap (λ i. i ∷ p.rest) gone.item_is)) ∙ r.message in cc)
 
 move-tills : (v : View) (move : Move) → Agrees v → Calm v ⊎ Pressed v → Allowed v move → Calm (after v move) ⊎ Pressed (after v move)
@@ -670,7 +577,7 @@ course-tills v [] a h c = h
 course-tills v (move ∷ moves) a h c = course-tills (after v move) moves (move-agrees v move a c.0) (move-tills v move a h c.0) c.1
 
 first-calm : Calm at_first
-first-calm = record { askers = λ number terminal till found is. none-found number terminal found; sends = tt; none = refl }
+first-calm = record { askers = λ number terminal till found is. none-found number terminal found; waits = tt; sends = tt; none = refl }
 
 log-tills : (log : List Turn) (v : View) → Stands log v → Calm v ⊎ Pressed v
 log-tills log v s = subst (λ w. Calm w ⊎ Pressed w) s.view_is (course-tills at_first s.course first-agrees (inl first-calm) s.lawful)
@@ -718,16 +625,48 @@ served-is-there log v s number till terminal found is = by_either (log-tills log
         by_why (inl begins) = inl (view-there log v till s (begins.askers number terminal till found is))
         by_why (inr gone) = by_gone gone.till p.rest (p.items_are ∙ ap (λ i. i ∷ p.rest) gone.item_is) (gone.askers number terminal till found is)
 
-pub beginning-is-there : EachBeginningIsThere
-beginning-is-there log v s number till header request rest items = by_either (log-tills log v s)
+-- so is the till of a request that begins to be served, or joins those that wait or takes one out
+of-request-there : (log : List Turn) (v : View) → Stands log v → (number till : ℕ) (header : Header) (request : SaleRequest) (item : RoundItem) (rest : List RoundItem) → v.items ≡ item ∷ rest → IsOfRequest item number till header request → is_there_after log till ≡ true
+of-request-there log v s number till header request item rest items is = by_either (log-tills log v s)
   where
+    first_is : (p : Pressed v) → p.item ≡ item
+    first_is p = let n : p.item ∷ p.rest ≡ item ∷ rest = sym p.items_are ∙ items in cc
+
+    not_gone : (gone : ℕ) → Gone gone ≡ item → IsOfRequest item number till header request → is_there_after log till ≡ true
+    not_gone gone e (inl a) = absurd (let x : Gone gone ≡ Serve number till header request = e ∙ a in cc)
+    not_gone gone e (inr a) = absurd (let x : Gone gone ≡ Queue number till header request = e ∙ a in cc)
+
+    presses_it : IsOfRequest item number till header request → presses item ≡ true
+    presses_it (inl a) = ap presses a
+    presses_it (inr a) = ap presses a
+
     by_why : (p : Pressed v) → IsBeginning v.scene.outside.tills v.scene.core p.item ⊎ IsGone v.scene.outside.tills v.scene.core p.item → is_there_after log till ≡ true
     by_why p (inl begins) =
-        let same : Serve begins.number begins.till begins.header begins.request ∷ p.rest ≡ Serve number till header request ∷ rest = sym (p.items_are ∙ ap (λ i. i ∷ p.rest) begins.item_is) ∙ items in
-        let till_is : begins.till ≡ till = cc in
-        view-there log v till s (subst (IsThere v.scene.outside.tills) till_is begins.there)
-    by_why p (inr gone) = absurd (let n : Gone gone.till ∷ p.rest ≡ Serve number till header request ∷ rest = sym (p.items_are ∙ ap (λ i. i ∷ p.rest) gone.item_is) ∙ items in cc)
+        view-there log v till s (subst (IsThere v.scene.outside.tills) (same-till p.item item (first_is p) begins.number number begins.till till begins.header header begins.request request begins.item_is is) begins.there)
+    by_why p (inr gone) = not_gone gone.till (sym gone.item_is ∙ first_is p) is
 
     by_either : Calm v ⊎ Pressed v → is_there_after log till ≡ true
-    by_either (inl c) = no-true (let n : press_none (Serve number till header request ∷ rest) ≡ true = subst (λ l. press_none l ≡ true) items c.none in n)
+    by_either (inl c) = no-true (sym (not-true (presses item) (and_parts (not (presses item)) (press_none rest) (subst (λ l. press_none l ≡ true) items c.none)).0) ∙ presses_it is)
+    by_either (inr p) = by_why p p.why
+
+pub beginning-is-there : EachBeginningIsThere
+beginning-is-there log v s number till header request rest items = of-request-there log v s number till header request (Serve number till header request) rest items (inl refl)
+
+pub queueing-is-there : EachQueueingIsThere
+queueing-is-there log v s number till header request rest items = of-request-there log v s number till header request (Queue number till header request) rest items (inr refl)
+
+pub waiting-is-there : EachWaitingIsThere
+waiting-is-there log v at wait s found = by_either (log-tills log v s)
+  where
+    by_gone : (gone : ℕ) (rest : List RoundItem) → v.items ≡ Gone gone ∷ rest → (wait.till ≡ gone) ⊎ IsThere v.scene.outside.tills wait.till → (is_there_after log wait.till ≡ true) ⊎ IsLeaving v wait.till
+    by_gone gone rest items (inl same) = inr (rest, items ∙ ap (λ t. Gone t ∷ rest) (sym same))
+    by_gone gone rest items (inr there) = inl (view-there log v wait.till s there)
+
+    by_why : (p : Pressed v) → IsBeginning v.scene.outside.tills v.scene.core p.item ⊎ IsGone v.scene.outside.tills v.scene.core p.item → (is_there_after log wait.till ≡ true) ⊎ IsLeaving v wait.till
+    by_why p (inl begins) = inl (view-there log v wait.till s (waits-at (IsThere v.scene.outside.tills) v.scene.core.waits at wait begins.waits found))
+    by_why p (inr gone) =
+        by_gone gone.till p.rest (p.items_are ∙ ap (λ i. i ∷ p.rest) gone.item_is) (waits-at (λ other. (other ≡ gone.till) ⊎ IsThere v.scene.outside.tills other) v.scene.core.waits at wait gone.waits found)
+
+    by_either : Calm v ⊎ Pressed v → (is_there_after log wait.till ≡ true) ⊎ IsLeaving v wait.till
+    by_either (inl c) = inl (view-there log v wait.till s (waits-at (IsThere v.scene.outside.tills) v.scene.core.waits at wait c.waits found))
     by_either (inr p) = by_why p p.why

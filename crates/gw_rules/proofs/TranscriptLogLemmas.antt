@@ -2,6 +2,7 @@
 use Rattle.std.proofs.Common.{◌≡◌, ◌≢◌, ℕ, zero, suc, List, [], ◌∷◌, ◌++◌, refl, sym, ◌∙◌, ap, subst, true, false, inl, inr, eqb-true, append-nil, append_assoc}
 use Rattle.std.proofs.lemmas.Bool.{and_parts, eq-eqb}
 use Rattle.std.specs.Prelude.{Bool, ◌==◌, ◌||◌, ◌⊎◌, if◌then◌else◌, map, slice_get, Option, Some, None, Result, Ok, Err}
+use Rattle.gw_base.specs.declared.key.Key.{Key}
 use Rattle.gw_base.specs.declared.setup.Pt.{Pt}
 use Rattle.gw_base.specs.declared.setup.Setup.{Setup}
 use Rattle.gw_site.specs.Outside.{Connection, is_connected}
@@ -21,7 +22,7 @@ use Rattle.gw_owes.specs.Core.{Core, new_core, new_terminal}
 use Rattle.gw_owes.specs.Deadlines.{is_late, is_due, late_row, due_row}
 use Rattle.gw_owes.specs.Greeting.{greeting, sending_calls, greet_decoded, oversized_row}
 use Rattle.gw_owes.specs.Handling.{taking, handle_row}
-use Rattle.gw_owes.specs.Items.{RoundItem, Crowded, Message, Asked, Unframed, Gone, Greet, Handle, Serve, NextWaiting, Oversized, LinkLost, Late, Overdue, Due}
+use Rattle.gw_owes.specs.Items.{RoundItem, Crowded, Message, Asked, Unframed, Gone, Greet, Handle, Serve, Queue, NextWaiting, Oversized, LinkLost, Late, Overdue, Due}
 use Rattle.gw_owes.specs.Links.{cutting, LinkEvent, LinkIsMade, LinkHasFailed, LinkIsLost, link_row}
 use Rattle.gw_owes.specs.Payments.{serve_row}
 use Rattle.gw_owes.specs.Reconciliations.{reply_to_settled, settled_of}
@@ -34,8 +35,10 @@ use Rattle.gw_owes.specs.TerminalLaws.{settings_of, owes_cut}
 use Rattle.gw_owes.specs.TerminalRows.{terminal_of, terminal_row, is_link_lost}
 use Rattle.gw_owes.specs.Terminals.{terminal_at, registers, reply_calls_to, reply_to_lost, unlinks, link_made, link_lost, forgets_till, core_without}
 use Rattle.gw_owes.specs.Transcript.{Carried, commanded, commanded_by, took_by, transcript_grown, is_number, FollowsTranscript, EachRowFollowsTranscript}
+use Rattle.gw_owes.specs.WaitingRows.{next_waiting_row, overdue_row, queue_row}
 use Rattle.gw_owes.specs.declared.terminal.Terminal.{Terminal}
 use Rattle.gw_owes.proofs.HandlingLemmas.{by-where, each-terminal, each-linked}
+use Rattle.gw_owes.proofs.NextLemmas.{each-next, each-overdue, each-queued}
 use Rattle.gw_owes.proofs.PaymentLemmas.{each-served}
 use Rattle.gw_owes.proofs.SetLemmas.{same-some}
 use Rattle.gw_owes.proofs.TerminalLemmas.{link-changes-alone, row-changes-alone}
@@ -294,6 +297,28 @@ link-of known number LinkIsMade = each-terminal (IsRowOf number) known number (r
 link-of known number LinkHasFailed = lost-of known number
 link-of known number LinkIsLost = lost-of known number
 
+-- what waits joins or leaves, and no terminal changes
+queue-of : (known : Known) (number till : ℕ) (header : Header) (request : SaleRequest) → AreCallsOf None (queue_row known number till header request).calls
+queue-of known number till header request = each-queued (λ (row : Row). AreCallsOf None row.calls) known number till header request (record { none = tt; joins = λ terminal key at. tt; taken = λ wait at. (tt, tt) })
+
+queue-terminals : (known : Known) (number till : ℕ) (header : Header) (request : SaleRequest) → (queue_row known number till header request).core.terminals ≡ known.core.terminals
+queue-terminals known number till header request = each-queued (λ (row : Row). row.core.terminals ≡ known.core.terminals) known number till header request (record { none = refl; joins = λ terminal key at. refl; taken = λ wait at. refl })
+
+overdue-of : (known : Known) (key : Key) → AreCallsOf None (overdue_row known key).calls
+overdue-of known key = each-overdue (λ (row : Row). AreCallsOf None row.calls) known key (record { none = tt; taken = λ wait is overdue. (tt, tt) })
+
+overdue-terminals : (known : Known) (key : Key) → (overdue_row known key).core.terminals ≡ known.core.terminals
+overdue-terminals known key = each-overdue (λ (row : Row). row.core.terminals ≡ known.core.terminals) known key (record { none = refl; taken = λ wait is overdue. refl })
+
+next-of : (known : Known) (number : ℕ) → IsRowOf number (next_waiting_row known number)
+next-of known number = each-next (IsRowOf number) known number (record {
+  none = tt;
+  refused = λ terminal last wait condition first is. (tt, tt);
+  begins = λ terminal last wait asking at. (tt, (tt, (tt, (tt, (refl, tt)))));
+  day = λ terminal last wait at. (refl, tt);
+  left = λ terminal last wait first. tt;
+})
+
 pub rows-of : (tills : List Connection) (known : Known) (item : RoundItem) → AreCallsOf (terminal_of item) (row_of tills known item).calls
 rows-of tills known (Crowded till) = (tt, tt)
 rows-of tills known (Message till bytes) = tt
@@ -303,11 +328,12 @@ rows-of tills known (Gone till) = tt
 rows-of tills known (Greet number apdu) = greet-of known number (decode_pt_message apdu)
 rows-of tills known (Handle number apdu) = handle-of known number apdu
 rows-of tills known (Serve number till header request) = serve-of known number till header request
-rows-of tills known (NextWaiting number) = tt
+rows-of tills known (Queue number till header request) = queue-of known number till header request
+rows-of tills known (NextWaiting number) = next-of known number
 rows-of tills known (Oversized number) = outside-of known number
 rows-of tills known (LinkLost number) = lost-of known number
 rows-of tills known (Late number) = late-of known number
-rows-of tills known (Overdue key) = tt
+rows-of tills known (Overdue key) = overdue-of known key
 rows-of tills known (Due number) = due-of known number
 
 -- the settings stay
@@ -320,11 +346,12 @@ rows-settings tills known (Gone till) = without-settings till known.core.termina
 rows-settings tills known (Greet number apdu) = (row-changes-alone known (Greet number apdu) number refl).settings
 rows-settings tills known (Handle number apdu) = (row-changes-alone known (Handle number apdu) number refl).settings
 rows-settings tills known (Serve number till header request) = (row-changes-alone known (Serve number till header request) number refl).settings
-rows-settings tills known (NextWaiting number) = refl
+rows-settings tills known (Queue number till header request) = ap (map (λ (terminal : Terminal). terminal.pt)) (queue-terminals known number till header request)
+rows-settings tills known (NextWaiting number) = (row-changes-alone known (NextWaiting number) number refl).settings
 rows-settings tills known (Oversized number) = (row-changes-alone known (Oversized number) number refl).settings
 rows-settings tills known (LinkLost number) = (row-changes-alone known (LinkLost number) number refl).settings
 rows-settings tills known (Late number) = (row-changes-alone known (Late number) number refl).settings
-rows-settings tills known (Overdue key) = refl
+rows-settings tills known (Overdue key) = ap (map (λ (terminal : Terminal). terminal.pt)) (overdue-terminals known key)
 rows-settings tills known (Due number) = (row-changes-alone known (Due number) number refl).settings
 
 -- ---- what a row leaves
@@ -385,6 +412,12 @@ till-follows : (known : Known) (pt : ℕ) (transcript : List Carried) (calls : L
 till-follows known pt transcript calls of has =
     subst (λ (l : List Carried). FollowsTranscript pt (l ++ transcript) known.core) (sym (other-owed None pt known.moment calls of (λ same. let n : None ≡ Some pt = same in cc)).0) has
 
+-- a row that changes no terminal
+waits-follow : (known : Known) (pt : ℕ) (transcript : List Carried) (row : Row) → row.core.terminals ≡ known.core.terminals → AreCallsOf None row.calls → FollowsTranscript pt transcript known.core → RowFollows known pt transcript row
+waits-follow known pt transcript row same of has =
+    subst (λ (l : List Carried). FollowsTranscript pt (l ++ transcript) row.core) (sym (other-owed None pt known.moment row.calls of (λ same. let n : None ≡ Some pt = same in cc)).0)
+    (same-follows pt transcript known.core row.core (ap (λ terminals. slice_get terminals pt) same) has)
+
 item-follows : EachRowFollowsTranscript → (tills : List Connection) (known : Known) (item : RoundItem) (pt : ℕ) (transcript : List Carried) (terminal : Terminal) → slice_get (row_of tills known item).core.terminals pt ≡ Some terminal
     → FollowsTranscript pt transcript known.core → cut_owed pt (row_of tills known item).calls ≡ false → ItemFollows tills known item pt transcript
 item-follows rows tills known (Crowded till) pt transcript terminal found has no_cut = has
@@ -397,11 +430,12 @@ item-follows rows tills known (Gone till) pt transcript terminal found has no_cu
 item-follows rows tills known (Greet number apdu) pt transcript terminal found has no_cut = row-follows rows known (Greet number apdu) number pt transcript refl refl (greet-of known number (decode_pt_message apdu)) has no_cut
 item-follows rows tills known (Handle number apdu) pt transcript terminal found has no_cut = row-follows rows known (Handle number apdu) number pt transcript refl refl (handle-of known number apdu) has no_cut
 item-follows rows tills known (Serve number till header request) pt transcript terminal found has no_cut = row-follows rows known (Serve number till header request) number pt transcript refl refl (serve-of known number till header request) has no_cut
-item-follows rows tills known (NextWaiting number) pt transcript terminal found has no_cut = row-follows rows known (NextWaiting number) number pt transcript refl refl tt has no_cut
+item-follows rows tills known (Queue number till header request) pt transcript terminal found has no_cut = waits-follow known pt transcript (queue_row known number till header request) (queue-terminals known number till header request) (queue-of known number till header request) has
+item-follows rows tills known (NextWaiting number) pt transcript terminal found has no_cut = row-follows rows known (NextWaiting number) number pt transcript refl refl (next-of known number) has no_cut
 item-follows rows tills known (Oversized number) pt transcript terminal found has no_cut = row-follows rows known (Oversized number) number pt transcript refl refl (outside-of known number) has no_cut
 item-follows rows tills known (LinkLost number) pt transcript terminal found has no_cut = link-follows known number LinkIsLost pt transcript terminal found (λ differs. has)
 item-follows rows tills known (Late number) pt transcript terminal found has no_cut = row-follows rows known (Late number) number pt transcript refl refl (late-of known number) has no_cut
-item-follows rows tills known (Overdue key) pt transcript terminal found has no_cut = has
+item-follows rows tills known (Overdue key) pt transcript terminal found has no_cut = waits-follow known pt transcript (overdue_row known key) (overdue-terminals known key) (overdue-of known key) has
 item-follows rows tills known (Due number) pt transcript terminal found has no_cut = row-follows rows known (Due number) number pt transcript refl refl (due-of known number) has no_cut
 
 -- ---- what holds along a course

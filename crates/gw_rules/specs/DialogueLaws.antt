@@ -14,15 +14,17 @@ use Rattle.zvt_talk.specs.Came.{is_taken}
 use Rattle.zvt_talk.specs.Talk.{is_end}
 use Rattle.zvt_talk.specs.declared.meaning.Heard.{Heard}
 use Rattle.zvt_talk.specs.declared.meaning.Heard.TheVariants.{Done, Told}
-use Rattle.gw_owes.specs.Core.{Core}
+use Rattle.gw_owes.specs.Core.{Core, Wait}
 use Rattle.gw_owes.specs.Handling.{meaning_at, taking, enquiry_command}
+use Rattle.gw_owes.specs.Items.{RoundItem, NextWaiting}
 use Rattle.gw_owes.specs.Reports.{on_record, least_reported}
+use Rattle.gw_owes.specs.Waits.{first_waiting, queue_of}
 use Rattle.gw_owes.specs.declared.terminal.Standing.{Standing}
 use Rattle.gw_owes.specs.declared.terminal.Standing.TheVariants.{Registering, Enquiring, Ready}
 use Rattle.gw_owes.specs.declared.terminal.Terminal.{Terminal}
 use Rattle.gw_rules.specs.Lawful.{MayPoll, IsCourse, turns_of, Stands}
 use Rattle.gw_rules.specs.LinkLaws.{EndsNone, HasSaid}
-use Rattle.gw_rules.specs.View.{View, Move, Make, view_from}
+use Rattle.gw_rules.specs.View.{View, Move, Begin, Make, after_turn, view_from}
 
 -- ---- what newly said APDUs mean
 
@@ -80,8 +82,19 @@ HasStanding core pt standing = (terminal : Terminal) × (slice_get core.terminal
 abbrev pub view_along : View → ℕ → List ℕ → List Move → View
 view_along v pt chunk moves = view_from v (Make (HeardPt pt chunk) ∷ moves)
 
--- a terminal whose enquiry reports a trace number is ready with it when the next poll may come, where that is no less than the least which it may report, by the records as the bytes come
+-- along this course the first request that waits for the terminal is looked at while it is ready with this number
+pub record LooksWhileReady (v : View) (moves : List Move) (pt reported : ℕ) : Type 0 where
+  pub earlier : List Move
+  pub later : List Move
+  pub moves_are : moves ≡ earlier ++ Begin ∷ later
+  pub rest : List RoundItem
+  pub items_are : (view_from v earlier).items ≡ NextWaiting pt ∷ rest
+  pub ready : HasStanding (view_from v earlier).scene.core pt (Ready reported)
+  pub wait : Wait
+  pub first_is : first_waiting (queue_of pt (view_from v earlier).scene.core.waits) ≡ Some wait
+
+-- a terminal whose enquiry reports a trace number is ready with it when the next poll may come, or was as the first request was looked at that waited for it, where that is no less than the least which it may report, by the records as the bytes come
 abbrev pub ReportMakesReady : Type 0
 ReportMakesReady =
     (log : List Turn) (v : View) (moves : List Move) (pt : ℕ) (terminal : Terminal) (reported : ℕ) (e : EndsAlong (IsReport reported) log v moves pt terminal Enquiring)
-    → least_reported (on_record v.scene.kept terminal.pt.poi) ≤ reported → HasStanding (view_along v pt e.chunk moves).scene.core pt (Ready reported)
+    → least_reported (on_record v.scene.kept terminal.pt.poi) ≤ reported → HasStanding (view_along v pt e.chunk moves).scene.core pt (Ready reported) ⊎ LooksWhileReady (after_turn v (HeardPt pt e.chunk)) moves pt reported

@@ -8,7 +8,7 @@ use Rattle.gw_site.specs.Turns.{IsCount}
 use Rattle.gw_site.specs.declared.turn.Turn.{Turn}
 use Rattle.gw_site.specs.declared.turn.Turn.TheVariants.{Start, OpenFailed, Polled, Opened, HeardTill, Closed, HeardPt, Lost, Stopped, Linked, LinkFailed, SentTill, SentPt, CutTill, CutPt, Wrote, Synced, DiskFailed, Crash}
 use Rattle.gw_owes.specs.Calls.{Sending, sending_bytes, OwedCall, SendTill, SendPt, LinkPt, Sync, write_turn, CutTill as OwedCutTill, CutPt as OwedCutPt}
-use Rattle.gw_owes.specs.Items.{RoundItem, Crowded, Message, Asked, Unframed, Gone, Greet, Handle, Serve, NextWaiting, Oversized, LinkLost, Late, Overdue, Due}
+use Rattle.gw_owes.specs.Items.{RoundItem, Crowded, Message, Asked, Unframed, Gone, Greet, Handle, Serve, Queue, NextWaiting, Oversized, LinkLost, Late, Overdue, Due}
 use Rattle.gw_owes.specs.ReadAs.{ReadAs, IsReadAs}
 use Rattle.gw_owes.specs.Reply.{ReplyValue, reply_value_bytes}
 use Rattle.gw_rules.specs.Scene.{Scene}
@@ -83,6 +83,7 @@ may_begin scene (Gone till ∷ items) = true
 may_begin scene (Greet pt apdu ∷ items) = true
 may_begin scene (Handle pt apdu ∷ items) = true
 may_begin scene (Serve pt till header request ∷ items) = true
+may_begin scene (Queue pt till header request ∷ items) = true
 may_begin scene (NextWaiting pt ∷ items) = true
 may_begin scene (Oversized pt ∷ items) = true
 may_begin scene (LinkLost pt ∷ items) = true
@@ -101,6 +102,7 @@ first_message (Gone till ∷ items) = None
 first_message (Greet pt apdu ∷ items) = None
 first_message (Handle pt apdu ∷ items) = None
 first_message (Serve pt till header request ∷ items) = None
+first_message (Queue pt till header request ∷ items) = None
 first_message (NextWaiting pt ∷ items) = None
 first_message (Oversized pt ∷ items) = None
 first_message (LinkLost pt ∷ items) = None

@@ -25,6 +25,8 @@ pub mod LinkLaws
 pub mod Opening
 pub mod OutsideLaws
 pub mod PaymentLogExample
+pub mod QueueExample
+pub mod QueueLaws
 pub mod RecordOrder
 pub mod RecoveryLogExample
 pub mod RowExample

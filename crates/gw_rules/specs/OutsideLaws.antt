@@ -12,7 +12,7 @@ use Rattle.zvt_msg.specs.declared.fault.PtFault.{PtFault}
 use Rattle.gw_owes.specs.Calls.{OwedCall, SendTill}
 use Rattle.gw_owes.specs.Core.{Core}
 use Rattle.gw_owes.specs.Events.{apdu_items, items_due}
-use Rattle.gw_owes.specs.Items.{RoundItem, Crowded, Message, Asked, Unframed, Gone, Greet, Handle, Serve, NextWaiting, Oversized, LinkLost, Late, Overdue, Due}
+use Rattle.gw_owes.specs.Items.{RoundItem, Crowded, Message, Asked, Unframed, Gone, Greet, Handle, Serve, Queue, NextWaiting, Oversized, LinkLost, Late, Overdue, Due}
 use Rattle.gw_owes.specs.Reply.{ReplyValue, reply_value_bytes}
 use Rattle.gw_owes.specs.TerminalLaws.{ChangesTerminalAlone}
 use Rattle.gw_owes.specs.Terminals.{with_terminal, unlinked_terminal, core_without, reply_calls_to, reply_to_lost}
@@ -34,6 +34,7 @@ IsOfBytes pt (Gone till) = ⊥
 IsOfBytes pt (Greet number apdu) = number ≡ pt
 IsOfBytes pt (Handle number apdu) = number ≡ pt
 IsOfBytes pt (Serve number till header request) = ⊥
+IsOfBytes pt (Queue number till header request) = ⊥
 IsOfBytes pt (NextWaiting number) = number ≡ pt
 IsOfBytes pt (Oversized number) = number ≡ pt
 IsOfBytes pt (LinkLost number) = ⊥

@@ -43,7 +43,7 @@ EachLogImageFolds =
 
 -- ---- while calls are owed
 
--- while the run goes on, a slot is left for the Outcome of each key that is open once what is owed at once is made, and for the Settled of each end of day that is served
+-- while the run goes on, a slot is left for the Outcome of each key that is open once what is owed at once is made, and for the Settled of each end of day that is served, and two for each request that waits
 abbrev pub EachLogLeavesSlots : Type 0
 EachLogLeavesSlots =
     (log : List Turn) (v : View) (setup : Setup) → Stands log v → v.scene.setup ≡ Some setup → is_running v.scene.stage ≡ true

@@ -1,5 +1,5 @@
 -- Example courses of a terminal that is linked, from where its link is owed, and along the turns that keep a record, from where they are owed. Beside them, examples of what a terminal is sent and who waits for it.
-use Rattle.std.specs.Prelude.{◌≡◌, ℕ, pos, false, true, List, [], ◌∷◌, ◌++◌, slice_get, Option, Some, None, codes}
+use Rattle.std.specs.Prelude.{◌≡◌, ℕ, ℤ, pos, false, true, List, [], ◌∷◌, ◌++◌, slice_get, Option, Some, None, codes}
 use Rattle.std.specs.Option.{option_map}
 use Rattle.gw_base.specs.declared.condition.Condition.TheVariants.{UnavailableDevice}
 use Rattle.gw_base.specs.declared.currency.Currency.TheVariants.{Eur}
@@ -24,6 +24,7 @@ use Rattle.gw_owes.specs.Core.{Wait, no_core, new_terminal}
 use Rattle.gw_owes.specs.Events.{waits_by_deadline}
 use Rattle.gw_owes.specs.Items.{Greet, Handle, NextWaiting, Late, Due}
 use Rattle.gw_owes.specs.Replies.{failure_reply}
+use Rattle.gw_owes.specs.StepExample.{euros, payment_header}
 use Rattle.gw_owes.specs.Terminals.{core_without}
 use Rattle.gw_rules.specs.Example.{example_setup, IsUnlawfulAfter, began, began_moves}
 use Rattle.gw_rules.specs.Lawful.{IsCourse, IsLawful}
@@ -165,9 +166,16 @@ pub record SendingsAreSpelled : Type 0 where
 
 -- ---- who waits for a terminal
 
--- a request that waits, by its ServiceID, its till and its deadline
-abbrev pub waiting : List ℕ → ℕ → ℕ → Wait
-waiting service till deadline = record { key = record { sale = codes "S1"; poi = codes "T1"; service = service }; pt = 0; till = till; deadline = deadline }
+-- a payment of 10.99 that waits, by its ServiceID, its till and its deadline
+abbrev pub waiting : List ℕ → ℕ → ℤ → Wait
+waiting service till deadline = record {
+  key = record { sale = codes "S1"; poi = codes "T1"; service = service };
+  pt = 0;
+  till = till;
+  deadline = deadline;
+  header = payment_header service;
+  request = euros 1099;
+}
 
 -- the terminal, which this till has asked
 abbrev pub asked_by : ℕ → Terminal
@@ -175,11 +183,11 @@ asked_by till = record (new_terminal example_pt) { asker = Some till }
 
 -- where a till is gone, its requests wait no longer and it is remembered at no terminal; those of another till stay
 abbrev pub GoneTillIsForgotten : Type 0
-GoneTillIsForgotten = core_without (record no_core { terminals = asked_by 7 ∷ asked_by 8 ∷ []; waits = waiting (codes "1") 7 3 ∷ waiting (codes "2") 8 3 ∷ [] }) 7 ≡ record no_core { terminals = new_terminal example_pt ∷ asked_by 8 ∷ []; waits = waiting (codes "2") 8 3 ∷ [] }
+GoneTillIsForgotten = core_without (record no_core { terminals = asked_by 7 ∷ asked_by 8 ∷ []; waits = waiting (codes "1") 7 (pos 3) ∷ waiting (codes "2") 8 (pos 3) ∷ [] }) 7 ≡ record no_core { terminals = new_terminal example_pt ∷ asked_by 8 ∷ []; waits = waiting (codes "2") 8 (pos 3) ∷ [] }
 
 -- the requests that wait come by their deadline, and those of one deadline by their acceptance
 abbrev pub WaitsByDeadline : Type 0
-WaitsByDeadline = waits_by_deadline (waiting (codes "1") 7 5 ∷ waiting (codes "2") 7 3 ∷ waiting (codes "3") 7 5 ∷ waiting (codes "4") 7 3 ∷ []) ≡ waiting (codes "2") 7 3 ∷ waiting (codes "4") 7 3 ∷ waiting (codes "1") 7 5 ∷ waiting (codes "3") 7 5 ∷ []
+WaitsByDeadline = waits_by_deadline (waiting (codes "1") 7 (pos 5) ∷ waiting (codes "2") 7 (pos 3) ∷ waiting (codes "3") 7 (pos 5) ∷ waiting (codes "4") 7 (pos 3) ∷ []) ≡ waiting (codes "2") 7 (pos 3) ∷ waiting (codes "4") 7 (pos 3) ∷ waiting (codes "1") 7 (pos 5) ∷ waiting (codes "3") 7 (pos 5) ∷ []
 
 -- ---- a record
 

@@ -6,7 +6,7 @@ use Rattle.gw_site.specs.declared.turn.Turn.TheVariants.{SentTill}
 use Rattle.sale_values.specs.declared.header.Header.{Header}
 use Rattle.sale_values.specs.declared.request.SaleRequest.{SaleRequest}
 use Rattle.gw_owes.specs.AskerLaws.{tills_sent}
-use Rattle.gw_owes.specs.Items.{RoundItem, Gone, Serve}
+use Rattle.gw_owes.specs.Items.{RoundItem, Gone, Serve, Queue}
 use Rattle.gw_owes.specs.declared.terminal.Terminal.{Terminal}
 use Rattle.gw_rules.specs.Lawful.{IsLawful, Stands}
 use Rattle.gw_rules.specs.View.{View}
@@ -48,6 +48,12 @@ abbrev pub EachServedIsThere : Type 0
 EachServedIsThere =
     (log : List Turn) (v : View) → Stands log v → (number till : ℕ) (terminal : Terminal) → slice_get v.scene.core.terminals number ≡ Some terminal → terminal.asker ≡ Some till
     → (is_there_after log till ≡ true) ⊎ IsLeaving v till
+
+-- so is the till whose request joins those that wait, or takes one of them out, next
+abbrev pub EachQueueingIsThere : Type 0
+EachQueueingIsThere =
+    (log : List Turn) (v : View) → Stands log v → (number till : ℕ) (header : Header) (request : SaleRequest) (rest : List RoundItem) → v.items ≡ Queue number till header request ∷ rest
+    → is_there_after log till ≡ true
 
 -- and so is the till whose request a terminal is to begin to serve next
 abbrev pub EachBeginningIsThere : Type 0

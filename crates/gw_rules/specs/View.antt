@@ -8,7 +8,7 @@ use Rattle.jrn_record.specs.declared.records.Record.{Record}
 use Rattle.gw_owes.specs.Calls.{OwedCall, SendTill, SendPt, LinkPt, WriteBody, WriteGate, WriteFirstGate, Sync, CutTill as OwedCutTill, CutPt as OwedCutPt}
 use Rattle.gw_owes.specs.Core.{Core, no_core, new_core}
 use Rattle.gw_owes.specs.Events.{till_opened_items, till_bytes_items, pt_bytes_items, items_due}
-use Rattle.gw_owes.specs.Items.{RoundItem, Crowded, Message, Asked, Unframed, Gone, Greet, Handle, Serve, NextWaiting, Oversized, LinkLost, Late, Overdue, Due}
+use Rattle.gw_owes.specs.Items.{RoundItem, Crowded, Message, Asked, Unframed, Gone, Greet, Handle, Serve, Queue, NextWaiting, Oversized, LinkLost, Late, Overdue, Due}
 use Rattle.gw_owes.specs.ReadAs.{ReadAs}
 use Rattle.gw_owes.specs.Row.{Row}
 use Rattle.gw_owes.specs.Terminals.{core_without}
@@ -185,6 +185,7 @@ read_first as_read (Gone till ∷ items) = Gone till ∷ items
 read_first as_read (Greet pt apdu ∷ items) = Greet pt apdu ∷ items
 read_first as_read (Handle pt apdu ∷ items) = Handle pt apdu ∷ items
 read_first as_read (Serve pt till header request ∷ items) = Serve pt till header request ∷ items
+read_first as_read (Queue pt till header request ∷ items) = Queue pt till header request ∷ items
 read_first as_read (NextWaiting pt ∷ items) = NextWaiting pt ∷ items
 read_first as_read (Oversized pt ∷ items) = Oversized pt ∷ items
 read_first as_read (LinkLost pt ∷ items) = LinkLost pt ∷ items

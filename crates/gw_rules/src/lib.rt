@@ -1,6 +1,8 @@
 //! Which logs are lawful: what is owed after each turn, by the rows of what is owed, and which turns may come next.
 #![tactic(auto)]
 
+mod queue_laws;
+
 ghost use Rattle.gw_rules.specs.Example.{BadFrameIsLawful, CrashLeavesNoOther, CrashedIsLawful, CrowdedIsLawful, DiskFailureEnds, FailedSendIsLawful, GateEndsLooking, LooksMayFail, NoRunWhereNotOpened, NothingToLookAt, NothingToLookAtLater, PollBeforeCut, PollBeforeReply, PollEndsLooking, PollWhileCrowded, RefusedIsNotPolled, RestartedIsLawful, SilentIsLawful, StatusIsLawful, UnaskedReply};
 ghost use Rattle.gw_rules.specs.JournalFiles.{EachHasJournalFiles, KeepingHasJournal, KeepingLeavesJournals, KeptFileIsJournal, OpenedHasJournal, OpeningHasJournal, OpeningLeavesJournalFiles};
 ghost use Rattle.gw_rules.specs.KeptExample.{FlightIsKept, UnsyncedKeepsNone};
@@ -30,9 +32,11 @@ ghost use Rattle.gw_rules.specs.TerminalLogExample.{DeclinedIsLawful, DoneIsEnqu
 ghost use Rattle.gw_rules.specs.StopLogs.{EachStopIsWishedOnce, ExampleStops, StopIsSentOnce};
 ghost use Rattle.gw_rules.specs.Laws.{BadFrameCuts, CallsEndInOne, CrowdedCuts, EachHasOneLeanCourse, EachHeardIsBytes, PrefixIsLawful, PtBytesBring, RestartIsLawful, SetupIsWithinLimits, TillBytesBring};
 ghost use Rattle.gw_rules.specs.TranscriptLaws.{ClearOwesItsCalls, EachCommandWasSent, EachLogFollowsTranscript, EachMessageWasSaid, EachPollFollowsTranscript, ExampleLogTranscript};
-ghost use Rattle.gw_rules.specs.TillLaws.{EachBeginningIsThere, EachServedIsThere, EachUsesTills, OwedIsThere};
+ghost use Rattle.gw_rules.specs.TillLaws.{EachBeginningIsThere, EachQueueingIsThere, EachServedIsThere, EachUsesTills, OwedIsThere};
 ghost use Rattle.gw_rules.specs.TillLogExample.{ClosedTillIsLawful, UnsentDayIsLawful};
 ghost use Rattle.gw_rules.specs.TrickleExample.{PollBeforeTrickleCut, TrickleIsCut, TrickleIsSilent};
+
+pub use queue_laws::law_queues;
 
 /// Along each lawful log there is exactly one course in which nothing begins unless a turn of its run follows.
 pub fn law_one_course()
@@ -104,7 +108,7 @@ pub fn law_links()
 
 /// Along each lawful log a till is sent something, or that fails, only while it is there: each till that is owed anything at once is. The
 /// till of what a terminal serves is there, or has just closed its connection, which is handled next; and so is the till whose request a
-/// terminal is to begin to serve next.
+/// terminal is to begin to serve next, or whose request next joins those that wait, or takes one of them out.
 ///
 /// In an example a till closes in the middle of the device requests of its payment: it gets none after, and no other till does; the
 /// payment ends and its Outcome is kept, and nobody gets a reply.
@@ -113,6 +117,7 @@ pub fn law_tills()
     ensures owed { OwedIsThere }
     ensures served { EachServedIsThere }
     ensures begins { EachBeginningIsThere }
+    ensures queues { EachQueueingIsThere }
     ensures closed_example { ClosedTillIsLawful }
 {}
 
@@ -193,7 +198,7 @@ pub fn law_silent_dialogue_cuts()
 
 /// Along each lawful course, a terminal that registers, and with newly heard bytes says APDUs that end its registration as done, is sent its
 /// enquiry before the next poll; and one that is enquired, and so reports a trace number, is ready with that number when the next poll may
-/// come, where that is none below the least that it may report: by the records as the bytes come the number before its open payment or
+/// come, or was as the first request was looked at that waited for it, where that is none below the least that it may report: by the records as the bytes come the number before its open payment or
 /// reversal, or its last trace number where it has none. What was open is resolved then, as no key of a terminal that is ready is open, by
 /// `law_records_in_order`. So it is unless its link ends before, and however the bytes split the APDUs.
 pub fn law_dialogue_ends()
@@ -237,6 +242,7 @@ pub fn law_journal_files()
     ensures keeping_on { KeepingKeepsFiles }
 {
     gw_owes::law_records();
+    gw_owes::law_waits();
 }
 
 /// What is kept in the journal, at each moment of a log of a gateway that keeps one, whichever rows owe that a record is kept: the
@@ -268,6 +274,7 @@ pub fn law_kept_files()
     ensures unsynced { UnsyncedKeepsNone }
 {
     gw_owes::law_records();
+    gw_owes::law_waits();
 }
 
 /// The ledger of the records that are kept can be built at each opening: those of the file, and those of whatever a power failure leaves,
@@ -282,14 +289,16 @@ pub fn law_openings()
     ensures example { RefusedAtLimits }
 {
     gw_owes::law_records();
+    gw_owes::law_waits();
 }
 
 /// After each lawful log the records fold: those that are kept, those of the file, those once the calls that are owed at once are made,
 /// and those of whatever a power failure leaves. While the run goes on they leave a slot for the Outcome of each open key and the
-/// Settled of each end of day that is served; and until a call on the disk fails, they have what the standing of each terminal says, but of
-/// one whose cut is owed. So between items what is known is in order: of a terminal that is ready no key is open, a payment or a reversal
-/// that a terminal serves is its one open key, and the key of an end of day that one serves is unknown to the records. Each message that
-/// is to be handled, and each request that a terminal is to begin to serve, was read from bytes.
+/// Settled of each end of day that is served, and two for each request that waits; and until a call on the disk fails, they have what the
+/// standing of each terminal says, but of one whose cut is owed. So between items what is known is in order: of a terminal that is ready no
+/// key is open, a payment or a reversal that a terminal serves is its one open key, and the key of an end of day that one serves is
+/// unknown to the records. Each message that is to be handled, and each request that a terminal is to begin to serve, or that joins those
+/// that wait for it, was read from bytes.
 pub fn law_records_in_order()
     ensures folds { EachLogFolds }
     ensures images { EachLogImageFolds }
@@ -302,6 +311,7 @@ pub fn law_records_in_order()
     ensures day { DayServedIsUnknown }
 {
     gw_owes::law_records();
+    gw_owes::law_waits();
 }
 
 /// A request gets its reply, and nothing is sent and no poll comes instead; where the send of the reply fails, the till is
@@ -470,6 +480,7 @@ pub fn law_day_logs()
 {
     gw_owes::law_transcript();
     gw_owes::law_records();
+    gw_owes::law_waits();
 }
 
 /// A record is in flight once its gate is written, and kept once that is synced. A start leaves it in flight; a power failure

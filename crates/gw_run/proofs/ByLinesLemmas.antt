@@ -15,7 +15,7 @@ use Rattle.gw_script.proofs.site.EventLemmas.{run-has-events}
 use Rattle.gw_rules.specs.Lawful.{IsLawful, turns_of}
 use Rattle.gw_run.specs.Laws.{LogGoesByLines, LogHasEvents}
 use Rattle.gw_run.specs.ScriptLog.{IsLogOf, IsRunWith, IsStopped}
-use Rattle.gw_run.specs.Served.{served_script}
+use Rattle.gw_script.specs.site.Decode.{script_of}
 use Rattle.gw_run.proofs.ByLinesActLemmas.{acts-of-run}
 use Rattle.gw_run.proofs.EndLemmas.{StartsOn, run-to-stop, start-calm, starts-on, stops-later}
 use Rattle.gw_run.proofs.PlainLemmas.{plain-runs}
@@ -68,7 +68,7 @@ log-has-events text script log e x run stopped =
     let r = runs-to-stop setup log (log-is-played.lawful text log x) run stopped in
     subst (HasEventsOf script.lines) (sym r.starts.log_is) (run-has-events script.lines setup (turns_of r.starts.moves) r.to_stop (subst (PlaysLines script.lines) r.starts.log_is (log-is-played.plays text script log e x)))
 
-log-goes : (text : List ℕ) (script : Script) (log : List Turn) → served_script text ≡ Ok script → HasNoFailures script.lines → IsLogOf text log → IsLawful log × IsRunWith (setup_of script.given) log × GoesByLines script.lines log
+log-goes : (text : List ℕ) (script : Script) (log : List Turn) → script_of text ≡ Ok script → HasNoFailures script.lines → IsLogOf text log → IsLawful log × IsRunWith (setup_of script.given) log × GoesByLines script.lines log
 log-goes text script log e plain x =
     let setup = setup_of script.given in
     let lawful = log-is-played.lawful text log x in
@@ -78,7 +78,7 @@ log-goes text script log e plain x =
     let goes = plain-lines-go-on script.lines setup (turns_of r.starts.moves) plain r.to_stop (subst (PlaysLines script.lines) r.starts.log_is plays) in
     (lawful, run, subst (GoesByLines script.lines) (sym r.starts.log_is) goes)
 
-log-of-lines : (text : List ℕ) (script : Script) (log : List Turn) → served_script text ≡ Ok script → HasNoFailures script.lines → IsLawful log → IsRunWith (setup_of script.given) log → GoesByLines script.lines log → IsLogOf text log
+log-of-lines : (text : List ℕ) (script : Script) (log : List Turn) → script_of text ≡ Ok script → HasNoFailures script.lines → IsLawful log → IsRunWith (setup_of script.given) log → GoesByLines script.lines log → IsLogOf text log
 log-of-lines text script log e plain lawful run goes =
     let setup = setup_of script.given in
     let stops = log-ends script.lines log goes in

@@ -24,7 +24,7 @@ use Rattle.gw_rules.proofs.PrefixLemmas.{lawful-along}
 use Rattle.gw_rules.proofs.RowExampleLemmas.{formed}
 use Rattle.gw_rules.proofs.TestedLemmas.{course-tested}
 use Rattle.gw_rules.proofs.TextLemmas.{ident-tested}
-use Rattle.gw_run.specs.Served.{served_script}
+use Rattle.gw_script.specs.site.Decode.{script_of}
 use Rattle.gw_run.specs.Example.{status_script, links_script, links_pt, links_setup, links_log, StatusIsOfScript, StatusHasText, LinksIsOfScript, LinksHasText}
 use Rattle.gw_run.proofs.ByLinesLemmas.{log-by-lines}
 use Rattle.gw_run.proofs.ExampleActLemmas.{Doing, ItemsBegin, Step, acts_of, due-of, before_last, onward, power-of, turns-of}
@@ -35,7 +35,7 @@ use Rattle.gw_run.proofs.ExampleActLemmas.{Doing, ItemsBegin, Step, acts_of, due
 abbrev status_read : Script
 status_read = record { given = nothing_given; lines = Poll (Open 1) ∷ Poll (FromTill 1 (frame status_request)) ∷ [] }
 
-status-served : served_script status_script ≡ Ok status_read
+status-served : script_of status_script ≡ Ok status_read
 unfolding status_request is_utf8 chars encode decode_pairs
 status-served = refl
 
@@ -73,7 +73,7 @@ links_read = record {
   lines = Poll Tick ∷ Fail (FailSendPt 0 3) ∷ Poll (Lose 0) ∷ At (pos 5) ∷ Poll Tick ∷ Fail (FailLink 0) ∷ At (pos 10) ∷ Poll Tick ∷ [];
 }
 
-links-served : served_script links_script ≡ Ok links_read
+links-served : script_of links_script ≡ Ok links_read
 unfolding is_utf8 chars encode decode_pairs
 links-served = refl
 

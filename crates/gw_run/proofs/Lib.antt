@@ -1,5 +1,4 @@
 -- The lemmas of the top call: scripts read and played, the text of a log, and its end.
-pub mod AgreeLemmas
 pub mod ByLinesActLemmas
 pub mod ByLinesLemmas
 pub mod EndLemmas
@@ -17,7 +16,8 @@ pub mod RefusedLemmas
 pub mod ReplayLemmas
 pub mod RunEndLemmas
 pub mod RunsLemmas
-pub mod ServedLemmas
+pub mod ServeLemmas
 pub mod SiteRunLemmas
 pub mod TextLemmas
 pub mod TopLemmas
+pub mod WordsLemmas

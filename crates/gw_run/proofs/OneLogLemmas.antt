@@ -26,7 +26,7 @@ use Rattle.gw_rules.proofs.CourseLemmas.{begin-stage}
 use Rattle.gw_rules.proofs.StageLemmas.{looking-not-round, no-call, no-true, round-busy}
 use Rattle.gw_run.specs.Laws.{OneLog, LogHasScript}
 use Rattle.gw_run.specs.ScriptLog.{IsEnded, IsLogOf}
-use Rattle.gw_run.specs.Served.{served_script}
+use Rattle.gw_script.specs.site.Decode.{script_of}
 use Rattle.gw_run.proofs.OneLogKeptLemmas.{Kept, kept-after, kept-round, kept-unopened}
 use Rattle.gw_run.proofs.OneLogStepLemmas.{EndsAt, Goes, IsCallStep, ends-at, first-call, first-step, goes-begin, goes-on, goes-read, rests-idle, to-read-looks, turns-before}
 
@@ -300,7 +300,7 @@ same-log (suc n) own v look past p xs ys size kept g h = by-power n (same-log n)
 -- ---- the law
 
 -- two scripts of one text are the same
-pub one-script : (text : List ℕ) (script other : Script) → served_script text ≡ Ok script → served_script text ≡ Ok other → script ≡ other
+pub one-script : (text : List ℕ) (script other : Script) → script_of text ≡ Ok script → script_of text ≡ Ok other → script ≡ other
 one-script text script other e f = let h : Ok script ≡ Ok other = sym e ∙ f in cc
 
 -- the acts of the log of a script, from the beginning

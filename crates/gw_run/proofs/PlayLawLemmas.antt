@@ -24,7 +24,7 @@ use Rattle.gw_rules.specs.View.{View, Begin, Read, Make, after, at_first, view_f
 use Rattle.gw_rules.proofs.ActLemmas.{turns-of-acts}
 use Rattle.gw_rules.proofs.PrefixLemmas.{lawful-along}
 use Rattle.gw_run.specs.Laws.{LogIsPlayed}
-use Rattle.gw_run.specs.Served.{served_script}
+use Rattle.gw_script.specs.site.Decode.{script_of}
 use Rattle.gw_run.specs.ScriptLog.{AreRuns, IsLogOf, is_opening, is_power_failure}
 use Rattle.gw_run.proofs.OneLogLemmas.{one-script}
 use Rattle.gw_run.proofs.OneLogStepLemmas.{Goes, IsCallStep, IsPastOpening, IsPowerStep, first-step, goes-begin, goes-on, goes-read, opened-after, turns-before}
@@ -217,7 +217,7 @@ own-runs text log x =
     subst (AreRuns (setup_of x.script.given) true) x.done.log_is
     (are-runs (setup_of x.script.given) x.acts at_first Unopened [] (begins x.script.lines) (λ e. refl) (record { lawful = x.done.lawful; due = x.done.due; turns = x.power }))
 
-pub log-plays : (text : List ℕ) (script : Script) (log : List Turn) → served_script text ≡ Ok script → IsLogOf text log → PlaysLines script.lines log
+pub log-plays : (text : List ℕ) (script : Script) (log : List Turn) → script_of text ≡ Ok script → IsLogOf text log → PlaysLines script.lines log
 log-plays text script log e x = subst (λ (s : Script). PlaysLines s.lines log) (one-script text x.script script x.script_is e) (own-plays text log x)
 
 pub log-is-played : LogIsPlayed

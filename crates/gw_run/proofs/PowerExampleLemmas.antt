@@ -17,7 +17,7 @@ use Rattle.gw_rules.specs.View.{Make, at_first}
 use Rattle.gw_rules.proofs.CourseLemmas.{course-append}
 use Rattle.gw_rules.proofs.TextLemmas.{bytes-tested, setup-formed}
 use Rattle.gw_run.specs.PowerExample.{plain_setup, power_script, power_log, unopened_script, unmeasured_script, later_script, later_log, PowerIsOfScript, PowerHasText, UnopenedIsOfScript, UnmeasuredIsOfScript, LaterIsOfScript}
-use Rattle.gw_run.specs.Served.{served_script}
+use Rattle.gw_script.specs.site.Decode.{script_of}
 use Rattle.gw_run.proofs.ExampleActLemmas.{Doing, Step, acts_of, due-of, before_last, power-of, turns-of}
 
 -- ---- a site that can't be opened
@@ -26,7 +26,7 @@ use Rattle.gw_run.proofs.ExampleActLemmas.{Doing, Step, acts_of, due-of, before_
 abbrev unopened_read : Script
 unopened_read = record { given = nothing_given; lines = Fail FailOpen ∷ Poll (Open 1) ∷ [] }
 
-unopened-served : served_script unopened_script ≡ Ok unopened_read
+unopened-served : script_of unopened_script ≡ Ok unopened_read
 unfolding is_utf8 chars encode decode_pairs
 unopened-served = refl
 
@@ -51,7 +51,7 @@ unopened-of-script = record {
 abbrev unmeasured_read : Script
 unmeasured_read = record { given = nothing_given; lines = Fail FailLength ∷ Poll (Open 1) ∷ [] }
 
-unmeasured-served : served_script unmeasured_script ≡ Ok unmeasured_read
+unmeasured-served : script_of unmeasured_script ≡ Ok unmeasured_read
 unfolding is_utf8 chars encode decode_pairs
 unmeasured-served = refl
 
@@ -76,7 +76,7 @@ unmeasured-of-script = record {
 abbrev later_read : Script
 later_read = record { given = nothing_given; lines = Poll (Open 1) ∷ Fail FailLength ∷ Power 0 New ∷ Poll (Open 2) ∷ [] }
 
-later-served : served_script later_script ≡ Ok later_read
+later-served : script_of later_script ≡ Ok later_read
 unfolding is_utf8 chars encode decode_pairs
 later-served = refl
 
@@ -110,7 +110,7 @@ later-of-script = record {
 abbrev power_read : Script
 power_read = record { given = nothing_given; lines = Power 0 (Junk 65) ∷ Poll (Open 1) ∷ [] }
 
-power-served : served_script power_script ≡ Ok power_read
+power-served : script_of power_script ≡ Ok power_read
 unfolding is_utf8 chars encode decode_pairs
 power-served = refl
 

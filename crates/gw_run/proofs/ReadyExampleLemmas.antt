@@ -27,7 +27,7 @@ use Rattle.gw_rules.proofs.TestedLemmas.{passes_course, course-tested}
 use Rattle.gw_run.specs.Example.{links_pt, links_setup}
 use Rattle.gw_run.specs.ReadyExample.{ready_script, ready_script_course, ready_script_log, ReadyIsOfScript, ReadyHasText, failed_link_log, FailedIsNotOfScript}
 use Rattle.gw_run.specs.ScriptLog.{IsLogOf}
-use Rattle.gw_run.specs.Served.{served_script}
+use Rattle.gw_script.specs.site.Decode.{script_of}
 use Rattle.gw_run.proofs.ByLinesLemmas.{log-by-lines}
 use Rattle.gw_run.proofs.ExampleActLemmas.{before_last, onward}
 use Rattle.gw_run.proofs.ExampleLemmas.{links-formed}
@@ -46,7 +46,7 @@ ready_read = record {
   lines = Poll Tick ∷ Poll (FromPt 0 (ack ++ completion)) ∷ At (pos 1) ∷ Poll (FromPt 0 (ack ++ approved_status ++ completion)) ∷ [];
 }
 
-ready-served : served_script ready_script ≡ Ok ready_read
+ready-served : script_of ready_script ≡ Ok ready_read
 unfolding is_utf8 chars encode decode_pairs
 ready-served = refl
 

@@ -3,8 +3,10 @@ use Rattle.std.proofs.Common.{◌≡◌, ℕ, List, refl, sym, ◌∙◌, ap, su
 use Rattle.std.specs.Prelude.{Option, Some, None, Ok, Err}
 use Rattle.gw_bytes.specs.Bytes.{IsPrefix}
 use Rattle.gw_site.specs.declared.turn.Turn.{Turn}
-use Rattle.gw_run.specs.Served.{served_script}
-use Rattle.gw_run.specs.Top.{Stream, Cause, HasLogBefore, HasRisen, IfBytesObserved, IsAccepted, ShowsEnd, IsLogWithin, IsPlayStatus, IsReadWhole, IsScript, IsScriptBefore, IsScriptLeft, IsStatusAfter, IsWrongAt, Prints, PrintsPrefix, Printed, status_of, tail_of}
+use Rattle.gw_script.specs.Decode.{script_limit}
+use Rattle.gw_script.specs.site.Decode.{script_of}
+use Rattle.gw_run.specs.Words.{AskForReplay}
+use Rattle.gw_run.specs.Top.{Stream, Cause, HasLogBefore, HasRisen, IfBytesObserved, ShowsEnd, IsLogWithin, IsPlayStatus, IsReadWhole, IsScript, IsScriptBefore, IsScriptLeft, IsStatusAfter, IsWrongAt, Prints, PrintsPrefix, Printed, status_of, tail_of}
 use Rattle.gw_run.specs.Replay.{HasEnd, IsEndAfter, IsInputFault, IsInputRead, IsPlayEnd, IsReportedEnd, IsTextEnd, IsTextFault, PlayPrinted, TextPrinted, WritesTail}
 use Rattle.gw_run.specs.declared.ending.Ending.{Ending}
 use Rattle.gw_run.specs.declared.ending.Ending.TheVariants.{Played, Words, Long, Line as AtLine, Input, NotOpened, Memory, OutputFailed, Disk, LongJournal, CutJournal, BadSlot}
@@ -54,10 +56,10 @@ fault-printed Could ending result input added h memory could (inr (inr (failed, 
 
 -- the cause of the end that is reported is that of the end, or no memory, or a failed write
 pub observed-cause : (ending result : Ending) (words : List (List ℕ)) (input out : Stream)
-    → IsAccepted words → Cause ending words input out → (result ≡ OutputFailed → HasRisen out) → IsReportedEnd ending result → Cause result words input out
-observed-cause ending result words input out acc cause failed (inl same) = rw same cause
-observed-cause ending result words input out acc cause failed (inr (inl (memory, names))) = rw memory acc
-observed-cause ending result words input out acc cause failed (inr (inr e)) = rw e (failed e)
+    → Cause ending words input out → (result ≡ OutputFailed → HasRisen out) → IsReportedEnd ending result → Cause result words input out
+observed-cause ending result words input out cause failed (inl same) = rw same cause
+observed-cause ending result words input out cause failed (inr (inl (memory, names))) = rw memory tt
+observed-cause ending result words input out cause failed (inr (inr e)) = rw e (failed e)
 
 -- what was printed by ends that could have come, where others could then
 printed-as : (Could Other : Ending → Type 0) (result : Ending) (input : Option (List ℕ)) (text : List ℕ)
@@ -136,12 +138,12 @@ text-fault-printed text fault result added h w = λ input i. fault-printed (IsTe
 
 -- the cause of the end of a text's replay
 pub text-cause : (result : Ending) (words : List (List ℕ)) (input out : Stream) (text : List ℕ)
-    → IsAccepted words → IsReadWhole input (λ all. text ≡ all) → (result ≡ OutputFailed → HasRisen out) → IsTextEnd text result → Cause result words input out
+    → AskForReplay words → IsReadWhole input (λ all. text ≡ all) → (result ≡ OutputFailed → HasRisen out) → IsTextEnd text result → Cause result words input out
 text-cause Played words input out text acc read failed end = (acc, λ all e. let x = read all e in (x.0, subst (IsScriptBefore Played) x.1 end))
 text-cause NotOpened words input out text acc read failed end = (acc, λ all e. let x = read all e in (x.0, subst (IsScriptBefore NotOpened) x.1 end))
 text-cause Disk words input out text acc read failed end = (acc, λ all e. let x = read all e in (x.0, subst (IsScriptBefore Disk) x.1 end))
 text-cause (AtLine line) words input out text acc read failed end = (acc, λ all e. let x = read all e in (x.0, subst (IsWrongAt line) x.1 end))
-text-cause Memory words input out text acc read failed end = acc
+text-cause Memory words input out text acc read failed end = tt
 text-cause OutputFailed words input out text acc read failed end = failed refl
 text-cause Words words input out text acc read failed end = absurd end
 text-cause Long words input out text acc read failed end = absurd end
@@ -152,7 +154,7 @@ text-cause (BadSlot slot) words input out text acc read failed end = absurd end
 
 -- what a replay prints of a text
 pub text-printed : (result : Ending) (words : List (List ℕ)) (input out : Stream) (text added : List ℕ)
-    → IsAccepted words → IsReadWhole input (λ all. text ≡ all) → TextPrinted text result added → Printed (λ other. Cause other words input out) input.before result added
+    → AskForReplay words → IsReadWhole input (λ all. text ≡ all) → TextPrinted text result added → Printed (λ other. Cause other words input out) input.before result added
 text-printed result words input out text added acc read printed =
     printed-as (IsTextEnd text) (λ other. Cause other words input out) result input.before added
     (λ ending whole end w. text-cause ending words input out text acc read (λ e. absurd (subst (λ other. Prints other input.before whole) e w)) end)
@@ -166,7 +168,7 @@ text-complete Disk input text script read end = tt
 text-complete Memory input text script read end = tt
 text-complete OutputFailed input text script read end = tt
 text-complete (AtLine line) None text script read end = absurd script
-text-complete (AtLine line) (Some bytes) text script read end = absurd (let n : Ok script.1.0 ≡ Err line = sym script.1.1 ∙ sym (ap served_script (read bytes refl)) ∙ end.1 in cc)
+text-complete (AtLine line) (Some bytes) text script read end = absurd (let n : Ok script.1.0 ≡ Err line = sym script.1.1 ∙ sym (ap script_of (read bytes refl)) ∙ end.1 in cc)
 text-complete Words input text script read end = absurd end
 text-complete Long input text script read end = absurd end
 text-complete Input input text script read end = absurd end
@@ -191,10 +193,10 @@ input-fault (BadSlot slot) h = absurd h
 
 -- the cause of a fault of the reading
 pub input-cause : (fault : Ending) (words : List (List ℕ)) (input out : Stream)
-    → IsAccepted words → IsInputFault fault → (fault ≡ Input → HasRisen input) → IfBytesObserved input.before (λ all. IsInputRead (Err fault) all input.after) → Cause fault words input out
+    → AskForReplay words → IsInputFault fault → (fault ≡ Input → HasRisen input) → IfBytesObserved input.before (λ all. IsInputRead script_limit (Err fault) all input.after) → Cause fault words input out
 input-cause Long words input out acc h rose long = (acc, long)
 input-cause Input words input out acc h rose long = (acc, rose refl, long)
-input-cause Memory words input out acc h rose long = acc
+input-cause Memory words input out acc h rose long = tt
 input-cause Played words input out acc h rose long = absurd h
 input-cause Words words input out acc h rose long = absurd h
 input-cause (AtLine line) words input out acc h rose long = absurd h
@@ -212,7 +214,7 @@ reported-end ending result h (inr (inr e)) = rw e tt
 
 -- where the input is a script and no reading failed, the reading can only want memory
 pub input-complete : (fault result : Ending) (input left : Option (List ℕ)) (input_rose : Type 0)
-    → IsInputFault fault → (fault ≡ Input → input_rose) → IfBytesObserved input (λ all. IsInputRead (Err fault) all left) → IsScriptLeft input → (input_rose → ⊥) → IsReportedEnd fault result → IsPlayEnd result
+    → IsInputFault fault → (fault ≡ Input → input_rose) → IfBytesObserved input (λ all. IsInputRead script_limit (Err fault) all left) → IsScriptLeft input → (input_rose → ⊥) → IsReportedEnd fault result → IsPlayEnd result
 input-complete Long result None left input_rose h rose long script calm observed = absurd script
 input-complete Long result (Some bytes) left input_rose h rose long script calm observed = absurd (let a = (long bytes refl).long in let b = script.0 in omega arith)
 input-complete Input result input left input_rose h rose long script calm observed = absurd (calm (rose refl))
@@ -276,7 +278,7 @@ replay-after result text other log out_rose same is failed calm end = text-after
 
 -- a fault of the reading, of which only that there was no memory may come
 pub fault-after : (fault result : Ending) (left : Option (List ℕ)) (text : List ℕ) (log : List Turn) (input_rose out_rose : Type 0) (after : Option (List ℕ))
-    → IsInputFault fault → (fault ≡ Input → input_rose) → IfBytesObserved left (λ all. IsInputRead (Err fault) all after) → left ≡ Some text → IsLogWithin text log → (input_rose → ⊥) → IsReportedEnd fault result → (result ≡ OutputFailed → out_rose) → (out_rose → ⊥) → IsEndAfter log result
+    → IsInputFault fault → (fault ≡ Input → input_rose) → IfBytesObserved left (λ all. IsInputRead script_limit (Err fault) all after) → left ≡ Some text → IsLogWithin text log → (input_rose → ⊥) → IsReportedEnd fault result → (result ≡ OutputFailed → out_rose) → (out_rose → ⊥) → IsEndAfter log result
 fault-after Memory result left text log input_rose out_rose after h rose long e is calm reported failed written = elim reported [
   | inl same ↦ inr same
   | inr (inl other) ↦ inr other.0

@@ -23,12 +23,10 @@ use Rattle.gw_dispatch.specs.RunEnd.{NoneBegan}
 use Rattle.gw_run.specs.Replay.{HasEnd, HasPlayed, HasRun, HasRunAgain, IsFresh, IsPlayEnd, IsPlayOf, IsUnbegun, IsWrittenEnd}
 use Rattle.gw_run.specs.RunEnds.{EndsRun}
 use Rattle.gw_run.specs.ScriptLog.{IsEnded, IsLogOf}
-use Rattle.gw_run.specs.Served.{served_script}
 use Rattle.gw_run.specs.Top.{ShowsEnd}
 use Rattle.gw_run.specs.declared.ending.Ending.{Ending}
 use Rattle.gw_run.specs.declared.ending.Ending.TheVariants.{Played, Words, Long, Line as AtLine, Input, NotOpened, Memory, OutputFailed, Disk, LongJournal, CutJournal, BadSlot}
 use Rattle.gw_run.proofs.RunsLemmas.{IsKnown, MayRun, done-stands, failures-more, fewer-left, has-run, log-plays, may-run-again, nothing-played, some-log, steps-played, with-more}
-use Rattle.gw_run.proofs.ServedLemmas.{script-read}
 
 -- ---- what is known of further steps
 
@@ -139,7 +137,7 @@ end-ended (CutJournal slot) log end = absurd end
 end-ended (BadSlot slot) log end = absurd end
 
 -- what was played is the log of the script, where the site rests and no run more begins
-is-log : (text : List ℕ) (script : Script) (plan : Option Plan) (log : List Turn) → served_script text ≡ Ok script → HasPlayed script plan log → IsResting plan → IsEnded log → IsLogOf text log
+is-log : (text : List ℕ) (script : Script) (plan : Option Plan) (log : List Turn) → script_of text ≡ Ok script → HasPlayed script plan log → IsResting plan → IsEnded log → IsLogOf text log
 is-log text script plan log served p rests ended = record {
   script = script;
   script_is = served;
@@ -154,7 +152,7 @@ is-log text script plan log served p rests ended = record {
 }
 
 -- so a play has this log
-play-of : (text : List ℕ) (script : Script) (ending : Ending) (site : SimSite) → served_script text ≡ Ok script → HasRun script ending (sim_observed site) (log_of site)
+play-of : (text : List ℕ) (script : Script) (ending : Ending) (site : SimSite) → script_of text ≡ Ok script → HasRun script ending (sim_observed site) (log_of site)
     → (ending ≡ Memory) ⊎ (((sim_observed site).dark ≡ false) × ShowsEnd ending (log_of site)) → ∥ PlaysLines script.lines (log_of site) ∥₁ → IsPlayOf text ending (log_of site)
 play-of text script ending site served run ends plays = record {
   script = script;
@@ -176,9 +174,9 @@ module _ (script : Script) (ending : Ending) (site : SimSite) (log : List Turn) 
   pub given-end : (ending ≡ Memory) ⊎ ShowsEnd ending log
   given-end = subst (λ l. (ending ≡ Memory) ⊎ ShowsEnd ending l) (sym log_is) (end-of-log ending (sim_observed site).dark (log_of site) given-ends)
 
-  pub given-play : (text : List ℕ) (old : Observed) → served_script text ≡ Ok script → IsFresh old text script → (sim_observed site).origin ≡ old.origin → PlaysOrigin (sim_observed site).origin log → IsPlayOf text ending log
+  pub given-play : (text : List ℕ) (old : Observed) → script_of text ≡ Ok script → IsFresh old text script → (sim_observed site).origin ≡ old.origin → PlaysOrigin (sim_observed site).origin log → IsPlayOf text ending log
   given-play text old served fresh origin plays =
-      let read : script_of (sim_observed site).origin ≡ Ok script = ap script_of (origin ∙ ap (λ (o : Observed). o.origin) fresh) ∙ script-read text script served in
+      let read : script_of (sim_observed site).origin ≡ Ok script = ap script_of (origin ∙ ap (λ (o : Observed). o.origin) fresh) ∙ served in
       subst (IsPlayOf text ending) (sym log_is) (play-of text script ending site served run given-ends (subst (λ l. ∥ PlaysLines script.lines l ∥₁) log_is (plays script read)))
 
 -- and its end

@@ -1,14 +1,166 @@
--- The words, and the end of a play.
-use Rattle.std.proofs.Common.{◌≡◌, ℕ, ◌<◌, ◌≤◌, List, [], ◌∷◌, length, get_or, sym, ◌∙◌, ap, arith}
-use Rattle.std.specs.Prelude.{Bool, IsTrue, ◌↔◌, codes, bytes_eq}
-use Rattle.std.proofs.lemmas.Slice.Eq.{bytes_eq-Decides}
-use Rattle.gw_run.specs.Top.{IsAccepted}
+-- What the top call gives, by what the words ask for.
+use Rattle.std.proofs.Common.{◌≡◌, ℕ, List, refl, sym, ◌∙◌, ap, subst, inl, inr}
+use Rattle.std.specs.Prelude.{◌⊎◌, Option, Some, None}
+use Rattle.gw_bytes.specs.Bytes.{IsPrefix}
+use Rattle.gw_site.specs.Observed.{Observed}
+use Rattle.gw_site.specs.declared.turn.Turn.{Turn}
+use Rattle.gw_books.specs.PastLaws.{EachLogAgrees}
+use Rattle.gw_base.specs.declared.setup.Setup.{Setup}
+use Rattle.gw_rules.specs.Lawful.{Stands}
+use Rattle.gw_rules.specs.View.{View}
+use Rattle.gw_run.specs.LogWritten.{Adds}
+use Rattle.gw_run.specs.Replay.{IsReportedEnd, ReplayCause, ReplayPrinted, WritesTail}
+use Rattle.gw_run.specs.Serve.{HasServed, ServeCause, ServePrinted, Serves, SiteCalls, serve_status}
+use Rattle.gw_run.specs.Top.{Cause, HasRisen, IsEnded, Stream, status_of, tail_of}
+use Rattle.gw_run.specs.Words.{AreRefused, AskForReplay, AskNotToServe, AskToServe, order_of}
+use Rattle.gw_run.specs.declared.ending.Ending.{Ending}
+use Rattle.gw_run.specs.declared.ending.Ending.TheVariants.{Played, Words, Long, Line as AtLine, Input, NotOpened, Memory, OutputFailed, Disk, LongJournal, CutJournal, BadSlot}
+use Rattle.gw_run.specs.declared.serving.ServeEnding.{ServeEnding}
+use Rattle.gw_run.specs.declared.serving.ServeEnding.TheVariants.{Config, Other}
+use Rattle.gw_run.specs.declared.words.Mode.TheVariants.{Serve, Replay}
+use Rattle.gw_run.specs.declared.words.Order.{Order}
+use Rattle.gw_run.proofs.ReplayLemmas.{IsFault, fault-printed, observed-cause}
+use Rattle.gw_run.proofs.ServeLemmas.{nothing-served}
 
--- one word is accepted where it is `replay`
-pub one-word : (words : List (List ℕ)) (word : List ℕ) (same : Bool) → 1 ≤ length words → length words < 2 → word ≡ get_or words 0 word → same ≡ bytes_eq word (codes "replay") → IsTrue same ↔ IsAccepted words
-one-word [] word same some few w e = absurd (omega arith)
-one-word (first ∷ []) word same some few w e = (
-  λ t. ap (λ x. x ∷ []) (sym w ∙ (bytes_eq-Decides word (codes "replay")).0 (sym e ∙ t)),
-  λ accepted. let h : first ≡ codes "replay" = cc in e ∙ (bytes_eq-Decides word (codes "replay")).1 (w ∙ h),
-)
-one-word (first ∷ second ∷ words) word same some few w e = absurd (omega arith)
+-- ---- the words
+
+same-order : (a b : Order) → Some a ≡ Some b → a ≡ b
+same-order a b e = cc
+
+modes-differ : {A : Type 0} → Serve ≡ Replay → A
+modes-differ e = absurd (let h : Serve ≡ Replay = e in cc)
+
+none-or-some : {A : Type 0} (order : Order) → ◌≡◌ {A = Option Order} None (Some order) → A
+none-or-some order e = absurd (let h : ◌≡◌ {A = Option Order} None (Some order) = e in cc)
+
+asked : (words : List (List ℕ)) (order other : Order) → Some order ≡ order_of words → order_of words ≡ Some other → order ≡ other
+asked words order other is e = same-order order other (is ∙ e)
+
+-- words that ask to serve ask for nothing else
+pub serve-alone : {A : Type 0} (words : List (List ℕ)) (order : Order) → Some order ≡ order_of words → order.mode ≡ Serve → AskNotToServe words → A
+serve-alone words order is serve (inl (turns, e)) = modes-differ (sym serve ∙ ap (λ (o : Order). o.mode) (asked words order _ is e))
+serve-alone words order is serve (inr none) = none-or-some order (sym none ∙ sym is)
+
+pub serve-no-replay : {A : Type 0} (words : List (List ℕ)) (order : Order) → Some order ≡ order_of words → order.mode ≡ Serve → AskForReplay words → A
+serve-no-replay words order is serve replay = serve-alone words order is serve (inl replay)
+
+pub serve-not-refused : {A : Type 0} (words : List (List ℕ)) (order : Order) → Some order ≡ order_of words → AreRefused words → A
+serve-not-refused words order is none = none-or-some order (sym none ∙ sym is)
+
+-- they ask for so many polls
+pub serve-turns : (words : List (List ℕ)) (order : Order) (turns : ℕ) → Some order ≡ order_of words → AskToServe words turns → order.polls ≡ turns
+serve-turns words order turns is e = ap (λ (o : Order). o.polls) (asked words order _ is e)
+
+-- words that ask for a replay
+pub replay-asked : (words : List (List ℕ)) (order : Order) → Some order ≡ order_of words → order.mode ≡ Replay → AskForReplay words
+replay-asked words order is replay = (order.polls, sym is ∙ ap (λ mode. Some (record { mode = mode; polls = order.polls })) replay)
+
+-- don't ask to serve
+pub replay-alone : {A : Type 0} (words : List (List ℕ)) (order : Order) (turns : ℕ) → Some order ≡ order_of words → order.mode ≡ Replay → AskToServe words turns → A
+replay-alone words order turns is replay e = modes-differ (sym (ap (λ (o : Order). o.mode) (asked words order _ is e)) ∙ replay)
+
+-- nor do words that are refused
+pub refused-alone : {A : Type 0} (words : List (List ℕ)) (order : Order) → None ≡ order_of words → order_of words ≡ Some order → A
+refused-alone words order none e = none-or-some order (none ∙ e)
+
+-- ---- a replay, and words that are refused
+
+-- a replay has ended so
+pub replay-ended : (status : ℕ) (words : List (List ℕ)) (input out : Stream) (ending : Ending) → status ≡ status_of ending → AskForReplay words → ReplayCause ending input out → Adds out.before out.after (ReplayPrinted input out ending) → IsEnded status words input out
+replay-ended status words input out ending s asks cause printed = record {
+  ending = ending;
+  status_is = s;
+  cause = cause words asks;
+  output = λ written e. let y = printed written e in (y.0, y.2, y.1 words asks);
+}
+
+-- nothing but the lines of a fault was written
+pub lines-ended : (status : ℕ) (words : List (List ℕ)) (input out : Stream) (fault ending : Ending) → IsFault fault → status ≡ status_of ending → Cause fault words input out → (ending ≡ OutputFailed → HasRisen out) → IsReportedEnd fault ending →
+    Adds out.before out.after (WritesTail fault ending) → IsEnded status words input out
+lines-ended status words input out fault ending is s cause rose which printed = record {
+  ending = ending;
+  status_is = s;
+  cause = observed-cause fault ending words input out cause rose which;
+  output = λ written e. let y = printed written e in (y.0, y.2, fault-printed (λ other. Cause other words input out) fault ending input.before y.0 is tt cause y.1);
+}
+
+-- ---- the mode `serve`
+
+-- the mode has ended so
+pub serve-ended : (status : ℕ) (input out : Stream) (site : SiteCalls) (ending : ServeEnding) → status ≡ serve_status ending → ServeCause ending input out site → Adds out.before out.after (ServePrinted (λ other. ServeCause other input out site) ending) → HasServed status input out site
+serve-ended status input out site ending s cause printed = record {
+  ending = ending;
+  status_is = s;
+  cause = cause;
+  output = λ written e. let y = printed written e in (y.0, y.2, y.1);
+}
+
+memory-printed : (input out : Stream) (site : SiteCalls) (ending : Ending) (added : List ℕ) → WritesTail Memory ending added → ServePrinted (λ other. ServeCause other input out site) (Other ending) added
+memory-printed input out site ending added (inl (same, all)) = inl (all ∙ ap tail_of (sym same))
+memory-printed input out site ending added (inr (inl (memory, names, all))) = absurd names
+memory-printed input out site ending added (inr (inr (failed, (reported, inl same, prefix)))) = inr (ap Other failed, record { ending = Other Memory; could = tt; prefix = subst (λ e. IsPrefix added (tail_of e)) same prefix })
+memory-printed input out site ending added (inr (inr (failed, (reported, inr other, prefix)))) = absurd other.1
+
+memory-cause : (input out : Stream) (site : SiteCalls) (ending : Ending) → (ending ≡ OutputFailed → HasRisen out) → IsReportedEnd Memory ending → ServeCause (Other ending) input out site
+memory-cause input out site ending rose (inl same) = subst (λ e. ServeCause (Other e) input out site) (sym same) tt
+memory-cause input out site ending rose (inr (inl memory)) = absurd memory.1
+memory-cause input out site ending rose (inr (inr failed)) = subst (λ e. ServeCause (Other e) input out site) (sym failed) (rose failed)
+
+-- there was no memory for the words
+pub memory-served : (status : ℕ) (input out : Stream) (site : SiteCalls) (ending : Ending) → status ≡ status_of ending → (ending ≡ OutputFailed → HasRisen out) → IsReportedEnd Memory ending → Adds out.before out.after (WritesTail Memory ending) → HasServed status input out site
+memory-served status input out site ending s rose which printed = record {
+  ending = Other ending;
+  status_is = s;
+  cause = memory-cause input out site ending rose which;
+  output = λ written e. let y = printed written e in (y.0, y.2, memory-printed input out site ending y.0 y.1);
+}
+
+memory-status : (status : ℕ) (ending : Ending) → status ≡ status_of ending → IsReportedEnd Memory ending → (status ≡ 71) ⊎ (ending ≡ OutputFailed)
+memory-status status ending s (inl same) = inl (s ∙ ap status_of same)
+memory-status status ending s (inr (inl memory)) = absurd memory.1
+memory-status status ending s (inr (inr failed)) = inr failed
+
+memory-not-well : (status : ℕ) (ending : Ending) → status ≡ status_of ending → (status ≡ 71) ⊎ (ending ≡ OutputFailed) → status ≡ 0 → ⊥
+memory-not-well status ending s (inl memory) e = let h : ◌≡◌ {A = ℕ} 71 0 = sym memory ∙ e in cc
+memory-not-well status ending s (inr failed) e = let h : ◌≡◌ {A = ℕ} 73 0 = sym (s ∙ ap status_of failed) ∙ e in cc
+
+-- so that nothing was added to the log
+pub memory-serves : EachLogAgrees → (IsOwn : Setup → Type 0) (most status : ℕ) (ending : Ending) (before : List Turn) (v : View) (new : Observed) → status ≡ status_of ending → IsReportedEnd Memory ending → new.log ≡ Some before → Stands before v → Serves IsOwn most (status ≡ 0) before new
+memory-serves headline IsOwn most status ending before v new s which e stands = nothing-served headline IsOwn most (status ≡ 0) before v new (memory-not-well status ending s (memory-status status ending s which)) e stands
+
+pub memory-complete : (status : ℕ) (ending : Ending) (out_rose : Type 0) → status ≡ status_of ending → (ending ≡ OutputFailed → out_rose) → IsReportedEnd Memory ending → (out_rose → ⊥) → (status ≡ 0) ⊎ (status ≡ 71)
+memory-complete status ending out_rose s rose which written = elim (memory-status status ending s which) [ inl memory ↦ inr memory | inr failed ↦ absurd (written (rose failed)) ]
+
+-- it has ended well where the status is 0
+zero-played : (ending : Ending) → status_of ending ≡ 0 → ending ≡ Played
+zero-played Played e = refl
+zero-played Words e = absurd (let h : 64 ≡ 0 = e in cc)
+zero-played Long e = absurd (let h : 65 ≡ 0 = e in cc)
+zero-played (AtLine line) e = absurd (let h : 65 ≡ 0 = e in cc)
+zero-played Input e = absurd (let h : 66 ≡ 0 = e in cc)
+zero-played NotOpened e = absurd (let h : 69 ≡ 0 = e in cc)
+zero-played Memory e = absurd (let h : ◌≡◌ {A = ℕ} 71 0 = e in cc)
+zero-played OutputFailed e = absurd (let h : 73 ≡ 0 = e in cc)
+zero-played Disk e = absurd (let h : 74 ≡ 0 = e in cc)
+zero-played (LongJournal size) e = absurd (let h : 76 ≡ 0 = e in cc)
+zero-played (CutJournal slot) e = absurd (let h : 76 ≡ 0 = e in cc)
+zero-played (BadSlot slot) e = absurd (let h : 76 ≡ 0 = e in cc)
+
+zero-served : (ending : ServeEnding) → serve_status ending ≡ 0 → ending ≡ Other Played
+zero-served (Config fault) e = absurd (let h : 65 ≡ 0 = e in cc)
+zero-served (Other ending) e = ap Other (zero-played ending e)
+
+-- the headline, by the status, for so many polls as the words ask for
+pub serves-status : (IsOwn : Setup → Type 0) (status most turns : ℕ) (ending : ServeEnding) (before : List Turn) (new : Observed) → status ≡ serve_status ending → most ≡ turns → Serves IsOwn most (ending ≡ Other Played) before new → Serves IsOwn turns (status ≡ 0) before new
+serves-status IsOwn status most turns ending before new s same serves = subst (λ n. Serves IsOwn n (status ≡ 0) before new) same (record {
+  added = serves.added;
+  log_is = serves.log_is;
+  lawful = serves.lawful;
+  agrees = serves.agrees;
+  adds = serves.adds;
+  whole = λ well. serves.whole (zero-served ending (sym s ∙ well));
+})
+
+pub serve-status-complete : (status : ℕ) (ending : ServeEnding) → status ≡ serve_status ending → (ending ≡ Other Played) ⊎ (ending ≡ Other Memory) → (status ≡ 0) ⊎ (status ≡ 71)
+serve-status-complete status ending s (inl played) = inl (s ∙ ap serve_status played)
+serve-status-complete status ending s (inr memory) = inr (s ∙ ap serve_status memory)

@@ -7,6 +7,9 @@ pub mod ReadyExample
 pub mod Replay
 pub mod RunEnds
 pub mod ScriptLog
-pub mod Served
-pub mod ServedExample
+pub mod Serve
+pub mod Serving
 pub mod Top
+pub mod Words
+pub mod WordsExample
+pub mod WordsRead

@@ -4,7 +4,6 @@ use Rattle.std.specs.Global.{Vec}
 use Rattle.gw_bytes.specs.Bytes.{IsPrefix}
 use Rattle.gw_site.specs.Observed.{Observed}
 use Rattle.gw_site.specs.declared.turn.Turn.{Turn}
-use Rattle.gw_script.specs.Decode.{script_limit}
 use Rattle.gw_script.specs.site.ScriptLine.{Script, setup_of}
 use Rattle.gw_site.specs.Steps.{Plan, Takes}
 use Rattle.gw_script.specs.site.Playing.{PlaysLines}
@@ -13,18 +12,19 @@ use Rattle.gw_script.specs.site.StepTurns.{site_turns}
 use Rattle.gw_rules.specs.Acts.{Act, taken_of}
 use Rattle.gw_rules.specs.Lawful.{IsLawful}
 use Rattle.gw_run.specs.ScriptLog.{AreOpenings, HasDone, IsLogOf}
-use Rattle.gw_run.specs.Served.{served_script}
-use Rattle.gw_run.specs.Top.{Stream, Cause, HasLogBefore, Printed, IsAccepted, ShowsEnd, IsInput, IsReadWithin, IsScriptBefore, IsScriptTooLong, IsWrongAt, tail_of}
+use Rattle.gw_script.specs.site.Decode.{script_of}
+use Rattle.gw_run.specs.Words.{AskForReplay}
+use Rattle.gw_run.specs.Top.{Stream, Cause, HasLogBefore, Printed, ShowsEnd, IsInput, IsReadBeyond, IsReadWithin, IsScriptBefore, IsWrongAt, tail_of}
 use Rattle.gw_run.specs.declared.ending.Ending.{Ending}
 use Rattle.gw_run.specs.declared.ending.Ending.TheVariants.{Played, Words, Long, Line as AtLine, Input, NotOpened, Memory, OutputFailed, Disk, LongJournal, CutJournal, BadSlot}
 
 -- what was printed of a replay by its end
 abbrev pub ReplayPrinted : Stream → Stream → Ending → List ℕ → Type 0
-ReplayPrinted input out ending text = (words : List (List ℕ)) → IsAccepted words → Printed (λ other. Cause other words input out) input.before ending text
+ReplayPrinted input out ending text = (words : List (List ℕ)) → AskForReplay words → Printed (λ other. Cause other words input out) input.before ending text
 
 -- the cause of a replay's end
 abbrev pub ReplayCause : Ending → Stream → Stream → Type 0
-ReplayCause ending input out = (words : List (List ℕ)) → IsAccepted words → Cause ending words input out
+ReplayCause ending input out = (words : List (List ℕ)) → AskForReplay words → Cause ending words input out
 
 -- what a play of a script may end with
 abbrev pub IsPlayEnd : Ending → Type 0
@@ -112,7 +112,7 @@ pub record HasRunAgain (script : Script) (ending : Ending) (before : List Turn) 
 -- a play of the script of a text that ends so has this log: a lawful one that plays the script's lines, each of whose runs is opened with the script's setup; and where memory wasn't refused, the log of the script, after which it ends so
 pub record IsPlayOf (text : List ℕ) (ending : Ending) (log : List Turn) : Type 0 where
   pub script : Script
-  pub script_is : served_script text ≡ Ok script
+  pub script_is : script_of text ≡ Ok script
   pub lawful : IsLawful log
   pub openings : AreOpenings (setup_of script.given) true log
   pub plays : ∥ PlaysLines script.lines log ∥₁
@@ -152,12 +152,12 @@ WritesTail ending result added =
 abbrev pub IsReportedEnd : Ending → Ending → Type 0
 IsReportedEnd ending result = (result ≡ ending) ⊎ (((result ≡ Memory) × HasNumber ending) ⊎ (result ≡ OutputFailed))
 
--- what the reading of the input gives: all of it, or its fault
-abbrev pub IsInputRead : Result (Vec ℕ) Ending → List ℕ → Option (List ℕ) → Type 0
-IsInputRead (Ok bytes) all left = (bytes.items ≡ all) × (left ≡ Some []) × (length all ≤ script_limit)
-IsInputRead (Err Long) all left = IsScriptTooLong all left
-IsInputRead (Err Input) all left = IsReadWithin all left
-IsInputRead (Err ending) all left = Unit {0}
+-- what the reading of the input up to a limit gives: all of it, or its fault
+abbrev pub IsInputRead : ℕ → Result (Vec ℕ) Ending → List ℕ → Option (List ℕ) → Type 0
+IsInputRead limit (Ok bytes) all left = (bytes.items ≡ all) × (left ≡ Some []) × (length all ≤ limit)
+IsInputRead limit (Err Long) all left = IsReadBeyond limit all left
+IsInputRead limit (Err Input) all left = IsReadWithin limit all left
+IsInputRead limit (Err ending) all left = Unit {0}
 
 -- the faults that the reading of the input may meet
 abbrev pub IsInputFault : Ending → Type 0

@@ -18,7 +18,7 @@ ending_of (TooLong size) = LongJournal size
 ending_of (Cut slot) = CutJournal slot
 ending_of (BadRecord slot) = BadSlot slot
 
--- Inner: the end is one after a run, of whose own end this is so
+-- the end is one after a run, of whose own end this is so
 abbrev pub GivesEnd : Ending → (Ended → Type 0) → Type 0
 GivesEnd ending IsSo = (ended : Ended) × (ending ≡ ending_of ended) × IsSo ended
 

@@ -10,7 +10,7 @@ use Rattle.gw_script.specs.site.StepTurns.{site_turns}
 use Rattle.gw_rules.specs.Acts.{Act, AreDue, Unopened, moves_of, taken_of}
 use Rattle.gw_rules.specs.Lawful.{IsCourse, turns_of}
 use Rattle.gw_rules.specs.View.{at_first}
-use Rattle.gw_run.specs.Served.{served_script}
+use Rattle.gw_script.specs.site.Decode.{script_of}
 
 -- this is the log's last turn
 abbrev pub HasLastTurn : Turn → List Turn → Type 0
@@ -68,7 +68,7 @@ IsEnded log = IsStopped log ⊎ (HasLastTurn OpenFailed log ⊎ HasLastTurn Disk
 -- the log of the script of a text: its gateway has done this, its steps have the turns that the script gives them, it starts no further run, and no power failure waits to be over
 pub record IsLogOf (text : List ℕ) (log : List Turn) : Type 0 where
   pub script : Script
-  pub script_is : served_script text ≡ Ok script
+  pub script_is : script_of text ≡ Ok script
   pub acts : List Act
   pub done : HasDone (setup_of script.given) acts log
   pub turns : site_turns script.lines (steps_of (taken_of acts)) ≡ turns_of_steps (taken_of acts)

@@ -1,5 +1,5 @@
 -- How the top call ends, and what it prints.
-use Rattle.std.specs.Prelude.{◌≡◌, ◌⊎◌, ℕ, ◌+◌, ◌<◌, ◌≤◌, true, List, [], ◌∷◌, ◌++◌, Option, Some, None, Ok, Err, codes, length}
+use Rattle.std.specs.Prelude.{◌≡◌, ◌⊎◌, ℕ, ◌+◌, ◌<◌, ◌≤◌, true, List, [], ◌++◌, Option, Some, None, Ok, Err, codes, length}
 use Rattle.std.specs.Fmt.{decimal}
 use Rattle.gw_site.specs.Failures.{Rose}
 use Rattle.gw_bytes.specs.Bytes.{IsPrefix}
@@ -11,14 +11,11 @@ use Rattle.gw_script.specs.site.Playing.{PlaysLines}
 use Rattle.gw_rules.specs.Lawful.{IsLawful}
 use Rattle.gw_books.specs.PastLaws.{AgreesThroughout}
 use Rattle.gw_run.specs.ScriptLog.{AreOpenings, HasLastTurn, IsLogOf}
-use Rattle.gw_run.specs.Served.{served_script}
+use Rattle.gw_script.specs.site.Decode.{script_of}
+use Rattle.gw_run.specs.Words.{AreRefused, AskForReplay}
 use Rattle.gw_script.specs.LogText.{log_text}
 use Rattle.gw_run.specs.declared.ending.Ending.{Ending}
 use Rattle.gw_run.specs.declared.ending.Ending.TheVariants.{Played, Words, Long, Line as AtLine, Input, NotOpened, Memory, OutputFailed, Disk, LongJournal, CutJournal, BadSlot}
-
--- the words are accepted: the single word `replay`
-abbrev pub IsAccepted : List (List ℕ) → Type 0
-IsAccepted words = words ≡ codes "replay" ∷ []
 
 -- the status of each end
 abbrev pub status_of : Ending → ℕ
@@ -73,28 +70,28 @@ HasRisen stream = Rose stream.faults_before stream.faults_after
 abbrev pub IfBytesObserved : Option (List ℕ) → (List ℕ → Type 0) → Type 0
 IfBytesObserved observed P = (bytes : List ℕ) → observed ≡ Some bytes → P bytes
 
--- a script of the grammar whose lines are served
+-- a script of the grammar
 abbrev pub IsScript : List ℕ → Type 0
-IsScript text = (length text ≤ script_limit) × ((script : Script) × (served_script text ≡ Ok script))
+IsScript text = (length text ≤ script_limit) × ((script : Script) × (script_of text ≡ Ok script))
 
--- the text has this line as its first that is of another form or isn't served
+-- the text has this line as its first that is of another form
 abbrev pub IsWrongAt : ℕ → List ℕ → Type 0
-IsWrongAt line text = (length text ≤ script_limit) × (served_script text ≡ Err line)
+IsWrongAt line text = (length text ≤ script_limit) × (script_of text ≡ Err line)
 
 -- what was read of the text is above the limit, and no further than a chunk beyond it
-pub record IsScriptTooLong (text : List ℕ) (left : Option (List ℕ)) : Type 0 where
+pub record IsReadBeyond (limit : ℕ) (text : List ℕ) (left : Option (List ℕ)) : Type 0 where
   pub rest : List ℕ
   pub left_is : left ≡ Some rest
-  pub long : script_limit + length rest < length text
-  pub no_further : length text ≤ script_limit + 4096 + length rest
+  pub long : limit + length rest < length text
+  pub no_further : length text ≤ limit + 4096 + length rest
 
 -- what was read of the text is not above the limit
-pub record IsReadWithin (text : List ℕ) (left : Option (List ℕ)) : Type 0 where
+pub record IsReadWithin (limit : ℕ) (text : List ℕ) (left : Option (List ℕ)) : Type 0 where
   pub taken : List ℕ
   pub rest : List ℕ
   pub text_is : text ≡ taken ++ rest
   pub left_is : left ≡ Some rest
-  pub within : length taken ≤ script_limit
+  pub within : length taken ≤ limit
 
 -- the input was read to its end, and its text is such
 abbrev pub IsReadWhole : Stream → (List ℕ → Type 0) → Type 0
@@ -123,17 +120,17 @@ HasLogBefore ending text = (log : List Turn) × IsLogOf text log × ShowsEnd end
 abbrev pub IsScriptBefore : Ending → List ℕ → Type 0
 IsScriptBefore ending text = IsScript text × HasLogBefore ending text
 
--- the cause of each end, by the words, the input and the output; no journal of a script is refused
+-- the cause of each end of a replay, or of words that are refused, by the words, the input and the output; no journal of a script is refused
 abbrev pub Cause : Ending → List (List ℕ) → Stream → Stream → Type 0
-Cause Played words input out = IsAccepted words × IsReadWhole input (IsScriptBefore Played)
-Cause Words words input out = ¬ IsAccepted words
-Cause Long words input out = IsAccepted words × IfBytesObserved input.before (λ text. IsScriptTooLong text input.after)
-Cause (AtLine line) words input out = IsAccepted words × IsReadWhole input (IsWrongAt line)
-Cause Input words input out = IsAccepted words × HasRisen input × IfBytesObserved input.before (λ text. IsReadWithin text input.after)
-Cause NotOpened words input out = IsAccepted words × IsReadWhole input (IsScriptBefore NotOpened)
-Cause Memory words input out = IsAccepted words
+Cause Played words input out = AskForReplay words × IsReadWhole input (IsScriptBefore Played)
+Cause Words words input out = AreRefused words
+Cause Long words input out = AskForReplay words × IfBytesObserved input.before (λ text. IsReadBeyond script_limit text input.after)
+Cause (AtLine line) words input out = AskForReplay words × IsReadWhole input (IsWrongAt line)
+Cause Input words input out = AskForReplay words × HasRisen input × IfBytesObserved input.before (λ text. IsReadWithin script_limit text input.after)
+Cause NotOpened words input out = AskForReplay words × IsReadWhole input (IsScriptBefore NotOpened)
+Cause Memory words input out = Unit {0}
 Cause OutputFailed words input out = HasRisen out
-Cause Disk words input out = IsAccepted words × IsReadWhole input (IsScriptBefore Disk)
+Cause Disk words input out = AskForReplay words × IsReadWhole input (IsScriptBefore Disk)
 Cause (LongJournal size) words input out = ⊥
 Cause (CutJournal slot) words input out = ⊥
 Cause (BadSlot slot) words input out = ⊥
@@ -159,7 +156,7 @@ pub record IsPlayedInPart (input : Option (List ℕ)) (text : List ℕ) : Type 0
   pub script : Script
   pub log : List Turn
   pub input_is : IsInput input script_text
-  pub script_is : served_script script_text ≡ Ok script
+  pub script_is : script_of script_text ≡ Ok script
   pub lawful : IsLawful log
   pub openings : AreOpenings (setup_of script.given) true log
   pub plays : ∥ PlaysLines script.lines log ∥₁
@@ -167,7 +164,7 @@ pub record IsPlayedInPart (input : Option (List ℕ)) (text : List ℕ) : Type 0
   pub agrees : AgreesThroughout log
   pub is : text ≡ log_text log ++ tail_of Memory
 
--- the table of what is printed: what a call that ends so prints, if no write fails
+-- the table of what is printed: what a replay that ends so prints, or refused words, if no write fails
 abbrev pub Prints : Ending → Option (List ℕ) → List ℕ → Type 0
 Prints Played input text = IsPlayedWhole Played input text
 Prints Words input text = text ≡ tail_of Words
@@ -194,7 +191,7 @@ pub record PrintsPrefix (Could : Ending → Type 0) (input : Option (List ℕ)) 
 abbrev pub Printed : (Ending → Type 0) → Option (List ℕ) → Ending → List ℕ → Type 0
 Printed Could input ending text = Prints ending input text ⊎ ((ending ≡ OutputFailed) × PrintsPrefix Could input text)
 
--- the call has ended so: its status, the cause, and what was printed, where it is observed
+-- the call, which wasn't to serve, has ended so: its status, the cause, and what was printed, where it is observed
 pub record IsEnded (status : ℕ) (words : List (List ℕ)) (input out : Stream) : Type 0 where
   pub ending : Ending
   pub status_is : status ≡ status_of ending

@@ -11,7 +11,7 @@ pub enum Ending {
     Words,
     /// The script is above its limit: 65.
     Long,
-    /// A line of the script is of another form, or isn't served: 65.
+    /// A line of the script is of another form: 65.
     Line(u32),
     /// The input could not be read: 66.
     Input,

@@ -1,9 +1,9 @@
 //! Laws of the logs of scripts.
 ghost use Rattle.gw_run.specs.Example.{LinksHasText, LinksIsOfScript, StatusHasText, StatusIsOfScript};
-ghost use Rattle.gw_run.specs.Laws.{LogGoesByLines, LogHasEvents, LogHasScript, LogIsPlayed, OneLog, TablesAgree};
+ghost use Rattle.gw_run.specs.Laws.{LogGoesByLines, LogHasEvents, LogHasScript, LogIsPlayed, OneLog};
 ghost use Rattle.gw_run.specs.PowerExample.{LaterIsOfScript, PowerHasText, PowerIsOfScript, UnmeasuredIsOfScript, UnopenedIsOfScript};
 ghost use Rattle.gw_run.specs.ReadyExample.{FailedIsNotOfScript, ReadyHasText, ReadyIsOfScript};
-ghost use Rattle.gw_run.specs.ServedExample.{ScriptIsServed, SecondTerminalIsUnserved, WaitingRequestIsUnserved};
+ghost use Rattle.gw_run.specs.WordsExample.{AcceptedExamples, RefusedExamples};
 
 /// A script has one log at most, whatever calls on the disk and power failures its lines make fail: while the power is there one call is
 /// due, but that the journal's file may be read once more, which leaves no turn; the script says what the turns of each step are;
@@ -18,7 +18,7 @@ pub fn law_one_log()
 /// goes by the script's lines, in their order: each is skipped where it names a till or a terminal that isn't there, or opens a number
 /// that isn't above those before, and else gives a poll at the moment of the last `at` line and its event; after the last line
 /// comes the stop. Whatever calls fail, the polls and events of a log that is one run to the stop are those of some of its lines, in
-/// their order. Only a served script has a log.
+/// their order. Only a script has a log.
 pub fn law_plays()
     ensures played { LogIsPlayed }
     ensures lines { LogGoesByLines }
@@ -62,10 +62,8 @@ pub fn law_another_log()
     ensures other { FailedIsNotOfScript }
 {}
 
-/// A script is served exactly where each line of its text is. Closed scripts show it.
-pub fn law_served()
-    ensures agree { TablesAgree }
-    ensures served { ScriptIsServed }
-    ensures second { SecondTerminalIsUnserved }
-    ensures waiting { WaitingRequestIsUnserved }
+/// These lists of words are accepted, with what each asks for, and these are refused.
+pub fn law_words()
+    ensures accepted { AcceptedExamples }
+    ensures refused { RefusedExamples }
 {}

@@ -9,6 +9,7 @@ ghost use Rattle.gw_rules.specs.Triple.{IsRun, RunTriple};
 ghost use Rattle.gw_rules.specs.View.{View};
 ghost use Rattle.gw_dispatch.specs.Growth.{EndsInFailure};
 ghost use Rattle.gw_dispatch.specs.RunEnd.{EndsByFound, NoneBegan};
+ghost use Rattle.gw_run.specs.Serving.{IsRunEnding};
 ghost use Rattle.gw_run.specs.RunEnds.{EndsRun, EndsWithStatus, GivesEnd, GivesStatus, ending_of};
 
 use crate::ending::Ending;
@@ -36,6 +37,7 @@ fn ending_of(ended: Ended) -> Ending
 /// One run over a site, of at most so many polls.
 pub(crate) fn run_ended<S: Site>(alloc: Global, setup: &Setup, site: &mut S, most: u64) -> Ending
     requires { IsSetup setup.now }
+    ensures which { IsRunEnding result }
     ensures lawful { RunTriple setup.now (S.observed site.old) (S.observed site.new) (IsRun setup.now) (EndsRun result most) }
     ensures file { IfObserved (S.observed site.old) (λ before. GivesEnd result (EndsByFound setup.now.slots before (S.observed site.new))) }
     ensures not_opened { result ≡ Ending.NotOpened → Rose (S.observed site.old).faults (S.observed site.new).faults }

@@ -1,102 +1,44 @@
-//! The mode `replay`, from its words to its last line.
-ghost use Rattle.std.specs.Prelude.{◌≡◌, ◌≢◌, ◌⊎◌, ◌≤◌, ◌++◌, List, ℕ, Some, Ok, Err, false, IsTrue, ◌↔◌, IfOk, IfErr, IsErrOf, length, map, string_bytes};
+//! The top call, and the mode `replay`, from its script to its last line.
+ghost use Rattle.std.specs.Prelude.{◌≡◌, ◌≢◌, ◌⊎◌, ◌≤◌, ◌++◌, List, ℕ, Some, Ok, Err, IfOk, IfErr, length, map, string_bytes};
 ghost use Rattle.gw_site.specs.Failures.{Rose};
 ghost use Rattle.gw_site.specs.declared.turn.Turn.{Turn};
 ghost use Rattle.gw_script.specs.Decode.{script_limit};
 ghost use Rattle.gw_script.specs.site.Decode.{script_of};
-ghost use Rattle.gw_script.specs.site.ScriptLine.{Script};
+ghost use Rattle.gw_site.specs.Observed.{IfObserved};
+ghost use Rattle.gw_rules.specs.Lawful.{IsClear, Stands};
+ghost use Rattle.gw_rules.specs.View.{View};
 ghost use Rattle.gw_run.specs.LogWritten.{Adds};
-ghost use Rattle.gw_run.specs.Replay.{IsEndAfter, IsFresh, IsInputRead, IsInputFault, IsPlayEnd, IsTextEnd, IsTextFault, ReplayCause, ReplayPrinted, TextPrinted};
-ghost use Rattle.gw_run.specs.Served.{is_served, served_script};
-ghost use Rattle.gw_run.specs.Top.{IsAccepted, IfBytesObserved, IsEnded, IsLogWithin, IsPlayStatus, IsScriptLeft, IsStatusAfter, stream_observed};
+ghost use Rattle.gw_run.specs.Replay.{IsEndAfter, IsFresh, IsPlayEnd, IsTextEnd, IsTextFault, ReplayCause, ReplayPrinted, TextPrinted};
+ghost use Rattle.gw_run.specs.Serve.{HasServed, IsServable, IsSetupOfInput, Serves, site_calls};
+ghost use Rattle.gw_run.specs.Top.{IsEnded, IsLogWithin, IsPlayStatus, IsScriptLeft, IsStatusAfter, stream_observed};
+ghost use Rattle.gw_run.specs.Words.{AreRefused, AskForReplay, AskNotToServe, AskToServe};
 ghost use Rattle.sim_site.specs.Sites.{played_script, sim_observed};
 
 use crate::ending::Ending;
+use crate::input::read_input;
 use crate::last_lines::write_last_lines;
 use crate::replay::play;
-use crate::served::{first_unserved, is_served};
+use crate::serving::serve;
+use crate::words::{Mode, order_of};
 use gw_base::Text;
-use gw_bytes::{LONGEST_CHUNK, LONGEST_SCRIPT};
-use gw_site::{Failed, Sink, Site, Source};
+use gw_books::law_headline;
+use gw_bytes::LONGEST_SCRIPT;
+use gw_site::{Sink, Site, Source};
 use sim_script::ScriptFault;
 use sim_site::SimSite;
 use std::alloc::{AllocError, Global};
 
-/// Whether the words are accepted.
-fn is_replay(words: &[Text]) -> bool
-    ensures { IsTrue result ↔ IsAccepted words.now }
-{
-    match words {
-        [word] => word.as_str() == "replay",
-        _ => false,
-    }
-}
-
-/// The input, read to its end, or until it is above the limit and then no further.
-fn read_input<I: Source>(alloc: Global, input: &mut I) -> Result<Vec<u8>, Ending>
-    ensures bytes { IfBytesObserved (I.left input.old) (λ all. IsInputRead result all (I.left input.new)) }
-    ensures within { IfOk result (λ bytes. length bytes.items ≤ script_limit) }
-    ensures fault { IfErr result IsInputFault }
-    ensures failed { IsErrOf result Ending.Input → Rose (I.faults input.old) (I.faults input.new) }
-    ensures later { I.faults input.old ≤ I.faults input.new }
-{
-    let mut bytes = Vec::new(alloc);
-    // A chunk at a time, so that at most one is read beyond the limit: an input may have no end.
-    let mut buf = [0; LONGEST_CHUNK];
-    while bytes.len() <= LONGEST_SCRIPT {
-        match input.read(&mut buf) {
-            Err(Failed) => return Err(Ending::Input),
-            Ok(0) => return Ok(bytes),
-            Ok(count) => match bytes.extend_from_slice(&buf[..count]) {
-                Ok(()) => {}
-                Err(AllocError) => return Err(Ending::Memory),
-            },
-        }
-    }
-    Err(Ending::Long)
-}
-
-/// What is reported of a script with a line that isn't served.
-fn unserved(alloc: Global, text: &[u8]) -> Ending
-    requires within { length text.now ≤ script_limit }
-    requires other { (script : Script) × (script_of text.now ≡ Ok script) × (is_served script ≡ false) }
-    ensures { IsTextFault text.now result }
-{
-    match first_unserved(alloc, text) {
-        Ok(line) => Ending::Line(line),
-        Err(AllocError) => Ending::Memory,
-    }
-}
-
-/// What is reported of a text in which this line is the first of another form: that line, or one before it that isn't served.
-fn wrong_line(alloc: Global, text: &[u8], line: u32) -> Ending
-    requires within { length text.now ≤ script_limit }
-    requires wrong { script_of text.now ≡ Err line }
-    ensures { IsTextFault text.now result }
-{
-    match first_unserved(alloc, text) {
-        Ok(first) => Ending::Line(first.min(line)),
-        Err(AllocError) => Ending::Memory,
-    }
-}
-
-/// The site that plays the script of this text, where all of it is served; else what is reported of the text.
+/// The site that plays the script of this text; else what is reported of the text.
 fn site_of(alloc: Global, text: &[u8]) -> Result<SimSite, Ending>
     requires within { length text.now ≤ script_limit }
     ensures fresh { IfOk result (λ site. IsFresh (sim_observed site) text.now (played_script site)) }
-    ensures served { IfOk result (λ site. served_script text.now ≡ Ok (played_script site)) }
+    ensures script { IfOk result (λ site. script_of text.now ≡ Ok (played_script site)) }
     ensures fault { IfErr result (IsTextFault text.now) }
 {
     match SimSite::from_script(alloc, text) {
-        Ok(site) => {
-            if is_served(site.script()) {
-                Ok(site)
-            } else {
-                Err(unserved(alloc, text))
-            }
-        }
+        Ok(site) => Ok(site),
         Err(ScriptFault::Long) => Err(Ending::Long),
-        Err(ScriptFault::Line { line }) => Err(wrong_line(alloc, text, line)),
+        Err(ScriptFault::Line { line }) => Err(Ending::Line(line)),
         Err(ScriptFault::Memory) => Err(Ending::Memory),
     }
 }
@@ -105,7 +47,7 @@ fn site_of(alloc: Global, text: &[u8]) -> Result<SimSite, Ending>
 fn site_of_input(alloc: Global, text: Vec<u8>) -> Result<SimSite, Ending>
     requires within { length text.items ≤ script_limit }
     ensures fresh { IfOk result (λ site. IsFresh (sim_observed site) text.items (played_script site)) }
-    ensures served { IfOk result (λ site. served_script text.items ≡ Ok (played_script site)) }
+    ensures script { IfOk result (λ site. script_of text.items ≡ Ok (played_script site)) }
     ensures fault { IfErr result (IsTextFault text.items) }
 {
     site_of(alloc, &text)
@@ -139,7 +81,7 @@ fn replay<I: Source, O: Sink>(alloc: Global, input: &mut I, out: &mut O) -> Endi
     ensures input_later { I.faults input.old ≤ I.faults input.new }
     ensures out_later { O.faults out.old ≤ O.faults out.new }
 {
-    match read_input(alloc, input) {
+    match read_input(alloc, input, LONGEST_SCRIPT) {
         Ok(text) => play_text(alloc, text, out),
         Err(fault) => write_last_lines(alloc, fault, out),
     }
@@ -147,24 +89,27 @@ fn replay<I: Source, O: Sink>(alloc: Global, input: &mut I, out: &mut O) -> Endi
 
 /// Runs the gateway in the mode that the words name, and gives its exit status.
 ///
-/// The one mode is `replay`: it reads a script from the input, plays it, and writes the text of its log.
-/// The engine runs over the script's site, and is started again, with the same setup, after each power failure.
+/// The words are those of one command: `MODE`, and the options `--turns N`, `--from N` and `--payments N`. The modes are `serve` and `replay`.
+///
+/// - `serve` reads a configuration from the input, and runs the engine over the site that is handed in, for at most `--turns` polls.
+/// - `replay` reads a script from the input, plays it, and writes the text of its log. The engine runs over the script's site, and is
+///   started again, with the same setup, after each power failure. The site that is handed in gets no call.
+///
 /// The last line that it writes is `status N`, and before that is a line with the fault where there is one. The statuses are:
-/// - 0: the script was played to its end;
-/// - 64: the words are none, or others (`words`);
-/// - 65: the input is no script, or has a line that isn't served yet (`script N` with the number of the first such line, or
-///   `script long`);
+/// - 0: the script was played to its end; in `serve` all polls were made, or the site has stopped;
+/// - 64: the words are refused (`words`);
+/// - 65: the input is no script (`script N` with the number of its first wrong line, or `script long`), or no configuration (a line that
+///   begins with `config`);
 /// - 66: the input could not be read (`input`);
-/// - 69: the script's site could not be opened in its last run (`open`);
+/// - 69: the site could not be opened in the last run (`open`);
 /// - 71: memory was refused (`memory`);
 /// - 73: the output could not be written, whose last line may be incomplete;
-/// - 74: a call on the disk has failed in the last run (`disk`).
+/// - 74: a call on the disk has failed in the last run (`disk`);
+/// - 76: the journal is refused (`journal long N`, `journal cut N` or `journal slot N`); that of a script never is, as all its runs have
+///   the same slots.
 ///
-/// A journal that is refused has status 76 (`journal long N`, `journal cut N` or `journal slot N`); that of a script never is, as all its
-/// runs have the same slots. The site that is handed in gets no call.
-///
-/// Of each log whose text it writes the headline holds, and of each prefix of that log: each book of the terminals that is honest agrees with
-/// what was done and what tills were sent.
+/// Of the log of the site that it has served the headline holds, and of each log whose text it writes, and of each prefix of these: each book
+/// of the terminals that is honest agrees with what was done and what tills were sent.
 pub fn top<S: Site, I: Source, O: Sink>(
     alloc: Global,
     words: &[Text],
@@ -172,26 +117,45 @@ pub fn top<S: Site, I: Source, O: Sink>(
     input: &mut I,
     out: &mut O,
 ) -> u8
-    ensures ended { IsEnded result words.now
+    // With words that ask for a replay, or are refused.
+    ensures ended { AskNotToServe words.now → IsEnded result words.now
         (stream_observed I.left I.faults input.old input.new)
         (stream_observed O.written O.faults out.old out.new) }
 
     // Nothing but 0, 69 or 74, or 71 without memory, where the input is a script and neither input nor output fails.
-    ensures complete { IsAccepted words.now → IsScriptLeft (I.left input.old) → ¬ Rose (I.faults input.old) (I.faults input.new) → ¬ Rose (O.faults out.old) (O.faults out.new) → IsPlayStatus result }
+    ensures complete { AskForReplay words.now → IsScriptLeft (I.left input.old) → ¬ Rose (I.faults input.old) (I.faults input.new) → ¬ Rose (O.faults out.old) (O.faults out.new) → IsPlayStatus result }
 
     // And nothing but what the log of the script says, or 71.
-    ensures log { IsAccepted words.now → (text : List ℕ) (log : List Turn) → I.left input.old ≡ Some text → IsLogWithin text log → ¬ Rose (I.faults input.old) (I.faults input.new) → ¬ Rose (O.faults out.old) (O.faults out.new) → IsStatusAfter log result }
+    ensures log { AskForReplay words.now → (text : List ℕ) (log : List Turn) → I.left input.old ≡ Some text → IsLogWithin text log → ¬ Rose (I.faults input.old) (I.faults input.new) → ¬ Rose (O.faults out.old) (O.faults out.new) → IsStatusAfter log result }
 
-    // With words that aren't accepted nothing is read.
-    ensures unread { ¬ IsAccepted words.now → input.new ≡ input.old }
-    ensures site { site.new ≡ site.old }
+    // With words that are refused nothing is read, and the site that is handed in gets a call only where it is to be served.
+    ensures unread { AreRefused words.now → input.new ≡ input.old }
+    ensures site { AskNotToServe words.now → site.new ≡ site.old }
+
+    // With words that ask to serve.
+    ensures served { (most : ℕ) → AskToServe words.now most → HasServed result
+        (stream_observed I.left I.faults input.old input.new)
+        (stream_observed O.written O.faults out.old out.new)
+        (site_calls (S.observed site.old) (S.observed site.new)) }
+
+    // The headline, from a lawful and clear log on.
+    ensures headline { (most : ℕ) → AskToServe words.now most → IfObserved (S.observed site.old) (λ before. (v : View) → Stands before v → IsClear v
+        → Serves (IsSetupOfInput (I.left input.old)) most (result ≡ 0) before (S.observed site.new)) }
+
+    // Nothing but 0, or 71 without memory, where nothing fails, the input is a configuration, and no fault of the journal's file is to be reported.
+    ensures serve_complete { (most : ℕ) → AskToServe words.now most → IfObserved (S.observed site.old) (λ before. (text : List ℕ) → I.left input.old ≡ Some text → IsServable text before
+        → ¬ Rose (I.faults input.old) (I.faults input.new) → ¬ Rose (S.observed site.old).faults (S.observed site.new).faults → ¬ Rose (O.faults out.old) (O.faults out.new) → (result ≡ 0) ⊎ (result ≡ 71)) }
+    ensures site_later { (S.observed site.old).faults ≤ (S.observed site.new).faults }
     ensures input_later { I.faults input.old ≤ I.faults input.new }
     ensures out_later { O.faults out.old ≤ O.faults out.new }
 {
-    let _ = site;
-    if is_replay(words) {
-        replay(alloc, input, out).status()
-    } else {
-        write_last_lines(alloc, Ending::Words, out).status()
+    law_headline();
+    match order_of(alloc, words) {
+        Ok(Some(order)) => match order.mode {
+            Mode::Serve => serve(alloc, order.polls, site, input, out).status(),
+            Mode::Replay => replay(alloc, input, out).status(),
+        },
+        Ok(None) => write_last_lines(alloc, Ending::Words, out).status(),
+        Err(AllocError) => write_last_lines(alloc, Ending::Memory, out).status(),
     }
 }

@@ -5,7 +5,7 @@ ghost use Rattle.gw_site.specs.Failures.{Rose};
 ghost use Rattle.gw_script.specs.site.ScriptLine.{Script, setup_of};
 ghost use Rattle.gw_run.specs.LogWritten.{Adds};
 ghost use Rattle.gw_run.specs.Replay.{HasEnd, HasPlayed, HasRun, HasRunAgain, IsFresh, IsPlayEnd, IsPlayOf, IsUnbegun, IsWrittenEnd, PlayPrinted};
-ghost use Rattle.gw_run.specs.Served.{served_script};
+ghost use Rattle.gw_script.specs.site.Decode.{script_of};
 ghost use Rattle.gw_run.specs.Top.{ShowsEnd};
 ghost use Rattle.sim_site.specs.Sites.{is_crashed, log_of, played_script, sim_observed};
 
@@ -107,9 +107,9 @@ fn write_play<O: Sink>(alloc: Global, log: &[Turn], ending: Ending, out: &mut O)
 /// Plays the script of a site, of which nothing was played, and writes its log.
 pub(crate) fn play<O: Sink>(alloc: Global, site: &mut SimSite, out: &mut O) -> Ending
     requires { IsUnbegun (played_script site.old) (sim_observed site.old) }
-    ensures printed { (text : List ℕ) → served_script text ≡ Ok (played_script site.old) → IsFresh (sim_observed site.old) text (played_script site.old)
+    ensures printed { (text : List ℕ) → script_of text ≡ Ok (played_script site.old) → IsFresh (sim_observed site.old) text (played_script site.old)
         → Adds (O.written out.old) (O.written out.new) (PlayPrinted text result) }
-    ensures end { (text : List ℕ) → served_script text ≡ Ok (played_script site.old) → IsFresh (sim_observed site.old) text (played_script site.old)
+    ensures end { (text : List ℕ) → script_of text ≡ Ok (played_script site.old) → IsFresh (sim_observed site.old) text (played_script site.old)
         → HasEnd text result }
     ensures which { IsPlayEnd result }
     ensures output_failed { result ≡ Ending.OutputFailed → Rose (O.faults out.old) (O.faults out.new) }

@@ -3,6 +3,7 @@ use Rattle.gw_books.proofs.CourseLemmas.{lost-has-past, paid-has-past, refused-h
 use Rattle.gw_books.proofs.DayExampleLemmas.{settled-agrees, settled-has-past}
 use Rattle.gw_books.proofs.DisagreeLemmas.{disordered-books, entries-of-one-key, keyless-disagrees, later-entry-disagrees, links-end, not-found-disagrees, other-content-agrees, other-repeat-disagrees, outside-disagrees, progress-disagrees, repeat-agrees, reported-books, same-content-disagrees, twice-disagrees, unaccepted-disagrees, unbooked-disagrees, uncaused-books, unreported-may-be-open, unresolved-disagrees, untrue-books, waiting-is-in-progress}
 use Rattle.gw_books.proofs.ExampleLemmas.{asked-has-past, lost-agrees, paid-agrees, refused-agrees}
+use Rattle.gw_books.proofs.QueuedExampleLemmas.{day-is-in-progress, queued-agrees, queued-has-past, taken-out-disagrees}
 use Rattle.gw_books.proofs.law_examples.Goals as goal
 
 pub returns-clause-asked : goal.returns-clause-asked
@@ -31,6 +32,12 @@ returns-clause-day c = settled-has-past
 
 pub returns-clause-day_agrees : goal.returns-clause-day_agrees
 returns-clause-day_agrees c = settled-agrees
+
+pub returns-clause-queued : goal.returns-clause-queued
+returns-clause-queued c = queued-has-past
+
+pub returns-clause-queued_agrees : goal.returns-clause-queued_agrees
+returns-clause-queued_agrees c = queued-agrees
 
 pub returns-clause-twice : goal.returns-clause-twice
 returns-clause-twice c = twice-disagrees
@@ -76,6 +83,12 @@ returns-clause-unresolved c = unresolved-disagrees
 
 pub returns-clause-waiting : goal.returns-clause-waiting
 returns-clause-waiting c = waiting-is-in-progress
+
+pub returns-clause-taken_out : goal.returns-clause-taken_out
+returns-clause-taken_out c = taken-out-disagrees
+
+pub returns-clause-day_progress : goal.returns-clause-day_progress
+returns-clause-day_progress c = day-is-in-progress
 
 pub returns-clause-unreported : goal.returns-clause-unreported
 returns-clause-unreported c = unreported-may-be-open

@@ -11,11 +11,11 @@ returns-clause-asked c = payment-is-asked c.law_payment_begins.ensures.begins c.
 
 pub returns-clause-approved : goal.returns-clause-approved
 returns-clause-approved c =
-    approval-is-said (record { new = c.law_records.ensures.new; rows = c.law_records.ensures.rows; cuts = c.law_records.ensures.cuts; links = c.law_records.ensures.links; items = c.law_records.ensures.items; gone = c.law_records.ensures.gone }) c.law_payment_ends.ensures.approved
+    approval-is-said (record { new = c.law_records.ensures.new; rows = c.law_records.ensures.rows; cuts = c.law_records.ensures.cuts; links = c.law_records.ensures.links; items = c.law_records.ensures.items; gone = c.law_records.ensures.gone; queues = c.law_records.ensures.queues; overdue = c.law_records.ensures.overdue; next = c.law_waits.ensures.order; waits = c.law_waits.ensures.keeps }) c.law_payment_ends.ensures.approved
 
 pub returns-clause-declined : goal.returns-clause-declined
 returns-clause-declined c =
-    decline-is-said (record { new = c.law_records.ensures.new; rows = c.law_records.ensures.rows; cuts = c.law_records.ensures.cuts; links = c.law_records.ensures.links; items = c.law_records.ensures.items; gone = c.law_records.ensures.gone }) c.law_payment_ends.ensures.declined
+    decline-is-said (record { new = c.law_records.ensures.new; rows = c.law_records.ensures.rows; cuts = c.law_records.ensures.cuts; links = c.law_records.ensures.links; items = c.law_records.ensures.items; gone = c.law_records.ensures.gone; queues = c.law_records.ensures.queues; overdue = c.law_records.ensures.overdue; next = c.law_waits.ensures.order; waits = c.law_waits.ensures.keeps }) c.law_payment_ends.ensures.declined
 
 pub returns-clause-example : goal.returns-clause-example
 returns-clause-example c = paid-round-is-asked

@@ -6,7 +6,7 @@ use Rattle.gw_books.proofs.law_sent.Goals as goal
 
 -- the laws of what a row keeps
 order_laws : (c : goal.After-law_fits) → OrderLaws
-order_laws c = record { new = c.law_records.ensures.new; rows = c.law_records.ensures.rows; cuts = c.law_records.ensures.cuts; links = c.law_records.ensures.links; items = c.law_records.ensures.items; gone = c.law_records.ensures.gone }
+order_laws c = record { new = c.law_records.ensures.new; rows = c.law_records.ensures.rows; cuts = c.law_records.ensures.cuts; links = c.law_records.ensures.links; items = c.law_records.ensures.items; gone = c.law_records.ensures.gone; queues = c.law_records.ensures.queues; overdue = c.law_records.ensures.overdue; next = c.law_waits.ensures.order; waits = c.law_waits.ensures.keeps }
 
 -- the ledger's laws
 ledger_laws : (c : goal.After-law_fits) → LedgerLaws

@@ -5,7 +5,7 @@ use Rattle.gw_rules.proofs.RecordOrderLemmas.{each-has-journal-files}
 use Rattle.gw_rules.proofs.law_journal_files.Goals as goal
 
 pub returns-clause-lawful : goal.returns-clause-lawful
-returns-clause-lawful c = each-has-journal-files (record { new = c.law_records.ensures.new; rows = c.law_records.ensures.rows; cuts = c.law_records.ensures.cuts; links = c.law_records.ensures.links; items = c.law_records.ensures.items; gone = c.law_records.ensures.gone })
+returns-clause-lawful c = each-has-journal-files (record { new = c.law_records.ensures.new; rows = c.law_records.ensures.rows; cuts = c.law_records.ensures.cuts; links = c.law_records.ensures.links; items = c.law_records.ensures.items; gone = c.law_records.ensures.gone; queues = c.law_records.ensures.queues; overdue = c.law_records.ensures.overdue; next = c.law_waits.ensures.order; waits = c.law_waits.ensures.keeps })
 
 pub returns-clause-keeping : goal.returns-clause-keeping
 returns-clause-keeping c = keeping-leaves-journals

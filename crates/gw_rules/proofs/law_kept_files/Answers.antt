@@ -26,10 +26,10 @@ pub returns-clause-left : goal.returns-clause-left
 returns-clause-left c = each-keeps-journal-files
 
 pub returns-clause-lawful : goal.returns-clause-lawful
-returns-clause-lawful c = each-lawful-keeps-journal (record { new = c.law_records.ensures.new; rows = c.law_records.ensures.rows; cuts = c.law_records.ensures.cuts; links = c.law_records.ensures.links; items = c.law_records.ensures.items; gone = c.law_records.ensures.gone })
+returns-clause-lawful c = each-lawful-keeps-journal (record { new = c.law_records.ensures.new; rows = c.law_records.ensures.rows; cuts = c.law_records.ensures.cuts; links = c.law_records.ensures.links; items = c.law_records.ensures.items; gone = c.law_records.ensures.gone; queues = c.law_records.ensures.queues; overdue = c.law_records.ensures.overdue; next = c.law_waits.ensures.order; waits = c.law_waits.ensures.keeps })
 
 pub returns-clause-lawful_kept : goal.returns-clause-lawful_kept
-returns-clause-lawful_kept c = each-lawful-has-kept (record { new = c.law_records.ensures.new; rows = c.law_records.ensures.rows; cuts = c.law_records.ensures.cuts; links = c.law_records.ensures.links; items = c.law_records.ensures.items; gone = c.law_records.ensures.gone })
+returns-clause-lawful_kept c = each-lawful-has-kept (record { new = c.law_records.ensures.new; rows = c.law_records.ensures.rows; cuts = c.law_records.ensures.cuts; links = c.law_records.ensures.links; items = c.law_records.ensures.items; gone = c.law_records.ensures.gone; queues = c.law_records.ensures.queues; overdue = c.law_records.ensures.overdue; next = c.law_waits.ensures.order; waits = c.law_waits.ensures.keeps })
 
 pub returns-clause-example : goal.returns-clause-example
 returns-clause-example c = flight-is-kept

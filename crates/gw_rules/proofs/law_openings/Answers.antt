@@ -13,7 +13,7 @@ pub returns-clause-refused : goal.returns-clause-refused
 returns-clause-refused c = refused-only-with-fewer-slots
 
 pub returns-clause-lawful : goal.returns-clause-lawful
-returns-clause-lawful c = lawful-refused-only-with-fewer-slots (record { new = c.law_records.ensures.new; rows = c.law_records.ensures.rows; cuts = c.law_records.ensures.cuts; links = c.law_records.ensures.links; items = c.law_records.ensures.items; gone = c.law_records.ensures.gone })
+returns-clause-lawful c = lawful-refused-only-with-fewer-slots (record { new = c.law_records.ensures.new; rows = c.law_records.ensures.rows; cuts = c.law_records.ensures.cuts; links = c.law_records.ensures.links; items = c.law_records.ensures.items; gone = c.law_records.ensures.gone; queues = c.law_records.ensures.queues; overdue = c.law_records.ensures.overdue; next = c.law_waits.ensures.order; waits = c.law_waits.ensures.keeps })
 
 pub returns-clause-example : goal.returns-clause-example
 returns-clause-example c = refused-at-limits

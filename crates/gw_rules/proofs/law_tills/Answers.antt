@@ -1,5 +1,5 @@
 -- Proof of the contract of `law_tills`.
-use Rattle.gw_rules.proofs.TillLawLemmas.{uses-tills, owed-is-there, served-is-there, beginning-is-there}
+use Rattle.gw_rules.proofs.TillLawLemmas.{uses-tills, owed-is-there, served-is-there, beginning-is-there, queueing-is-there}
 use Rattle.gw_rules.proofs.TillLogExampleLemmas.{closed-till-lawful}
 use Rattle.gw_rules.proofs.law_tills.Goals as goal
 
@@ -14,6 +14,9 @@ returns-clause-served c = served-is-there
 
 pub returns-clause-begins : goal.returns-clause-begins
 returns-clause-begins c = beginning-is-there
+
+pub returns-clause-queues : goal.returns-clause-queues
+returns-clause-queues c = queueing-is-there
 
 pub returns-clause-closed_example : goal.returns-clause-closed_example
 returns-clause-closed_example c = closed-till-lawful

@@ -28,7 +28,7 @@ returns-in-Login c = λ known at. given-session known c.args.header c.args.reque
 
 pub returns-in-Payment : goal.returns-in-Payment
 returns-in-Payment c = λ known at. by_pattern known c.args.request c.in-Payment.is
-    (subst (λ (core : CoreValue). IsGivenByService known c.args.header c.args.request (named_terminal core c.args.header.poi) c.service.result) (sym at.core_is) (c.service.ensures known at.core_is at.kept_is at.slots_is))
+    (subst (λ (core : CoreValue). IsGivenByService known c.args.header c.args.request (named_terminal core c.args.header.poi) c.service.result) (sym at.core_is) (c.service.ensures known (record { slots_is = at.slots_is; line_is = at.line_is; kept_is = at.kept_is; core_is = at.core_is })))
   where
     by_pattern : (known : Known) (request : SaleRequest) → ((ask : PaymentAsk) × (request ≡ Payment ask)) ⊎ (((ask : ReversalAsk) × (request ≡ Reversal ask)) ⊎ ((period : Period) × (request ≡ Reconciliation period)))
         → IsGivenByService known c.args.header request (named_terminal known.core c.args.header.poi) c.service.result → IsGivenFor known (Request c.args.header request) c.service.result

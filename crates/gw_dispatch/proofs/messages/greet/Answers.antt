@@ -21,6 +21,7 @@ pub returns-clause-order : goal.returns-clause-order
 returns-clause-order g c = record {
   settings = c.perform.ensures.settings;
   days = c.perform.ensures.days;
+  waits = c.perform.ensures.waits;
   device_requests = c.perform.ensures.device_requests;
   order = λ kept all. c.perform.ensures.order kept (others-in-order kept c.args.core.now c.args.pt all) (λ uncut. all);
 }

@@ -3,9 +3,9 @@ use Rattle.std.proofs.Common.{◌<◌, refl, sym, ◌∙◌, subst}
 use Rattle.std.proofs.lemmas.Int.{to_z-of_z}
 use Rattle.gw_base.specs.Moment.{moment_of}
 use Rattle.zvt_msg.specs.Message.{value_of as message_value}
-use Rattle.gw_owes.specs.Days.{days_served}
+use Rattle.gw_owes.specs.Waits.{memory_reserved}
 use Rattle.gw_dispatch.proofs.GrowthLemmas.{goes-then}
-use Rattle.gw_dispatch.proofs.HandleLemmas.{GoesBy, handled-alone, handled-broken, handled-done, handled-has, handled-no-link, handled-others, handled-stays, handled-well, few-slots, slots-for}
+use Rattle.gw_dispatch.proofs.HandleLemmas.{GoesBy, handled-alone, handled-broken, handled-done, handled-has, handled-no-link, handled-others, handled-stays, handled-waits, handled-well, few-slots, slots-for}
 use Rattle.gw_dispatch.proofs.PerformLemmas.{MakesCall}
 use Rattle.gw_dispatch.proofs.ReaderLemmas.{still-same}
 use Rattle.gw_dispatch.proofs.messages.handle.Goals as goal
@@ -14,7 +14,7 @@ pub keep_wanted-requires-clause-room : goal.keep_wanted-requires-clause-room
 keep_wanted-requires-clause-room g c =
     let by : GoesBy c.args.state.now.records.ledger.records c.args.state.now.core (moment_of c.args.now) c.args.pt (message_value c.args.message.now) c.on_pt-acts.new.self c.on_pt-acts.result = simp (to_z-of_z, c.ranges.now) at c.on_pt-acts.ensures.row in
     let stays = handled-stays c.args.state.now.records.ledger.records c.args.state.now.core c.on_pt-acts.new.self c.args.now c.args.pt c.requires.read.0 (message_value c.args.message.now) c.on_pt-acts.result c.requires.read.1 by c.args.state.now.gateway c.requires.well.order c.law_records.ensures.rows c.law_records.ensures.cuts c.law_records.ensures.messages in
-    slots-for c.args.state.now.gateway c.args.state.now.records.ledger.records c.on_pt-acts.new.self c.args.pt c.on_pt-acts.result (days_served c.args.state.now.core.terminals) c.args.state.now.records (g.S.Site.observed c.args.site.now) stays
+    slots-for c.args.state.now.gateway c.args.state.now.records.ledger.records c.on_pt-acts.new.self c.args.pt c.on_pt-acts.result (memory_reserved c.args.state.now.core) c.args.state.now.records (g.S.Site.observed c.args.site.now) stays
     (few-slots c.args.state.now.records.ledger.records c.args.state.now.core c.on_pt-acts.new.self c.args.now c.args.pt c.requires.read.0 (message_value c.args.message.now) c.on_pt-acts.result c.requires.read.1 by c.args.state.now.gateway c.requires.well.order) refl c.requires.well.records c.requires.well.spare c.on_pt-acts.ensures.kept
 
 pub returns-in-Err-clause-triple : goal.returns-in-Err-clause-triple
@@ -62,8 +62,9 @@ returns-clause-well g c =
     let by : GoesBy c.args.state.now.records.ledger.records c.args.state.now.core (moment_of c.args.now) c.args.pt (message_value c.args.message.now) c.on_pt-acts.new.self c.on_pt-acts.result = simp (to_z-of_z, c.ranges.now) at c.on_pt-acts.ensures.row in
     let alone = handled-alone c.args.state.now.records.ledger.records c.args.state.now.core c.on_pt-acts.new.self c.args.now c.args.pt c.requires.read.0 (message_value c.args.message.now) c.on_pt-acts.result c.requires.read.1 by in
     let stays = handled-stays c.args.state.now.records.ledger.records c.args.state.now.core c.on_pt-acts.new.self c.args.now c.args.pt c.requires.read.0 (message_value c.args.message.now) c.on_pt-acts.result c.requires.read.1 by c.args.state.now.gateway c.requires.well.order c.law_records.ensures.rows c.law_records.ensures.cuts c.law_records.ensures.messages in
-    handled-well c.args.state.now (record { gateway = c.args.state.now.gateway; core = c.perform.new.core; records = c.keep_wanted.new.self }) c.on_pt-acts.new.self c.args.pt c.on_pt-acts.result (days_served c.args.state.now.core.terminals) (g.S.Site.observed c.args.site.now) (g.S.Site.observed c.keep_wanted.new.site) (g.S.Site.observed c.perform.new.site)
+    handled-well c.args.state.now (record { gateway = c.args.state.now.gateway; core = c.perform.new.core; records = c.keep_wanted.new.self }) c.on_pt-acts.new.self c.args.pt c.on_pt-acts.result (memory_reserved c.args.state.now.core) (g.S.Site.observed c.args.site.now) (g.S.Site.observed c.keep_wanted.new.site) (g.S.Site.observed c.perform.new.site)
     c.requires.well refl stays c.requires.well.spare c.in-Ok.ensures.kept c.in-Ok.ensures.stands c.perform.ensures.goes_on alone.settings c.perform.ensures.settings c.perform.ensures.days c.perform.ensures.device_requests c.perform.ensures.order c.perform.ensures.dialogues
+    (handled-waits c.args.state.now.records.ledger.records c.args.state.now.core c.on_pt-acts.new.self c.args.now c.args.pt c.requires.read.0 (message_value c.args.message.now) c.on_pt-acts.result c.requires.read.1 by c.args.state.now.gateway c.requires.well.order c.law_waits.ensures.keeps) c.perform.ensures.waits
 
 pub returns-clause-count : goal.returns-clause-count
 returns-clause-count g c =

@@ -9,6 +9,7 @@ use Rattle.gw_core.specs.IsRow.{link_event_of}
 use Rattle.gw_dispatch.specs.RunState.{OthersStayInOrder}
 use Rattle.gw_dispatch.proofs.GrowthLemmas.{pt-linked, stands-then}
 use Rattle.gw_dispatch.proofs.PerformLemmas.{IsRowOf, MakesCall, link-tried, link-has, link-alone, link-no-link, link-orders, others-have, others-in-order}
+use Rattle.gw_dispatch.proofs.RunStateLemmas.{waits-then}
 use Rattle.gw_dispatch.proofs.perform.link.Goals as goal
 
 pub perform-requires-clause-there : goal.perform-requires-clause-there
@@ -51,6 +52,7 @@ returns-clause-order g c =
     record {
       settings = c.perform.ensures.settings ∙ stays.settings;
       days = omega (arith, c.perform.ensures.days, stays.days);
+      waits = waits-then c.args.core.now c.on_link-wanted.new.self c.perform.new.core stays.waits c.perform.ensures.waits;
       device_requests = c.perform.ensures.device_requests ∙ stays.device_requests;
       order = λ kept all.
           let mid : AreTerminalsInOrder kept c.on_link-wanted.new.self = stays.order kept (others-in-order kept c.args.core.now c.args.pt all) in

@@ -6,6 +6,7 @@ use Rattle.gw_owes.specs.TerminalLaws.{owes_cut}
 use Rattle.gw_dispatch.specs.Wanted.{calls_wanted, is_reply}
 use Rattle.gw_dispatch.proofs.PerformLemmas.{Performs, acknowledges-calls, asks-calls, at-none, at-plain, by-calls, cuts-calls, refuses-calls, send-uncut}
 use Rattle.gw_dispatch.proofs.ReaderLemmas.{still-same}
+use Rattle.gw_dispatch.proofs.RunStateLemmas.{waits-same}
 use Rattle.gw_dispatch.proofs.SendLemmas.{sent-dialogues, sent-linked, sent-stays}
 use Rattle.gw_dispatch.proofs.perform.perform.Goals as goal
 
@@ -71,6 +72,12 @@ returns-in-SendTill-clause-settings g c = let stays = sent-stays c.args.core.now
 
 pub returns-in-SendTill-clause-days : goal.returns-in-SendTill-clause-days
 returns-in-SendTill-clause-days g c = let stays = sent-stays c.args.core.now c.send_owed.new.core c.send_owed.ensures.core in stays.days
+
+pub returns-in-None-clause-waits : goal.returns-in-None-clause-waits
+returns-in-None-clause-waits g c = waits-same c.args.core.now
+
+pub returns-in-SendTill-clause-waits : goal.returns-in-SendTill-clause-waits
+returns-in-SendTill-clause-waits g c = let stays = sent-stays c.args.core.now c.send_owed.new.core c.send_owed.ensures.core in stays.waits
 
 pub returns-in-SendTill-clause-order : goal.returns-in-SendTill-clause-order
 returns-in-SendTill-clause-order g c = λ kept others all.

@@ -2,9 +2,9 @@
 use Rattle.std.proofs.Common.{◌+◌, ◌<◌, refl, sym, ◌∙◌, subst}
 use Rattle.std.proofs.lemmas.Int.{to_z-of_z}
 use Rattle.gw_base.specs.Moment.{moment_of}
-use Rattle.gw_owes.specs.Days.{days_served}
+use Rattle.gw_owes.specs.Waits.{memory_reserved}
 use Rattle.gw_core.proofs.BeginLemmas.{begins-within}
-use Rattle.gw_dispatch.proofs.BeginLemmas.{BeginsBy, begun-no-link, begun-alone, begun-has, begun-others, begun-stays, begun-room, begun-broken, begun-done}
+use Rattle.gw_dispatch.proofs.BeginLemmas.{BeginsBy, begun-no-link, begun-alone, begun-has, begun-others, begun-stays, begun-room, begun-waits, begun-broken, begun-done}
 use Rattle.gw_dispatch.proofs.GrowthLemmas.{goes-then}
 use Rattle.gw_dispatch.proofs.HandleLemmas.{handled-well}
 use Rattle.gw_dispatch.proofs.PerformLemmas.{MakesCall}
@@ -18,7 +18,7 @@ begin-acts-requires-clause-there g c =
 pub keep_wanted-requires-clause-room : goal.keep_wanted-requires-clause-room
 keep_wanted-requires-clause-room g c =
     let by : BeginsBy c.args.state.now.gateway c.args.state.now.records.ledger.records c.args.state.now.core (moment_of c.args.now) c.args.pt c.args.till c.args.header.now c.args.request.now c.begin-acts.new.self c.begin-acts.result = simp (to_z-of_z, c.ranges.now) at c.begin-acts.ensures.row in
-    begun-room c.args.state.now.gateway c.args.state.now.records.ledger.records c.args.state.now.core c.begin-acts.new.self c.args.now c.args.pt c.args.till c.args.header.now c.args.request.now c.begin-acts.result c.requires.well.order by c.requires.begins c.law_records.ensures.rows c.law_records.ensures.items c.law_records.ensures.requests c.args.state.now.records (g.S.Site.observed c.args.site.now) refl c.requires.well.records c.requires.spare c.begin-acts.ensures.kept
+    begun-room c.args.state.now.gateway c.args.state.now.records.ledger.records c.args.state.now.core c.begin-acts.new.self c.args.now c.args.pt c.args.till c.args.header.now c.args.request.now c.begin-acts.result c.requires.well.order by c.requires.begins c.law_records.ensures.rows c.law_records.ensures.items c.law_records.ensures.requests c.law_waits.ensures.keeps c.args.state.now.records (g.S.Site.observed c.args.site.now) refl c.requires.well.records c.requires.spare c.begin-acts.ensures.kept
 
 pub returns-in-Err-clause-triple : goal.returns-in-Err-clause-triple
 returns-in-Err-clause-triple g c =
@@ -64,9 +64,10 @@ pub returns-clause-well : goal.returns-clause-well
 returns-clause-well g c =
     let by : BeginsBy c.args.state.now.gateway c.args.state.now.records.ledger.records c.args.state.now.core (moment_of c.args.now) c.args.pt c.args.till c.args.header.now c.args.request.now c.begin-acts.new.self c.begin-acts.result = simp (to_z-of_z, c.ranges.now) at c.begin-acts.ensures.row in
     let alone = begun-alone c.args.state.now.gateway c.args.state.now.records.ledger.records c.args.state.now.core c.begin-acts.new.self c.args.now c.args.pt c.args.till c.args.header.now c.args.request.now c.begin-acts.result c.requires.well.order by in
-    let stays = begun-stays c.args.state.now.gateway c.args.state.now.records.ledger.records c.args.state.now.core c.begin-acts.new.self c.args.now c.args.pt c.args.till c.args.header.now c.args.request.now c.begin-acts.result c.requires.well.order by c.requires.begins c.law_records.ensures.rows c.law_records.ensures.items c.law_records.ensures.requests in
-    handled-well c.args.state.now (record { gateway = c.args.state.now.gateway; core = c.perform.new.core; records = c.keep_wanted.new.self }) c.begin-acts.new.self c.args.pt c.begin-acts.result (days_served c.args.state.now.core.terminals + 1) (g.S.Site.observed c.args.site.now) (g.S.Site.observed c.keep_wanted.new.site) (g.S.Site.observed c.perform.new.site)
+    let stays = begun-stays c.args.state.now.gateway c.args.state.now.records.ledger.records c.args.state.now.core c.begin-acts.new.self c.args.now c.args.pt c.args.till c.args.header.now c.args.request.now c.begin-acts.result c.requires.well.order by c.requires.begins c.law_records.ensures.rows c.law_records.ensures.items c.law_records.ensures.requests c.law_waits.ensures.keeps in
+    handled-well c.args.state.now (record { gateway = c.args.state.now.gateway; core = c.perform.new.core; records = c.keep_wanted.new.self }) c.begin-acts.new.self c.args.pt c.begin-acts.result (memory_reserved c.args.state.now.core + 1) (g.S.Site.observed c.args.site.now) (g.S.Site.observed c.keep_wanted.new.site) (g.S.Site.observed c.perform.new.site)
     c.requires.well refl stays c.requires.spare c.in-Ok.ensures.kept c.in-Ok.ensures.stands c.perform.ensures.goes_on alone.settings c.perform.ensures.settings c.perform.ensures.days c.perform.ensures.device_requests c.perform.ensures.order c.perform.ensures.dialogues
+    (begun-waits c.args.state.now.gateway c.args.state.now.records.ledger.records c.args.state.now.core c.begin-acts.new.self c.args.now c.args.pt c.args.till c.args.header.now c.args.request.now c.begin-acts.result c.requires.well.order by c.requires.begins c.law_records.ensures.rows c.law_records.ensures.items c.law_records.ensures.requests c.law_waits.ensures.keeps) c.perform.ensures.waits
 
 pub returns-clause-count : goal.returns-clause-count
 returns-clause-count g c =

@@ -5,9 +5,9 @@ use Rattle.gw_base.specs.Moment.{moment_of}
 use Rattle.sale_frame.specs.Grammar.{IsIncompleteFrame}
 use Rattle.gw_owes.specs.Calls.{CutTill, SendTill}
 use Rattle.gw_owes.specs.Core.{Core}
-use Rattle.gw_owes.specs.Items.{Serve}
+use Rattle.gw_owes.specs.Items.{Queue, Serve}
 use Rattle.gw_rules.proofs.TripleLemmas.{triple-after, triple-refl, triple-then}
-use Rattle.gw_core.specs.declared.till.Given.TheVariants.{Nothing, Reply, Begins}
+use Rattle.gw_core.specs.declared.till.Given.TheVariants.{Nothing, Reply, Begins, Queues}
 use Rattle.gw_dispatch.specs.NextMessage.{IsNextOf}
 use Rattle.gw_dispatch.specs.Serving.{items_of}
 use Rattle.gw_dispatch.specs.Tills.{AllStillHold, IsThere, bytes_held, reader_of}
@@ -15,7 +15,7 @@ use Rattle.gw_dispatch.specs.declared.fault.TurnFault.TheVariants.{Memory}
 use Rattle.gw_dispatch.specs.declared.serving.Next.TheVariants.{Incomplete, Message, Unframed}
 use Rattle.gw_dispatch.proofs.ReaderLemmas.{absent-bytes, dropped-reader, dropped-still, empty-waits, others-still}
 use Rattle.gw_dispatch.proofs.SendLemmas.{forgets-this, sent-count}
-use Rattle.gw_dispatch.proofs.ServeLemmas.{dropped-items, moved, no-memory-said, same-items, same-well, still-left, still-shorter, taken-begins, taken-replied, taken-silent, takes-less, unframed, well-sent}
+use Rattle.gw_dispatch.proofs.ServeLemmas.{dropped-items, moved, no-memory-said, same-items, same-well, still-left, still-shorter, taken-begins, taken-queues, taken-replied, taken-silent, takes-less, unframed, well-sent}
 use Rattle.gw_dispatch.proofs.serving.serve_next.Goals as goal
 
 pub returns-in-Err-clause-triple : goal.returns-in-Err-clause-triple
@@ -133,8 +133,8 @@ returns-in-Ok-clause-less g c = λ e.
 pub returns-in-Ok-clause-others : goal.returns-in-Ok-clause-others
 returns-in-Ok-clause-others g c = others-still c.args.till c.args.tills.now.list.items c.next_message.new.tills.list.items c.begin.new.tills.list.items c.in-Ok-Message-Begins.ensures.others c.in-Ok.ensures.still
 
-pub returns-clause-triple : goal.returns-clause-triple
-returns-clause-triple g c = λ setup polls heard items same.
+pub returns-in-Ok-Message-Begins-clause-triple : goal.returns-in-Ok-Message-Begins-clause-triple
+returns-in-Ok-Message-Begins-clause-triple g c = λ setup polls heard items same.
     let next : IsNextOf c.args.state.now.gateway c.args.state.now.records.ledger.records c.args.state.now.core c.args.now (Message (Begins c.in-Ok-Message-Begins.pt c.in-Ok-Message-Begins.header c.in-Ok-Message-Begins.request c.in-Ok-Message-Begins.results)) (bytes_held c.args.till c.args.tills.now.list.items) (bytes_held c.args.till c.next_message.new.tills.list.items) =
     simp (to_z-of_z, c.ranges.now) at (rw (c.in-Ok-Message-Begins.field-0-is, c.in-Ok-Message-Begins.field-0-0-is) at c.in-Ok-Message-Begins.ensures.next) in
     let there : IsThere c.args.till c.args.tills.now.list.items = rw (c.in-Ok-Message-Begins.field-0-is) at c.in-Ok-Message-Begins.ensures.there in
@@ -143,5 +143,34 @@ returns-clause-triple g c = λ setup polls heard items same.
     (λ v p. moved c.args.state.now c.next_message.new.state c.in-Ok-Message-Begins.ensures.same c.args.tills.now.list.items c.next_message.new.tills.list.items c.in-Ok-Message-Begins.ensures.rested setup polls c.args.now heard [] (Serve c.in-Ok-Message-Begins.pt c.args.till c.in-Ok-Message-Begins.header c.in-Ok-Message-Begins.request ∷ (items_of c.args.till c.next_message.new.tills.list.items ++ items)) v p))
     (rw (to_z-of_z, c.ranges.now) at (c.in-Err-begin.ensures.triple setup polls heard (items_of c.args.till c.next_message.new.tills.list.items ++ items) (same ∙ sym c.in-Ok-Message-Begins.ensures.same.gateway)))
 
+pub returns-in-Ok-Message-Begins-clause-others : goal.returns-in-Ok-Message-Begins-clause-others
+returns-in-Ok-Message-Begins-clause-others g c = others-still c.args.till c.args.tills.now.list.items c.next_message.new.tills.list.items c.begin.new.tills.list.items c.in-Ok-Message-Begins.ensures.others c.in-Err-begin.ensures.still
+
+pub queue-requires-clause-well : goal.queue-requires-clause-well
+queue-requires-clause-well g c = same-well c.args.state.now c.next_message.new.state (Message (Queues c.in-Ok-Message-Queues.pt c.in-Ok-Message-Queues.header c.in-Ok-Message-Queues.request)) _ c.in-Ok-Message-Queues.ensures.same (rw c.in-Ok-Message-Queues.field-0-is at c.in-Ok-Message-Queues.ensures.spare) c.requires.well
+
+pub returns-in-Ok-queue-clause-triple : goal.returns-in-Ok-queue-clause-triple
+returns-in-Ok-queue-clause-triple g c = λ setup polls heard items same.
+    let next : IsNextOf c.args.state.now.gateway c.args.state.now.records.ledger.records c.args.state.now.core c.args.now (Message (Queues c.in-Ok-Message-Queues.pt c.in-Ok-Message-Queues.header c.in-Ok-Message-Queues.request)) (bytes_held c.args.till c.args.tills.now.list.items) (bytes_held c.args.till c.next_message.new.tills.list.items) =
+    simp (to_z-of_z, c.ranges.now) at (rw (c.in-Ok-Message-Queues.field-0-is, c.in-Ok-Message-Queues.field-0-0-is) at c.in-Ok-Message-Queues.ensures.next) in
+    let there : IsThere c.args.till c.args.tills.now.list.items = rw (c.in-Ok-Message-Queues.field-0-is) at c.in-Ok-Message-Queues.ensures.there in
+    triple-then _ _ _ _ _ _
+    (triple-after _ _ _ _ _ (taken-queues setup c.args.state.now.core c.args.state.now.records.ledger.records c.args.tills.now.list.items polls c.args.now heard c.args.state.now.gateway same c.args.till there c.in-Ok-Message-Queues.pt c.in-Ok-Message-Queues.header c.in-Ok-Message-Queues.request (bytes_held c.args.till c.args.tills.now.list.items) (bytes_held c.args.till c.next_message.new.tills.list.items) next _ items)
+    (λ v p. moved c.args.state.now c.next_message.new.state c.in-Ok-Message-Queues.ensures.same c.args.tills.now.list.items c.next_message.new.tills.list.items c.in-Ok-Message-Queues.ensures.rested setup polls c.args.now heard [] (Queue c.in-Ok-Message-Queues.pt c.args.till c.in-Ok-Message-Queues.header c.in-Ok-Message-Queues.request ∷ (items_of c.args.till c.next_message.new.tills.list.items ++ items)) v p))
+    (triple-then _ _ _ _ _ _ (rw (to_z-of_z, c.ranges.now) at (c.in-Ok-queue.ensures.triple setup polls heard (items_of c.args.till c.next_message.new.tills.list.items ++ items) (same ∙ sym c.in-Ok-Message-Queues.ensures.same.gateway)))
+    (still-left setup c.queue.new.state.core c.queue.new.state.records.ledger.records c.queue.new.tills.list.items polls c.args.now heard _ c.args.till c.next_message.new.tills.list.items items (c.queue.ensures.still c.args.till)))
+
+pub returns-in-Ok-queue-clause-less : goal.returns-in-Ok-queue-clause-less
+returns-in-Ok-queue-clause-less g c = λ e.
+    let next : IsNextOf c.args.state.now.gateway c.args.state.now.records.ledger.records c.args.state.now.core c.args.now (Message (Queues c.in-Ok-Message-Queues.pt c.in-Ok-Message-Queues.header c.in-Ok-Message-Queues.request)) (bytes_held c.args.till c.args.tills.now.list.items) (bytes_held c.args.till c.next_message.new.tills.list.items) =
+    simp (to_z-of_z, c.ranges.now) at (rw (c.in-Ok-Message-Queues.field-0-is, c.in-Ok-Message-Queues.field-0-0-is) at c.in-Ok-Message-Queues.ensures.next) in
+    still-shorter c.args.till c.next_message.new.tills.list.items c.queue.new.tills.list.items (length (bytes_held c.args.till c.args.tills.now.list.items)) (c.queue.ensures.still c.args.till) (takes-less c.args.state.now.gateway c.args.state.now.records.ledger.records c.args.state.now.core (Queues c.in-Ok-Message-Queues.pt c.in-Ok-Message-Queues.header c.in-Ok-Message-Queues.request) (bytes_held c.args.till c.args.tills.now.list.items) (bytes_held c.args.till c.next_message.new.tills.list.items) (moment_of c.args.now) next).0
+
+pub returns-in-Ok-queue-clause-others : goal.returns-in-Ok-queue-clause-others
+returns-in-Ok-queue-clause-others g c = others-still c.args.till c.args.tills.now.list.items c.next_message.new.tills.list.items c.queue.new.tills.list.items c.in-Ok-Message-Queues.ensures.others c.queue.ensures.still
+
+pub returns-clause-triple : goal.returns-clause-triple
+returns-clause-triple g c = λ setup polls heard items same. rw c.in-Err-queue.ensures.untouched (no-memory-said _ _ Memory refl)
+
 pub returns-clause-others : goal.returns-clause-others
-returns-clause-others g c = others-still c.args.till c.args.tills.now.list.items c.next_message.new.tills.list.items c.begin.new.tills.list.items c.in-Ok-Message-Begins.ensures.others c.in-Err-begin.ensures.still
+returns-clause-others g c = others-still c.args.till c.args.tills.now.list.items c.next_message.new.tills.list.items c.queue.new.tills.list.items c.in-Ok-Message-Queues.ensures.others c.queue.ensures.still

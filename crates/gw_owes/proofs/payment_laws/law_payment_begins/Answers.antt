@@ -1,6 +1,6 @@
 -- Proof of the contract of `law_payment_begins`.
 use Rattle.gw_owes.proofs.AskedLemmas.{each-accepted-begins}
-use Rattle.gw_owes.proofs.BeginLawLemmas.{each-begun-reversed, each-begun-served, each-kept-first, each-intent-asked}
+use Rattle.gw_owes.proofs.BeginLawLemmas.{each-begun-reversed, each-begun-served, each-kept-first, each-intent-asked, each-next-reversed, each-next-served}
 use Rattle.gw_owes.proofs.payment_laws.law_payment_begins.Goals as goal
 
 pub returns-clause-kept_first : goal.returns-clause-kept_first
@@ -17,3 +17,9 @@ returns-clause-served c = each-begun-served
 
 pub returns-clause-reversed : goal.returns-clause-reversed
 returns-clause-reversed c = each-begun-reversed
+
+pub returns-clause-next_served : goal.returns-clause-next_served
+returns-clause-next_served c = each-next-served
+
+pub returns-clause-next_reversed : goal.returns-clause-next_reversed
+returns-clause-next_reversed c = each-next-reversed

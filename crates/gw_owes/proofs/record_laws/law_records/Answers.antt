@@ -1,5 +1,6 @@
 -- Proof of the contract of `law_records`.
 use Rattle.gw_owes.proofs.MemoryLemmas.{gone-leaves-days, messages-take-theirs, requests-take-one}
+use Rattle.gw_owes.proofs.NextOrderLemmas.{next-takes-its-own, overdue-in-order, queues-in-order}
 use Rattle.gw_owes.proofs.OrderLemmas.{cuts-in-order, items-read, links-in-order, new-in-order, rows-in-order}
 use Rattle.gw_owes.proofs.RecordLemmas.{LedgerLaws}
 use Rattle.gw_owes.proofs.record_laws.law_records.Goals as goal
@@ -30,11 +31,20 @@ returns-clause-cuts c = cuts-in-order (ledger_laws c) c.law_read_fits.ensures.nu
 pub returns-clause-links : goal.returns-clause-links
 returns-clause-links c = links-in-order
 
+pub returns-clause-queues : goal.returns-clause-queues
+returns-clause-queues c = queues-in-order
+
+pub returns-clause-overdue : goal.returns-clause-overdue
+returns-clause-overdue c = overdue-in-order
+
 pub returns-clause-items : goal.returns-clause-items
 returns-clause-items c = items-read (ledger_laws c) c.law_read_fits.ensures.numbers
 
 pub returns-clause-messages : goal.returns-clause-messages
 returns-clause-messages c = messages-take-theirs
+
+pub returns-clause-next : goal.returns-clause-next
+returns-clause-next c = next-takes-its-own
 
 pub returns-clause-requests : goal.returns-clause-requests
 returns-clause-requests c = requests-take-one

@@ -1,5 +1,5 @@
 -- Proof of the contract of `law_reversal_premises`.
-use Rattle.gw_owes.proofs.ReversalPremiseLemmas.{causes, dialogues-may-stop, irreversible, reversal-accepted, reversal-means}
+use Rattle.gw_owes.proofs.ReversalPremiseLemmas.{causes, dialogues-may-stop, irreversible, reversal-accepted, reversal-means, reversal-waits}
 use Rattle.gw_owes.proofs.reversal_laws.law_reversal_premises.Goals as goal
 
 pub returns-clause-accepted : goal.returns-clause-accepted
@@ -16,3 +16,6 @@ returns-clause-causes c = causes
 
 pub returns-clause-stops : goal.returns-clause-stops
 returns-clause-stops c = dialogues-may-stop
+
+pub returns-clause-waits : goal.returns-clause-waits
+returns-clause-waits c = reversal-waits

@@ -7,3 +7,6 @@ returns-clause-lawful g c = gives-end _ _ _ c.run.result c.ending_of.result c.ar
 
 pub returns-clause-file : goal.returns-clause-file
 returns-clause-file g c = λ log e. (c.run.result, c.ending_of.ensures, c.run.ensures.file log e)
+
+pub returns-clause-which : goal.returns-clause-which
+returns-clause-which g c = (c.run.result, c.ending_of.ensures)

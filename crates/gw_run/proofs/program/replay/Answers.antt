@@ -22,13 +22,13 @@ pub returns-in-Err-clause-printed : goal.returns-in-Err-clause-printed
 returns-in-Err-clause-printed g c = λ written e.
     let y = c.write_last_lines.ensures.observed written e in (
       y.0,
-      (λ words acc. fault-printed _ c.in-Err.fault c.write_last_lines.result _ y.0 (input-fault c.in-Err.fault c.in-Err.ensures.fault) acc
+      (λ words acc. fault-printed _ c.in-Err.fault c.write_last_lines.result _ y.0 (input-fault c.in-Err.fault c.in-Err.ensures.fault) tt
           (input-cause c.in-Err.fault words _ _ acc c.in-Err.ensures.fault (λ e. c.in-Err.ensures.failed (ap Err e)) c.in-Err.ensures.bytes) y.1),
       y.2,
     )
 
 pub returns-in-Err-clause-cause : goal.returns-in-Err-clause-cause
-returns-in-Err-clause-cause g c = λ words acc. observed-cause c.in-Err.fault c.write_last_lines.result words _ _ acc
+returns-in-Err-clause-cause g c = λ words acc. observed-cause c.in-Err.fault c.write_last_lines.result words _ _
     (input-cause c.in-Err.fault words _ _ acc c.in-Err.ensures.fault (λ e. c.in-Err.ensures.failed (ap Err e)) c.in-Err.ensures.bytes)
     c.write_last_lines.ensures.output_failed c.write_last_lines.ensures.which
 

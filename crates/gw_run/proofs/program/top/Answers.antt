@@ -1,9 +1,29 @@
 -- Proof of the contract of `top`.
-use Rattle.gw_run.proofs.ReplayLemmas.{status-after, status-end}
+use Rattle.std.proofs.Common.{◌∙◌, sym}
+use Rattle.gw_run.specs.declared.ending.Ending.TheVariants.{Memory}
+use Rattle.gw_run.proofs.ReplayLemmas.{status-after}
+use Rattle.gw_run.proofs.TopLemmas.{lines-ended, memory-served, memory-serves, replay-asked, replay-ended, serve-ended, serve-turns, serves-status}
 use Rattle.gw_run.proofs.program.top.Goals as goal
 
-pub returns-then-is_replay-clause-complete : goal.returns-then-is_replay-clause-complete
-returns-then-is_replay-clause-complete g c = λ acc script calm written. status-end c.replay.result _ c.status.result c.status.ensures (c.replay.ensures.complete script calm written) c.replay.ensures.output_failed written
+pub returns-in-Serve-clause-served : goal.returns-in-Serve-clause-served
+returns-in-Serve-clause-served g c = λ turns asks. serve-ended c.status.result _ _ _ c.serve.result c.status.ensures c.serve.ensures.cause c.serve.ensures.printed
 
-pub returns-then-is_replay-clause-log : goal.returns-then-is_replay-clause-log
-returns-then-is_replay-clause-log g c = λ acc text log left is calm written. status-after c.replay.result c.status.result log c.status.ensures (c.replay.ensures.log text log left is calm written)
+pub returns-in-Serve-clause-headline : goal.returns-in-Serve-clause-headline
+returns-in-Serve-clause-headline g c = λ turns asks before e v stands clear.
+    serves-status _ c.status.result c.in-Ok-Some.order.polls turns c.serve.result before _ c.status.ensures (serve-turns c.args.words.now c.in-Ok-Some.order turns (sym c.in-Ok-Some.field-0-is ∙ c.in-Ok-Some.ensures) asks) (c.serve.ensures.headline before e v stands clear)
+
+pub returns-in-Replay-clause-ended : goal.returns-in-Replay-clause-ended
+returns-in-Replay-clause-ended g c = λ asks. replay-ended c.status-in-Replay.result c.args.words.now _ _ c.replay.result c.status-in-Replay.ensures (replay-asked c.args.words.now c.in-Ok-Some.order (sym c.in-Ok-Some.field-0-is ∙ c.in-Ok-Some.ensures) c.in-Replay.is) c.replay.ensures.cause c.replay.ensures.printed
+
+pub returns-in-Replay-clause-log : goal.returns-in-Replay-clause-log
+returns-in-Replay-clause-log g c = λ asks text log left is calm written. status-after c.replay.result c.status-in-Replay.result log c.status-in-Replay.ensures (c.replay.ensures.log text log left is calm written)
+
+pub returns-in-Err-clause-ended : goal.returns-in-Err-clause-ended
+returns-in-Err-clause-ended g c = λ asks. lines-ended c.status-in-Err.result c.args.words.now _ _ Memory c.write_last_lines-in-Err.result tt c.status-in-Err.ensures tt c.write_last_lines-in-Err.ensures.output_failed c.write_last_lines-in-Err.ensures.which c.write_last_lines-in-Err.ensures.observed
+
+pub returns-in-Err-clause-served : goal.returns-in-Err-clause-served
+returns-in-Err-clause-served g c = λ turns asks. memory-served c.status-in-Err.result _ _ _ c.write_last_lines-in-Err.result c.status-in-Err.ensures c.write_last_lines-in-Err.ensures.output_failed c.write_last_lines-in-Err.ensures.which c.write_last_lines-in-Err.ensures.observed
+
+pub returns-in-Err-clause-headline : goal.returns-in-Err-clause-headline
+returns-in-Err-clause-headline g c = λ turns asks before e v stands clear.
+    memory-serves c.law_headline.ensures.throughout _ turns c.status-in-Err.result c.write_last_lines-in-Err.result before v _ c.status-in-Err.ensures c.write_last_lines-in-Err.ensures.which e stands

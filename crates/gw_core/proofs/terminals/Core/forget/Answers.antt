@@ -27,4 +27,4 @@ returns c =
     let items = c.self.inside.terminals.items in
     let is : c.loop-terminal.terminal-items ≡ map (forgets_till c.args.till) items =
     all-mapped (forgets_till c.args.till) items c.deref_mut-terminal-items.result.now c.loop-terminal.terminal-items c.loop-terminal.terminal-index c.deref_mut-terminal-items.ensures.value c.loop-terminal-test.false c.loop-terminal.invariant in
-    rw (← c.self.view_is, written-back items c.loop-terminal.terminal-items c.self.inside.terminals.len (ap length is ∙ length-map items (forgets_till c.args.till)) (sym c.deref_mut-terminal-items.ensures.len ∙ ap length c.deref_mut-terminal-items.ensures.value), is) refl
+    rw (← c.self.view_is, c.forget.ensures, written-back items c.loop-terminal.terminal-items c.self.inside.terminals.len (ap length is ∙ length-map items (forgets_till c.args.till)) (sym c.deref_mut-terminal-items.ensures.len ∙ ap length c.deref_mut-terminal-items.ensures.value), is) refl

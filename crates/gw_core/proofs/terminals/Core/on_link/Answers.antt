@@ -14,7 +14,7 @@ use Rattle.gw_core.proofs.terminals.Core.on_link.Goals as goal
 
 pub returns-then-up-clause-row : goal.returns-then-up-clause-row
 returns-then-up-clause-row c = λ setup kept.
-    let core : CoreValue = record { terminals = c.self.inside.terminals.items; waits = []; logged_out = c.self.inside.sessions; device_requests = c.self.inside.device_requests } in
+    let core : CoreValue = record { terminals = c.self.inside.terminals.items; waits = c.self.inside.queues; logged_out = c.self.inside.sessions; device_requests = c.self.inside.device_requests } in
     let terminal : Terminal = c.index_mut-terminal.result.now in
     let found : slice_get core.terminals c.args.pt ≡ Some terminal = found-at core.terminals c.args.self.now c.args.pt c.from.result terminal (sym (ap (λ (held : CoreValue). held.terminals) c.self.view_is)) c.requires.there c.from.ensures c.index_mut-terminal.ensures.value in
     let taken : moment_of (to_z w64 (of_z w64 c.to_moment-now.result)) ≡ moment_of c.args.now =
@@ -46,7 +46,7 @@ invariant_of-self-2 c =
 
 pub returns-clause-row : goal.returns-clause-row
 returns-clause-row c = λ setup kept.
-    let core : CoreValue = record { terminals = c.self.inside.terminals.items; waits = []; logged_out = c.self.inside.sessions; device_requests = c.self.inside.device_requests } in
+    let core : CoreValue = record { terminals = c.self.inside.terminals.items; waits = c.self.inside.queues; logged_out = c.self.inside.sessions; device_requests = c.self.inside.device_requests } in
     let terminal : Terminal = c.index_mut-terminal.result.now in
     let held : c.args.self.now.terminals ≡ core.terminals = sym (ap (λ (held : CoreValue). held.terminals) c.self.view_is) in
     let found : slice_get core.terminals c.args.pt ≡ Some terminal = found-at core.terminals c.args.self.now c.args.pt c.from.result terminal held c.requires.there c.from.ensures c.index_mut-terminal.ensures.value in

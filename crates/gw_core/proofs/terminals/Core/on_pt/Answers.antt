@@ -32,7 +32,7 @@ handle-acts-requires-clause-order c =
 pub returns-clause-row : goal.returns-clause-row
 returns-clause-row c = λ setup.
     let kept = c.args.ledger.now.records in
-    let core : CoreValue = record { terminals = c.self.inside.terminals.items; waits = []; logged_out = c.self.inside.sessions; device_requests = c.self.inside.device_requests } in
+    let core : CoreValue = record { terminals = c.self.inside.terminals.items; waits = c.self.inside.queues; logged_out = c.self.inside.sessions; device_requests = c.self.inside.device_requests } in
     let inside : c.args.pt < length core.terminals = subst (λ (held : CoreValue). c.args.pt < length held.terminals) (sym c.self.view_is) c.requires.there in
     let is : c.index_mut-terminal.result.now ≡ get_or core.terminals c.args.pt c.index_mut-terminal.result.now =
     subst (λ (at : ℕ). c.index_mut-terminal.result.now ≡ get_or core.terminals at c.index_mut-terminal.result.now) c.from.ensures c.index_mut-terminal.ensures.value in

@@ -1,6 +1,7 @@
 -- Proof of the contract of `Dispatch::on_pt_bytes`.
 use Rattle.std.proofs.Common.{arith, ◌∙◌}
 use Rattle.std.proofs.lemmas.Int.{to_z-of_z}
+use Rattle.gw_dispatch.specs.MidRound.{keys_waiting}
 use Rattle.gw_dispatch.specs.Rounds.{due_in}
 use Rattle.gw_dispatch.proofs.FitLemmas.{linked-is}
 use Rattle.gw_dispatch.proofs.RoundLemmas.{linked-within, pt-unheld, pt-handled}
@@ -15,7 +16,7 @@ returns-then-not-is_linked-clause-triple g c = λ setup polls.
 
 pub returns-in-Ok-clause-triple : goal.returns-in-Ok-clause-triple
 returns-in-Ok-clause-triple g c = λ setup polls.
-    pt-handled _ _ _ setup c.args.self.now.state.core c.on_bytes.new.state.core c.on_bytes.new.state.records.ledger.records c.on_bytes.new.readers.items c.on_bytes.new.tills.list.items polls c.args.now c.in-Ok.ensures.count
+    pt-handled _ _ _ setup c.args.self.now.state.core c.on_bytes.new.state.core c.on_bytes.new.state.records.ledger.records c.on_bytes.new.readers.items c.on_bytes.new.tills.list.items polls c.args.now c.in-Ok.ensures.count (keys_waiting c.args.self.now.state.core)
     (simp (to_z-of_z, c.ranges.now) at (c.in-Ok.ensures.triple setup polls (due_in c.args.self.now)))
 
 pub returns-in-Err-clause-triple : goal.returns-in-Err-clause-triple

@@ -1,6 +1,7 @@
 -- Proof of the contract of `Dispatch::on_pt_closed`.
 use Rattle.std.proofs.Common.{arith, refl, ◌∙◌}
 use Rattle.std.proofs.lemmas.Int.{to_z-of_z}
+use Rattle.gw_dispatch.specs.MidRound.{keys_waiting}
 use Rattle.gw_dispatch.specs.Rounds.{due_in}
 use Rattle.gw_dispatch.proofs.FitLemmas.{linked-is}
 use Rattle.gw_dispatch.proofs.RunStateLemmas.{ready-core}
@@ -16,7 +17,7 @@ returns-then-not-is_linked-clause-triple g c = λ setup polls.
 
 pub returns-clause-triple : goal.returns-clause-triple
 returns-clause-triple g c = λ setup polls.
-    pt-handled _ _ _ setup c.args.self.now.state.core c.on_closed.new.core c.args.self.now.state.records.ledger.records c.args.self.now.readers.items c.on_closed.new.tills.list.items polls c.args.now c.on_closed.ensures.count
+    pt-handled _ _ _ setup c.args.self.now.state.core c.on_closed.new.core c.args.self.now.state.records.ledger.records c.args.self.now.readers.items c.on_closed.new.tills.list.items polls c.args.now c.on_closed.ensures.count (keys_waiting c.args.self.now.state.core)
     (rw c.deref.ensures.value at (simp (to_z-of_z, c.ranges.now) at (c.on_closed.ensures.triple setup c.args.self.now.state.records.ledger.records polls (due_in c.args.self.now))))
 
 pub returns-clause-ready : goal.returns-clause-ready

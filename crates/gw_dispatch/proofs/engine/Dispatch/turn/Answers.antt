@@ -1,5 +1,5 @@
 -- Proof of the contract of `Dispatch::turn`.
-use Rattle.std.proofs.Common.{◌≡◌, ◌+◌, ℕ, List, length, refl, ◌∙◌, to_z, of_z, w64}
+use Rattle.std.proofs.Common.{◌≡◌, ◌+◌, ℕ, List, [], length, refl, ◌∙◌, to_z, of_z, w64}
 use Rattle.std.specs.Prelude.{ℤ}
 use Rattle.std.specs.Vec.{with_items}
 use Rattle.std.proofs.lemmas.Int.{to_z-of_z}
@@ -12,9 +12,10 @@ use Rattle.gw_site.specs.Steps.{PollCall}
 use Rattle.gw_site.specs.Turns.{PolledTurns, IsPromised, IsWithinBuf}
 use Rattle.gw_site.specs.declared.site.Polled.{Polled}
 use Rattle.gw_rules.specs.Triple.{Triple}
-use Rattle.gw_rules.proofs.TripleLemmas.{triple-then, triple-after}
+use Rattle.gw_rules.proofs.TripleLemmas.{triple-then, triple-after, triple-some}
 use Rattle.gw_rules.proofs.CallLemmas.{poll-triple}
-use Rattle.gw_dispatch.specs.Rounds.{IsBetweenRounds, IsPolled}
+use Rattle.gw_dispatch.specs.MidRound.{due_items}
+use Rattle.gw_dispatch.specs.Rounds.{IsBetweenRounds, IsHandling, IsPolled}
 use Rattle.gw_dispatch.specs.declared.engine.Dispatch.{Dispatch}
 use Rattle.gw_dispatch.proofs.GrowthLemmas.{goes-then, was-polled}
 use Rattle.gw_dispatch.proofs.ReaderLemmas.{still-same}
@@ -34,7 +35,8 @@ returns-in-Ok-Went-clause-triple g c = λ setup polls named.
     triple-then _ _ _ _ _ _
     (polled _ _ setup c.args.self.now polls c.poll-now.result (to_z w64 (of_z w64 c.poll-now.result.now)) c.poll-now.new.buf same c.poll-now.ensures.turns c.poll-now.ensures.step c.poll-now.ensures.promise c.poll-now.ensures.count c.poll-now.ensures.buf c.on_event.ensures.bytes)
     (triple-then _ _ _ _ _ _ (rw c.in-Ok-Went.field-0-is at (c.in-Ok-Went.ensures.triple setup polls named))
-    (triple-after _ _ _ _ _ (rw c.deref_mut.ensures.value at (c.on_due.ensures.triple setup c.on_event.new.self.state.records.ledger.records (polls + 1)))
+    (triple-after _ _ _ _ _ (triple-some _ _ (λ keys v. IsHandling setup c.on_event.new.self (polls + 1) (to_z w64 (of_z w64 c.poll-now.result.now)) (due_items (length c.on_event.new.self.state.core.terminals) keys) v) _ []
+    (λ keys. rw c.deref_mut.ensures.value at (c.on_due.ensures.triple setup c.on_event.new.self.state.records.ledger.records (polls + 1) keys)))
     (λ v q. handled-rest setup (record { state = record c.on_event.new.self.state { core = c.on_due.new.core }; tills = c.on_due.new.tills; readers = with_items c.on_event.new.self.readers c.on_due.new.readers }) (polls + 1) (to_z w64 (of_z w64 c.poll-now.result.now)) v
     (rw (with_items_is c.on_event.new.self.readers c.on_due.new.readers (c.on_due.auto.readers ∙ c.deref_mut.ensures.len)) q))))
 

@@ -1,0 +1,149 @@
+//! What the words ask for.
+ghost use Rattle.std.specs.Prelude.{◌≡◌, IfOk, false, map};
+ghost use Rattle.clap.specs.Matches.{found_of};
+ghost use Rattle.clap.specs.Simple.{app_of};
+ghost use Rattle.clap.specs.Walk.{rows_of, rule_of};
+ghost use Rattle.gw_run.specs.Words.{gateway_command, mode_in, mode_of, number_in, number_rule, order_below, order_in, order_of};
+ghost use Rattle.gw_run.specs.WordsRead.{IsTaken};
+
+use clap::error::ErrorKind;
+use clap::{Arg, ArgMatches, Command, value_parser};
+use gw_base::Text;
+use gw_bytes::MOST_DRILL_PAYMENTS;
+use std::alloc::{AllocError, Global};
+
+/// What the gateway is to do.
+#[derive(Clone, Copy, Debug, PartialEq, Eq)]
+pub enum Mode {
+    /// Serve tills and terminals, over the site that is handed in.
+    Serve,
+    /// Play a script and write its log.
+    Replay,
+}
+
+/// What the words ask for.
+#[derive(Clone, Copy, Debug, PartialEq, Eq)]
+pub struct Order {
+    pub mode: Mode,
+    /// So many polls may be made.
+    pub polls: u64,
+}
+
+/// An option with a number, and the number that counts where it isn't given.
+fn number_option<'a>(alloc: Global, name: &'a str, default: &'a str) -> Arg<'a>
+    ensures rule { rule_of result ≡ number_rule name.entry.now default.entry.now }
+    ensures local { result.global ≡ false }
+{
+    Arg::new(alloc, name)
+        .long(name)
+        .value_parser(value_parser!(u64))
+        .default_value(default)
+}
+
+/// The command that the words are for.
+fn gateway_command<'a>(alloc: Global) -> Result<Command<'a>, AllocError>
+    ensures { IfOk result (λ command. app_of command ≡ gateway_command) }
+{
+    let mode = Arg::new(alloc, "mode").required(true);
+    let polls = number_option(alloc, "turns", "18446744073709551615");
+    let from = number_option(alloc, "from", "1");
+    let payments = number_option(alloc, "payments", "100");
+    Command::new(alloc, "gateway")
+        .no_binary_name(true)
+        .disable_help_flag(true)
+        .disable_version_flag(true)
+        .arg(mode)?
+        .arg(polls)?
+        .arg(from)?
+        .arg(payments)
+}
+
+/// What the command was given with these words, where it takes them.
+fn taken<'a>(alloc: Global, words: &'a [&'a str]) -> Result<Option<ArgMatches<'a>>, AllocError>
+    ensures { IfOk result (IsTaken (map (λ word. word.now) words.entry.now)) }
+{
+    let command = gateway_command(alloc)?;
+    match command.try_get_matches_from(words) {
+        Ok(matches) => Ok(Some(matches)),
+        Err(error) => {
+            if error.kind() == ErrorKind::OutOfMemory {
+                Err(AllocError)
+            } else {
+                Ok(None)
+            }
+        }
+    }
+}
+
+/// The mode with this name.
+fn mode_of(name: &str) -> Option<Mode>
+    ensures { result ≡ mode_of name.now }
+{
+    if name == "serve" {
+        Some(Mode::Serve)
+    } else if name == "replay" {
+        Some(Mode::Replay)
+    } else {
+        None
+    }
+}
+
+/// The mode that is named.
+fn mode_in(matches: &ArgMatches) -> Option<Mode>
+    ensures { result ≡ mode_in (rows_of (found_of matches.now)) }
+{
+    match matches.get_str("mode") {
+        Some(name) => mode_of(name),
+        None => None,
+    }
+}
+
+/// The number that an option has.
+fn number_in(matches: &ArgMatches, name: &str) -> Option<u64>
+    ensures { result ≡ number_in name.now (rows_of (found_of matches.now)) }
+{
+    matches.get_one::<u64>(name)
+}
+
+/// What is asked for, where no more payments are than may be.
+fn order_below(payments: u64, mode: Mode, polls: u64) -> Option<Order>
+    ensures { result ≡ order_below payments mode polls }
+{
+    if payments > u64::from(MOST_DRILL_PAYMENTS) {
+        None
+    } else {
+        Some(Order { mode, polls })
+    }
+}
+
+/// What is asked for by what the command was given.
+fn order_in(matches: &ArgMatches) -> Option<Order>
+    ensures { result ≡ order_in (rows_of (found_of matches.now)) }
+{
+    let mode = mode_in(matches)?;
+    let polls = number_in(matches, "turns")?;
+    let payments = number_in(matches, "payments")?;
+    order_below(payments, mode, polls)
+}
+
+/// The words as slices.
+fn slices<'a>(alloc: Global, words: &'a [Text]) -> Result<Vec<&'a str>, AllocError>
+    ensures { IfOk result (λ list. map (λ word. word.now) list.items ≡ words.entry.now) }
+{
+    let mut list = Vec::new(alloc);
+    for word in words {
+        list.push(word.as_str())?;
+    }
+    Ok(list)
+}
+
+/// What the words ask for; nothing where they are refused.
+pub(crate) fn order_of(alloc: Global, words: &[Text]) -> Result<Option<Order>, AllocError>
+    ensures { IfOk result (λ order. order ≡ order_of words.now) }
+{
+    let list = slices(alloc, words)?;
+    match taken(alloc, &list)? {
+        Some(matches) => Ok(order_in(&matches)),
+        None => Ok(None),
+    }
+}

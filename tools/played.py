@@ -1,0 +1,264 @@
+"""A terminal and a till of Python's sockets, and a gateway between them, for the scripts beside this file."""
+import collections
+import json
+import os
+import select
+import signal
+import socket
+import struct
+import subprocess
+import threading
+import time
+
+# How long a till, a terminal or the gateway is awaited, in seconds.
+PATIENCE = 15
+
+
+class Differs(Exception):
+    """Something came that wasn't expected, or nothing did."""
+
+
+def wait_until(is_so, what):
+    """Waits until it is so."""
+    end = time.monotonic() + PATIENCE
+    while not is_so():
+        if time.monotonic() > end:
+            raise Differs("waited in vain for " + what)
+        time.sleep(0.002)
+
+
+def free_address():
+    """A loopback address that is free now."""
+    with socket.socket() as probe:
+        probe.bind(("127.0.0.1", 0))
+        return probe.getsockname()
+
+
+def text_of(address):
+    return "%s:%d" % address
+
+
+def apdu(head, data=b""):
+    """An APDU of this class and instruction."""
+    size = bytes([len(data)]) if len(data) < 255 else b"\xff" + struct.pack("<H", len(data))
+    return bytes.fromhex(head) + size + data
+
+
+def digits(value, size):
+    """A number as BCD in so many bytes."""
+    return bytes.fromhex(str(value).zfill(2 * size))
+
+
+ACK, COMPLETION = apdu("8000"), apdu("060f")
+
+
+class Terminal:
+    """A ZVT terminal on loopback with one connection at a time, which numbers its transactions from 1 and keeps a book.
+
+    A payment is approved at once, after the lines of `prints`. Where `holds` is set nothing is said of the next payment that is booked
+    but its acknowledgement, until it is released."""
+
+    def __init__(self, prints=()):
+        self.listener = socket.create_server(("127.0.0.1", 0))
+        self.address = self.listener.getsockname()
+        self.prints = list(prints)
+        self.book = []  # (kind, amount, receipt number)
+        self.commands = []  # the class and instruction of each command, and when its first bytes were read
+        self.holds = threading.Event()
+        self.is_held = threading.Event()
+        self.released = threading.Event()
+        self.line = None
+        self.links = 0
+        threading.Thread(target=self._serve, daemon=True).start()
+
+    def _serve(self):
+        while True:
+            try:
+                self.line, _ = self.listener.accept()
+            except OSError:
+                return
+            self.line.setsockopt(socket.IPPROTO_TCP, socket.TCP_NODELAY, 1)
+            self.links += 1
+            try:
+                self._talk(self.line)
+            except OSError:
+                pass
+            self.line.close()
+
+    def _talk(self, line):
+        got = b""
+        while True:
+            more = line.recv(4096)
+            if not more:
+                return
+            seen = time.perf_counter()
+            got += more
+            while len(got) >= 3:
+                size, start = (got[2], 3) if got[2] < 255 else (struct.unpack("<H", got[3:5])[0], 5)
+                if len(got) < start + size:
+                    break
+                head, data, got = got[:2].hex(), got[start : start + size], got[start + size :]
+                if head[:2] not in ("80", "84"):
+                    self.commands.append((head, seen))
+                    self._answer(line, head, data)
+
+    def _report(self):
+        """The status of the last transaction."""
+        kind, amount, receipt = self.book[-1]
+        number = len(self.book)
+        return apdu("040f", b"\x27\x00\x04" + digits(amount, 6) + b"\x0b" + digits(number, 3) + b"\x87" + digits(receipt, 2))
+
+    def _answer(self, line, head, data):
+        if head == "0620":
+            line.sendall(ACK + (self._report() + COMPLETION if self.book else apdu("061e", b"\x83")))
+        elif head in ("0601", "0630"):
+            if head == "0601":
+                self.book.append(("payment", int(data[1:7].hex()), (len(self.book) + 1) % 10000))
+            else:
+                receipt = int(data[4:6].hex())
+                amount = [entry[1] for entry in self.book if entry[2] == receipt][-1]
+                self.book.append(("reversal", amount, (len(self.book) + 1) % 10000))
+            if self.holds.is_set():
+                self.holds.clear()
+                line.sendall(ACK)
+                self.is_held.set()
+                self.released.wait(PATIENCE)
+                self.released.clear()
+            else:
+                line.sendall(ACK)
+            prints = b"".join(apdu("06d1", b"\x00" + text) for text in self.prints)
+            line.sendall(prints + self._report() + COMPLETION)
+        elif head == "06e0":
+            line.sendall(ACK)
+        else:
+            line.sendall(ACK + COMPLETION)
+
+    def charged(self):
+        """How many payments are booked."""
+        return sum(entry[0] == "payment" for entry in self.book)
+
+    def restart(self):
+        """Its connection ends, as where it is switched off and on."""
+        self.line.shutdown(socket.SHUT_RDWR)
+
+
+class Till:
+    """A till, with the messages that came and weren't asked for yet."""
+
+    def __init__(self, address, sale="S1"):
+        self.sale = sale
+        self.line = socket.create_connection(address, PATIENCE)
+        self.line.setsockopt(socket.IPPROTO_TCP, socket.TCP_NODELAY, 1)
+        self.got = b""
+        self.waiting = collections.deque()
+
+    def send(self, category, service, body, poi="T1"):
+        header = dict(
+            ProtocolVersion="3.0",
+            MessageClass="Service",
+            MessageCategory=category,
+            MessageType="Request",
+            ServiceID=str(service),
+            SaleID=self.sale,
+            POIID=poi,
+        )
+        text = json.dumps({"SaleToPOIRequest": {"MessageHeader": header, category + "Request": body}}).encode()
+        self.line.sendall(struct.pack(">I", len(text)) + text)
+
+    def pay(self, service, amount, poi="T1"):
+        sale = {"SaleTransactionID": {"TransactionID": str(service), "TimeStamp": "2025-03-07T10:11:04+00:00"}}
+        self.send("Payment", service, {"SaleData": sale, "PaymentTransaction": {"AmountsReq": {"Currency": "EUR", "RequestedAmount": amount}}}, poi)
+
+    def ask_status(self, service, of):
+        self.send("TransactionStatus", service, {"MessageReference": {"ServiceID": str(of)}})
+
+    def reverse(self, service, transaction):
+        self.send("Reversal", service, {"OriginalPOITransaction": {"POITransactionID": {"TransactionID": transaction}}, "ReversalReason": "MerchantCancel"})
+
+    def _next(self):
+        while len(self.got) < 4 or len(self.got) < 4 + struct.unpack(">I", self.got[:4])[0]:
+            self.line.settimeout(PATIENCE)
+            more = self.line.recv(65536)
+            if not more:
+                raise Differs("the gateway has cut a till")
+            self.got += more
+        size = struct.unpack(">I", self.got[:4])[0]
+        text, self.got = self.got[4 : 4 + size], self.got[4 + size :]
+        return json.loads(text)
+
+    def message(self, category, service):
+        """The next message of this category and ServiceID; others are left for later."""
+        for message in self.waiting:
+            if is_of(message, category, service):
+                self.waiting.remove(message)
+                return body_of(message, category)
+        while True:
+            message = self._next()
+            if is_of(message, category, service):
+                return body_of(message, category)
+            self.waiting.append(message)
+
+    def close(self):
+        self.line.close()
+
+
+def is_of(message, category, service):
+    header = next(iter(message.values()))["MessageHeader"]
+    return header["MessageCategory"] == category and header.get("ServiceID") == str(service)
+
+
+def body_of(message, category):
+    envelope = next(iter(message.values()))
+    return envelope.get(category + "Response") or envelope[category + "Request"]
+
+
+class Gateway:
+    """The program in the mode `serve`, with a configuration for these terminals and a journal."""
+
+    def __init__(self, program, journal, terminals, listen=None, line=2):
+        self.listen = listen or free_address()
+        parts = ['listen = "%s"' % text_of(self.listen), 'journal = "%s"' % journal, "line = %d" % line]
+        for number, terminal in enumerate(terminals):
+            parts += ["[[terminal]]", 'poi = "T%d"' % (number + 1), 'address = "%s"' % text_of(terminal.address), 'currency = "EUR"', 'password = "123456"', "config = 186"]
+        self.process = subprocess.Popen([program, "serve"], stdin=subprocess.PIPE, stdout=subprocess.PIPE)
+        self.process.stdin.write("".join(part + "\n" for part in parts).encode())
+        self.process.stdin.close()
+
+    def till(self, sale="S1"):
+        """A till that is connected, once the gateway listens."""
+        end = time.monotonic() + PATIENCE
+        while True:
+            try:
+                return Till(self.listen, sale)
+            except ConnectionRefusedError:
+                if self.process.poll() is not None or time.monotonic() > end:
+                    raise Differs("the gateway doesn't listen: %r" % self.ended())
+                time.sleep(0.005)
+
+    def wait_ready(self, till, pois):
+        """Waits until each of these terminals is ready."""
+        end = time.monotonic() + PATIENCE
+        service = 900000
+        for poi in pois:
+            while True:
+                service += 1
+                till.send("Diagnosis", service, {}, poi)
+                if till.message("Diagnosis", service).get("POIStatus", {}).get("GlobalStatus") == "OK":
+                    break
+                if time.monotonic() > end:
+                    raise Differs("%s doesn't become ready" % poi)
+                time.sleep(0.02)
+
+    def ended(self):
+        """What it has printed and its status, once it has ended by itself."""
+        try:
+            out = self.process.stdout.read().decode()
+            return out, self.process.wait(PATIENCE)
+        except subprocess.TimeoutExpired:
+            raise Differs("the gateway doesn't end")
+
+    def kill(self):
+        """Kills it, by its own id."""
+        os.kill(self.process.pid, signal.SIGKILL)
+        self.process.wait()
+        self.process.stdout.close()

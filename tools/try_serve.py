@@ -1,0 +1,146 @@
+"""What the built gateway does between a terminal and tills on loopback: payments with print lines, a repeat, a reversal, a request that waits,
+a till that vanishes, a terminal that is restarted, a kill in the middle of a payment, and a second gateway on the same journal.
+
+try_serve.py PROGRAM: PROGRAM is a build of the program. It ends with status 1 at the first thing that differs."""
+import os
+import sys
+import tempfile
+
+from played import Differs, Gateway, Terminal, wait_until
+
+
+def same(seen, expected, what):
+    if seen != expected:
+        raise Differs("%s: expected %r, and got %r" % (what, expected, seen))
+
+
+def result(body):
+    """The result of a reply, with its condition where it has one."""
+    response = body["Response"]
+    return response["Result"] + (" " + response["ErrorCondition"] if "ErrorCondition" in response else "")
+
+
+def printed(till, service):
+    """The lines of the next print request of the payment of this ServiceID."""
+    return [line["Text"] for line in till.message("Print", service)["PrintOutput"]["OutputContent"]["OutputText"]]
+
+
+def pays_prints_and_reverses(gateway, terminal, till):
+    terminal.prints = [b"Kundenbeleg", b"EUR 10,99"]
+    till.pay(1, 10.99)
+    same(printed(till, 1) + printed(till, 1), ["Kundenbeleg", "EUR 10,99"], "what the terminal prints")
+    paid = till.message("Payment", 1)
+    same(result(paid), "Success", "a payment")
+    terminal.prints = []
+    till.pay(1, 10.99)
+    same(till.message("Payment", 1), paid, "the payment's repeat")
+    same(terminal.charged(), 1, "payments booked after a repeat")
+    till.reverse(2, paid["POIData"]["POITransactionID"]["TransactionID"])
+    reversed_ = till.message("Reversal", 2)
+    same((result(reversed_), reversed_["ReversedAmount"]), ("Success", 10.99), "a reversal")
+
+
+def waits_for_another(gateway, terminal, till):
+    terminal.holds.set()
+    till.pay(3, 5)
+    terminal.is_held.wait()
+    other = gateway.till("S2")
+    other.pay(1, 7)
+    other.ask_status(2, 1)
+    same(result(other.message("TransactionStatus", 2)), "Failure InProgress", "the status of a request that waits")
+    terminal.released.set()
+    same(result(till.message("Payment", 3)), "Success", "the payment that is served")
+    same(result(other.message("Payment", 1)), "Success", "the payment that has waited")
+    other.close()
+
+
+def till_vanishes(gateway, terminal, till):
+    terminal.is_held.clear()
+    terminal.holds.set()
+    gone = gateway.till("S3")
+    gone.pay(1, 4)
+    terminal.is_held.wait()
+    gone.close()
+    terminal.released.set()
+    wait_until(lambda: asks(till, "S3") != "Failure InProgress", "the end of a payment whose till is gone")
+    same(asks(till, "S3"), "Success", "a payment whose till is gone")
+
+
+asked = [100]
+
+
+def asks(till, sale):
+    """What a status says of the payment of ServiceID 1 of this SaleID."""
+    asked[0] += 1
+    till.send("TransactionStatus", asked[0], {"MessageReference": {"ServiceID": "1", "SaleID": sale}})
+    reply = till.message("TransactionStatus", asked[0])
+    if "RepeatedMessageResponse" not in reply:
+        return result(reply)
+    return result(reply["RepeatedMessageResponse"]["RepeatedResponseMessageBody"]["PaymentResponse"])
+
+
+def terminal_restarts(gateway, terminal, till):
+    links = terminal.links
+    terminal.restart()
+    wait_until(lambda: terminal.links > links, "a new link to a terminal that was restarted")
+    gateway.wait_ready(till, ["T1"])
+    till.pay(5, 3)
+    same(result(till.message("Payment", 5)), "Success", "a payment after the terminal was restarted")
+
+
+def is_killed(program, journal, gateway, terminal, till):
+    """Returns the gateway that is started after it."""
+    charged = terminal.charged()
+    terminal.is_held.clear()
+    terminal.holds.set()
+    till.pay(6, 12.34)
+    terminal.is_held.wait()
+    gateway.kill()
+    same(terminal.charged(), charged + 1, "payments booked before the kill")
+    terminal.released.set()
+    gateway = Gateway(program, journal, [terminal])
+    till = gateway.till()
+    gateway.wait_ready(till, ["T1"])
+    till.ask_status(7, 6)
+    told = till.message("TransactionStatus", 7)["RepeatedMessageResponse"]["RepeatedResponseMessageBody"]["PaymentResponse"]
+    same((result(told), told["PaymentResult"]["AmountsResp"]["AuthorizedAmount"]), ("Success", 12.34), "the payment in which the gateway was killed")
+    till.pay(6, 12.34)
+    same(result(till.message("Payment", 6)), "Success", "its repeat")
+    same(terminal.charged(), charged + 1, "payments booked in all for it")
+    return gateway
+
+
+def second_is_refused(program, journal, terminal):
+    second = Gateway(program, journal, [terminal])
+    same(second.ended(), ("open\nstatus 69\n", 69), "a second gateway on the same journal")
+
+
+def play(program, folder):
+    journal = os.path.join(folder, "gateway.jrn")
+    terminal = Terminal()
+    gateway = Gateway(program, journal, [terminal])
+    try:
+        till = gateway.till()
+        gateway.wait_ready(till, ["T1"])
+        pays_prints_and_reverses(gateway, terminal, till)
+        waits_for_another(gateway, terminal, till)
+        till_vanishes(gateway, terminal, till)
+        terminal_restarts(gateway, terminal, till)
+        gateway = is_killed(program, journal, gateway, terminal, till)
+        second_is_refused(program, journal, terminal)
+    finally:
+        gateway.kill()
+
+
+def main():
+    try:
+        with tempfile.TemporaryDirectory() as folder:
+            play(sys.argv[1], folder)
+    except Differs as difference:
+        print("try-serve: %s" % difference)
+        return 1
+    print("try-serve: each payment was charged once, and each reply agrees with the terminal's book")
+    return 0
+
+
+sys.exit(main())
