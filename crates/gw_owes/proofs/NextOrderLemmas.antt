@@ -7,9 +7,6 @@ use Rattle.std.proofs.lemmas.List.Elements.{All-cons, All-nil}
 use Rattle.std.proofs.lemmas.Option.{same_Some}
 use Rattle.gw_base.specs.declared.condition.Condition.{Condition}
 use Rattle.gw_base.specs.declared.condition.Condition.TheVariants.{Aborted, NotAllowed, NotFound, UnavailableService}
-use Rattle.gw_base.specs.declared.key.Key.{Key}
-use Rattle.gw_base.proofs.KeyLemmas.{key_cmp-ties}
-use Rattle.std.specs.Ordering.{is_eq}
 use Rattle.sale_values.specs.declared.header.Header.{Header}
 use Rattle.sale_values.specs.declared.names.Period.{Period}
 use Rattle.sale_values.specs.declared.names.Period.TheVariants.{SaleReconciliation, AcquirerSynchronisation, AcquirerReconciliation, PreviousReconciliation}
@@ -47,6 +44,7 @@ use Rattle.gw_owes.proofs.LimitLemmas.{payment-within, reversal-within}
 use Rattle.gw_owes.proofs.NextLemmas.{BeginsDayWaiting, BeginsWaiting, each-next, each-overdue, each-queued, known_without}
 use Rattle.gw_owes.proofs.PaymentLemmas.{day_row, waits-steps}
 use Rattle.gw_owes.proofs.RecordLemmas.{LedgerLaws}
+use Rattle.gw_owes.proofs.WaitingListLemmas.{same-key-itself}
 
 -- ---- how many wait
 
@@ -88,10 +86,6 @@ first-there number (one ∷ rest) wait is = by-test (eqb one.pt number) refl is 
         → (first_waiting (queue_of number rest) ≡ Some wait → IsThere rest number wait) → IsThere (one ∷ rest) number wait
     by-test true same here more = record { at = 0; there = here; number_is = ap (λ (w : Wait). w.pt) (sym (same_Some one wait here)) ∙ eqb-true one.pt number same }
     by-test false apart later more = let found = more later in record { at = suc found.at; there = found.there; number_is = found.number_is }
-
--- a key is the same as itself
-pub same-key-itself : (key : Key) → same_key key key ≡ true
-same-key-itself key = ap is_eq ((key_cmp-ties key key).1 refl)
 
 -- one fewer waits once this doesn't
 pub one-fewer : (waits : List Wait) (at : ℕ) (wait : Wait) → slice_get waits at ≡ Some wait → length (filter (λ (other : Wait). not (same_key wait.key other.key)) waits) + 1 ≤ length waits

@@ -9,7 +9,7 @@ use Rattle.gw_base.proofs.KeyLemmas.{key_cmp-ties}
 use Rattle.gw_base.specs.declared.key.Key.{Key}
 use Rattle.gw_ledger.specs.Keys.{same_key}
 use Rattle.gw_owes.specs.Core.{Wait}
-use Rattle.gw_owes.specs.Waits.{first_waiting, queue_of, waiting_with}
+use Rattle.gw_owes.specs.Waits.{queue_of, waiting_with}
 use Rattle.gw_owes.proofs.RecordLemmas.{same-key-is}
 
 -- ---- who is left
@@ -72,14 +72,6 @@ waits-under key (first ∷ rest) wait found = by-test (waits-under key rest wait
     by-test : (waiting_with key rest ≡ Some wait → IsWaiting key rest wait) → (b : Bool) → same_key key first.key ≡ b → cond b (Some first) (waiting_with key rest) ≡ Some wait → IsWaiting key (first ∷ rest) wait
     by-test later true same some = let is = same_Some first wait some in record { place = 0; there = some; same = subst (λ (w : Wait). same_key key w.key ≡ true) is same }
     by-test later false apart rests = let one = later rests in record { place = suc one.place; there = one.there; same = one.same }
-
--- the first of a queue waits, for that terminal
-pub first-there : (number : ℕ) (waits : List Wait) (wait : Wait) → first_waiting (queue_of number waits) ≡ Some wait → IsLeft (λ (w : Wait). eqb w.pt number) waits wait
-first-there number waits wait first = left-there (λ (w : Wait). eqb w.pt number) waits 0 wait (by-list (queue_of number waits) first)
-  where
-    by-list : (all : List Wait) → first_waiting all ≡ Some wait → slice_get all 0 ≡ Some wait
-    by-list [] none = absurd cc
-    by-list (one ∷ others) some = some
 
 -- ---- each waits once
 

@@ -45,10 +45,11 @@ use Rattle.gw_owes.specs.Waits.{core_with_wait, queue_of, waiting_for, waiting_w
 use Rattle.gw_owes.proofs.HandlingLemmas.{by-where, each-linked, each-terminal}
 use Rattle.gw_owes.proofs.KeepingLemmas.{own-key-poi, replies-keep-nothing}
 use Rattle.gw_owes.proofs.NextLemmas.{BeginsDayWaiting, BeginsWaiting, JoinsAt, WaitsFirst, each-next, each-overdue, each-queued, known_without}
+use Rattle.gw_owes.proofs.NextOrderLemmas.{first-there}
 use Rattle.gw_owes.proofs.PaymentLemmas.{day_row}
 use Rattle.gw_owes.proofs.RecordLemmas.{LedgerLaws, apart-keys-turned}
 use Rattle.gw_owes.proofs.WaitingFrameLemmas.{LeavesWaits, becomes-leaves, carried-wait, carried-waits, gone-keeps-waits, its-settings, known_after, left-in-order, named-is, no-records-add, nothing-leaves, one-record-adds, same-leaves}
-use Rattle.gw_owes.proofs.WaitingListLemmas.{HasNoneWith, first-there, left-there, none-under, once-pushed, pushed-there, queue-pushed-few}
+use Rattle.gw_owes.proofs.WaitingListLemmas.{HasNoneWith, left-there, none-under, once-pushed, pushed-there, queue-pushed-few}
 use Rattle.gw_owes.proofs.WaitingRowLemmas.{asking-key, handle-leaves-waits, request_key, serve-leaves-waits}
 use Rattle.gw_owes.proofs.WaitingStepLemmas.{PassesToQueue, may-wait, passes-to-queue, served-poi}
 
@@ -154,7 +155,7 @@ own-request-key header key is = by-service header.service is
 module _ (laws : LedgerLaws) (known : Known) (order : IsInOrder known) (were : AreWaitsInOrder known) (number : ℕ) (terminal : Terminal) (last : ℕ) (wait : Wait) (first : WaitsFirst known number terminal last wait) where
   -- the first is in order
   first-in-order : IsWaitInOrder known wait
-  first-in-order = let there = first-there number known.core.waits wait first.first_is in were.each there.place wait there.there
+  first-in-order = let there = first-there number known.core.waits wait first.first_is in were.each there.at wait there.there
 
   -- its key is that of none of the others
   others-apart : (at : ℕ) (other : Wait) → slice_get (known_without known wait).core.waits at ≡ Some other → same_key other.key wait.key ≡ false

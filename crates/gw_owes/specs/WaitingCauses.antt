@@ -1,5 +1,5 @@
 -- Why a till gets a Failure for a request that waited: each has its cause, and each cause its Failure.
-use Rattle.std.specs.Prelude.{◌≡◌, ℕ, true, false, ◌&&◌, List, [], ◌∷◌, Option, Some}
+use Rattle.std.specs.Prelude.{◌≡◌, ℕ, true, false, ◌&&◌, List, [], ◌∷◌, ◌++◌, Option, Some}
 use Rattle.gw_base.specs.declared.condition.Condition.{Condition}
 use Rattle.gw_base.specs.declared.condition.Condition.TheVariants.{Aborted, NotAllowed, NotFound, UnavailableService}
 use Rattle.gw_base.specs.declared.condition.Condition.TheVariants as conditions
@@ -77,8 +77,8 @@ pub data IsOfWaiting (item : RoundItem) : Type 0 where
   Queued : (number till : ℕ) (header : Header) (request : SaleRequest) → item ≡ Queue number till header request → IsOfWaiting item
   Deadline : (key : Key) → item ≡ Overdue key → IsOfWaiting item
 
--- each of their replies has such a cause, and is the only call
+-- each reply among their calls has such a cause, and is the only call
 abbrev pub EachWaitingReplyHasCause : Type 0
 EachWaitingReplyHasCause =
-    (tills : List Connection) (known : Known) (item : RoundItem) (till : ℕ) (reply : ReplyValue) (more : List OwedCall) → IsOfWaiting item → (row_of tills known item).calls ≡ SendTill till reply ∷ more
-    → WaitingCause known item till reply × (more ≡ [])
+    (tills : List Connection) (known : Known) (item : RoundItem) (before : List OwedCall) (till : ℕ) (reply : ReplyValue) (more : List OwedCall) → IsOfWaiting item
+    → (row_of tills known item).calls ≡ before ++ SendTill till reply ∷ more → WaitingCause known item till reply × ((row_of tills known item).calls ≡ SendTill till reply ∷ [])

@@ -47,9 +47,10 @@ pub fn law_waiting_examples()
     gw_ledger::law_examples();
 }
 
-/// What a till gets for a request that waited is always a Failure, and each has its cause: at the beginning of its queue, once its terminal
-/// is ready, `NotFound` exactly where it is a reversal whose original isn't there, `NotAllowed` exactly where that is there and may not be
-/// reversed, and `UnavailableService` exactly where no trace number is left for it; and `Aborted` where a till aborts it, or its deadline has come.
+/// What a till gets for a request as it leaves its queue without being begun is always a Failure, the only call, and each has its cause:
+/// at the beginning of its queue, once its terminal is ready, `NotFound` exactly where it is a reversal whose original isn't there,
+/// `NotAllowed` exactly where that is there and may not be reversed, and `UnavailableService` exactly where no trace number is left for it;
+/// and `Aborted` where a till aborts it, or its deadline has come.
 pub fn law_waiting_causes()
     ensures first { EachFirstIsRefusedExactly }
     ensures replies { EachWaitingReplyHasCause }

@@ -97,7 +97,7 @@ module _ (number : ℕ) (v : View) where
   in-order-none move none is = subst (λ (l : List Wait). IsInOrder l (queue_in v number) (queue_in (after v move) number)) (sym none) is
 
   move-in-order : (move : Move) → QueueChange v move number (queue_in v number) (queue_in (after v move) number) → MoveInOrder move
-  move-in-order move (Stays same) = in-order-none move (same-none move same) (stays-in-order _ _ same)
+  move-in-order move (Stays none same) = in-order-none move (same-none move same) (stays-in-order _ _ same)
   move-in-order move (Joins wait begins new) =
       in-order-none move (gone-none move (Queue number wait.till wait.header wait.request) begins (λ rest. refl)) (joins-in-order _ _ wait new)
   move-in-order move (FirstLeaves wait begins first new) =
@@ -107,7 +107,7 @@ module _ (number : ℕ) (v : View) where
       (first-in-order (queue_in v number) (queue_in (after v Begin) number) wait first (sym (ap (λ (m : Move). queue_in (after v m) number) begins.move_is) ∙ new)))
   move-in-order move (AbortedLeaves named till header reference begins new) =
       in-order-none move (gone-none move (Queue named till header _) begins (λ rest. refl)) (lost-in-order _ _ _ new)
-  move-in-order move (OverdueLeaves wait begins overdue new) = in-order-none move (gone-none move (Overdue wait.key) begins (λ rest. refl)) (lost-in-order _ _ _ new)
+  move-in-order move (OverdueLeaves wait begins waits overdue new) = in-order-none move (gone-none move (Overdue wait.key) begins (λ rest. refl)) (lost-in-order _ _ _ new)
   move-in-order move (TillLeaves till (inl begins) new) = in-order-none move (gone-none move (Gone till) begins (λ rest. refl)) (lost-in-order _ _ _ new)
   move-in-order move (TillLeaves till (inr cut) new) = in-order-none move (made-none move (CutTill till) cut) (lost-in-order _ _ _ new)
   move-in-order move (RunEnds turn made between new) =

@@ -1,5 +1,5 @@
 -- Laws of lawful logs on the requests that wait: each terminal's queue is first in, first out, the earliest deadline comes first, and nothing waits of a till that is gone.
-use Rattle.std.specs.Prelude.{◌≡◌, ◌⊎◌, ℕ, ℤ, ◌==◌, int_lt, nat_lt, not, ◌&&◌, Bool, true, false, if◌then◌else◌, List, [], ◌∷◌, ◌++◌, length, drop, map, filter, slice_get, option_to_list, Some, Err}
+use Rattle.std.specs.Prelude.{◌≡◌, ◌⊎◌, ℕ, ℤ, ◌==◌, int_lt, nat_lt, not, ◌&&◌, Bool, true, false, if◌then◌else◌, List, [], ◌∷◌, ◌++◌, length, drop, map, filter, slice_get, option_to_list, Some, None, Err}
 use Rattle.gw_base.specs.declared.key.Key.{Key}
 use Rattle.gw_base.specs.declared.setup.Setup.{Setup}
 use Rattle.gw_site.specs.Sorts.{Poll, Event, is_between, sort_of}
@@ -18,7 +18,7 @@ use Rattle.gw_owes.specs.Items.{RoundItem, Crowded, Message, Asked, Unframed, Go
 use Rattle.gw_owes.specs.ReadAs.{ReadAs, Request, Silent, NoMessage, NoJson}
 use Rattle.gw_owes.specs.WaitingLaws.{AreWaitsInOrder}
 use Rattle.gw_owes.specs.WaitingRows.{is_overdue}
-use Rattle.gw_owes.specs.Waits.{first_waiting, queue_of}
+use Rattle.gw_owes.specs.Waits.{first_waiting, queue_of, waiting_with}
 use Rattle.gw_owes.specs.declared.terminal.Standing.TheVariants.{Ready}
 use Rattle.gw_owes.specs.declared.terminal.Terminal.{Terminal}
 use Rattle.gw_rules.specs.Lawful.{Allowed, Begins, IsCourse, MayPoll, Stands}
@@ -59,18 +59,25 @@ without_key key waits = filter (λ (wait : Wait). not (same_key key wait.key)) w
 abbrev pub not_of_till : ℕ → List Wait → List Wait
 not_of_till till waits = filter (λ (wait : Wait). not (wait.till == till)) waits
 
+-- with this move no request comes to its end: none waits under a key that a till aborts, of none that is looked at has the deadline come, no till is gone or cut, and no run begins or ends
+pub record NoneEnds (v : View) (move : Move) : Type 0 where
+  pub aborted : (named till : ℕ) (header : Header) (reference : Reference) → BeginsWith v move (Queue named till header (requests.Abort reference)) → waiting_with (key_of header reference) v.scene.core.waits ≡ None
+  pub overdue : (wait : Wait) → BeginsWith v move (Overdue wait.key) → waiting_with wait.key v.scene.core.waits ≡ Some wait → is_overdue v.scene.outside.moment wait ≡ false
+  pub there : (till : ℕ) → BeginsWith v move (Gone till) ⊎ (move ≡ Make (CutTill till)) → ⊥
+  pub goes_on : (turn : Turn) → move ≡ Make turn → is_between turn ≡ false
+
 -- how a terminal's queue changes with a move
 pub data QueueChange (v : View) (move : Move) (number : ℕ) (old new : List Wait) : Type 0 where
-  -- it stays as it is
-  Stays : new ≡ old → QueueChange v move number old new
+  -- it stays as it is, and no request comes to its end
+  Stays : NoneEnds v move → new ≡ old → QueueChange v move number old new
   -- a request of a till joins it, as the last
   Joins : (wait : Wait) → BeginsWith v move (Queue number wait.till wait.header wait.request) → new ≡ old ++ wait ∷ [] → QueueChange v move number old new
   -- the first of them, which came before the others, is begun or refused
   FirstLeaves : (wait : Wait) → BeginsWith v move (NextWaiting number) → first_waiting old ≡ Some wait → new ≡ without_key wait.key old → QueueChange v move number old new
   -- the one that a till's Abort names leaves it
   AbortedLeaves : (named till : ℕ) (header : Header) (reference : Reference) → BeginsWith v move (Queue named till header (requests.Abort reference)) → new ≡ without_key (key_of header reference) old → QueueChange v move number old new
-  -- the one leaves it whose deadline has come
-  OverdueLeaves : (wait : Wait) → BeginsWith v move (Overdue wait.key) → is_overdue v.scene.outside.moment wait ≡ true → new ≡ without_key wait.key old → QueueChange v move number old new
+  -- the one leaves it whose deadline has come, and which waits under the key that is looked at
+  OverdueLeaves : (wait : Wait) → BeginsWith v move (Overdue wait.key) → waiting_with wait.key v.scene.core.waits ≡ Some wait → is_overdue v.scene.outside.moment wait ≡ true → new ≡ without_key wait.key old → QueueChange v move number old new
   -- those of a till leave it that has closed its connection, or was cut
   TillLeaves : (till : ℕ) → BeginsWith v move (Gone till) ⊎ (move ≡ Make (CutTill till)) → new ≡ not_of_till till old → QueueChange v move number old new
   -- a run begins or ends, and nothing waits
