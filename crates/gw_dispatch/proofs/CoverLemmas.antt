@@ -1,5 +1,5 @@
 -- In a round of a lawful log each request that has waited for too long is still to be looked at, in the order of the deadlines.
-use Rattle.std.proofs.Common.{◌≡◌, ◌⊎◌, inl, inr, ◌≤◌, ◌+◌, ℕ, ℤ, pos, List, [], ◌∷◌, ◌++◌, length, refl, sym, ◌∙◌, ap, subst, append-nil, arith, Bool, true, false, Option, Some, None}
+use Rattle.std.proofs.Common.{◌≡◌, ◌⊎◌, inl, inr, ◌≤◌, ◌+◌, ℕ, pos, List, [], ◌∷◌, ◌++◌, length, refl, sym, ◌∙◌, ap, subst, append-nil, arith, Bool, true, false, Option, Some, None}
 use Rattle.std.specs.Prelude.{int_lt, nat_lt, map, filter, not, is_some, option_and_then, if◌then◌else◌}
 use Rattle.std.specs.List.{flat_map}
 use Rattle.std.proofs.lemmas.Bool.{or_parts}
@@ -30,14 +30,14 @@ use Rattle.gw_owes.specs.Items.{RoundItem, Crowded, Message, Asked, Unframed, Go
 use Rattle.gw_owes.specs.Links.{LinkEvent, LinkIsMade, LinkHasFailed, LinkIsLost, link_row}
 use Rattle.gw_owes.specs.PaymentLaws.{is_asked_item}
 use Rattle.gw_owes.specs.ReadAs.{ReadAs, Request, Silent, NoMessage, NoJson}
-use Rattle.gw_owes.specs.Requests.{abort_items, begun_at, begun_by}
-use Rattle.gw_owes.specs.Row.{Known, Row, owing, owing_nothing, owing_where}
+use Rattle.gw_owes.specs.Requests.{abort_items, begun_by}
+use Rattle.gw_owes.specs.Row.{Known, Row, owing, owing_where}
 use Rattle.gw_owes.specs.Rows.{row_of, asked_row}
-use Rattle.gw_owes.specs.Steps.{StepResult, KeptReply, Fails, Begins, Waits, item_of_result, items_of_result}
+use Rattle.gw_owes.specs.Steps.{StepResult, KeptReply, Fails, Begins, Waits, items_of_result}
 use Rattle.gw_owes.specs.Stops.{stop_items_at}
-use Rattle.gw_owes.specs.Terminals.{registers, terminal_at, unlinks}
+use Rattle.gw_owes.specs.Terminals.{registers, unlinks}
 use Rattle.gw_owes.specs.WaitingRows.{is_overdue, of_waiting, overdue_row, taken_out, wait_of}
-use Rattle.gw_owes.specs.Waits.{is_pending_key, waiting_for, waiting_with}
+use Rattle.gw_owes.specs.Waits.{waiting_for, waiting_with}
 use Rattle.gw_owes.proofs.AskedLemmas.{only-asked-begins}
 use Rattle.gw_owes.proofs.HandlingLemmas.{by-where, each-terminal}
 use Rattle.gw_owes.proofs.NextLemmas.{JoinsAt, each-next, each-overdue, each-queued}

@@ -16,7 +16,7 @@ use Rattle.gw_owes.specs.Terminals.{core_without}
 use Rattle.gw_rules.specs.Scene.{Scene, row_in, row_at}
 use Rattle.gw_rules.specs.Stage.{Stage, Resting, Opening, Looking, AtPoll, Handling, Over, Broken, is_round, busy}
 use Rattle.gw_rules.specs.View.{View, called, begun, at_first, at_item, till_cut}
-use Rattle.gw_rules.specs.Lawful.{Stands, may_begin}
+use Rattle.gw_rules.specs.Lawful.{IsIdle, Stands, may_begin}
 use Rattle.gw_rules.specs.Triple.{Extends, Triple, Owing}
 use Rattle.gw_rules.proofs.TripleLemmas.{triple-refl, triple-then, triple-after, triple-before, triple-some, begin-triple}
 use Rattle.gw_dispatch.specs.Round.{IsIn, InRound, Pending, with_core}
@@ -146,3 +146,9 @@ module _ (known : Known) (polls : ℕ) (o : Outside) (till : ℕ) (closed : is_c
       let last : List RoundItem = if has_bad_length reading.rest then Unframed till ∷ [] else [] in
       triple-before s s _ _ _ (λ v p. subst (λ list. InRound known polls o list v) (append_assoc (map (Message till) reading.payloads) last items) p)
       (triple-then s s s _ _ _ (pass-payloads reading.payloads (last ++ items)) (pass-unframed items (has_bad_length reading.rest)))
+
+-- ---- no call is owed
+
+-- in a round in which no call is owed
+pub round-idle : (known : Known) (polls : ℕ) (o : Outside) (items : List RoundItem) (v : View) → InRound known polls o items v → IsIdle v
+round-idle known polls o items v (scene, is, f) = subst IsIdle (sym is) (record { round = f.round; calls = refl })

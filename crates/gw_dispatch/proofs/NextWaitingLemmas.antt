@@ -1,16 +1,14 @@
 -- The request that has waited longest for a terminal: it is begun or refused, and then the next one is looked at.
 use Rattle.std.proofs.Common.{◌≡◌, ◌≤◌, ◌<◌, ◌+◌, ℕ, List, [], ◌∷◌, ◌++◌, length, refl, sym, ◌∙◌, ap, subst, arith}
-use Rattle.std.specs.Prelude.{ℤ, Bool, true, false, Option, Some, None, Result, Ok, Err, filter, not, slice_get, option_to_list}
+use Rattle.std.specs.Prelude.{ℤ, Bool, true, false, Result, Ok, Err, option_to_list}
 use Rattle.gw_base.specs.Moment.{moment_of}
 use Rattle.gw_base.specs.declared.setup.Setup.{Setup}
 use Rattle.gw_ledger.specs.Fold.{AreFolded}
-use Rattle.gw_ledger.specs.Keys.{same_key}
 use Rattle.gw_site.specs.Observed.{Observed}
 use Rattle.gw_site.specs.Outside.{Connection, Outside}
 use Rattle.jrn_record.specs.declared.records.Record.{Record}
-use Rattle.gw_owes.specs.declared.terminal.Terminal.{Terminal}
 use Rattle.gw_owes.specs.Calls.{OwedCall, records_kept}
-use Rattle.gw_owes.specs.Core.{Core, Wait}
+use Rattle.gw_owes.specs.Core.{Core}
 use Rattle.gw_owes.specs.Dialogues.{AllHaveDialogues, OthersHaveDialogues}
 use Rattle.gw_owes.specs.Items.{RoundItem, NextWaiting}
 use Rattle.gw_owes.specs.Links.{is_linked}
@@ -18,7 +16,7 @@ use Rattle.gw_owes.specs.Payments.{beginning_row}
 use Rattle.gw_owes.specs.RecordLaws.{AreTerminalsInOrder, EachNextTakesItsMemory, HasRoom, IsInOrder, IsNumbered, memory_taken}
 use Rattle.gw_owes.specs.Row.{Known, Row}
 use Rattle.gw_owes.specs.Rows.{row_of}
-use Rattle.gw_owes.specs.TerminalLaws.{ChangesTerminalAlone, owes_cut}
+use Rattle.gw_owes.specs.TerminalLaws.{ChangesTerminalAlone}
 use Rattle.gw_owes.specs.WaitingLaws.{AreWaitsInOrder, EachNextKeepsInOrder, EachRowKeepsWaits}
 use Rattle.gw_owes.specs.WaitingRows.{next_waiting_row}
 use Rattle.gw_owes.specs.Waits.{memory_reserved}
@@ -30,18 +28,17 @@ use Rattle.gw_owes.proofs.TerminalLemmas.{next-alone}
 use Rattle.gw_owes.proofs.WaitingFrameLemmas.{moments-keep-waits}
 use Rattle.gw_rules.specs.Stage.{Broken}
 use Rattle.gw_rules.specs.Triple.{Triple}
-use Rattle.gw_rules.specs.View.{View, at_first}
+use Rattle.gw_rules.specs.View.{at_first}
 use Rattle.gw_rules.proofs.TripleLemmas.{triple-after, triple-before, triple-frame, triple-some, triple-then}
 use Rattle.gw_core.specs.IsRow.{AreCallsWith, IsRowThen, KnowsWaits, keeping_calls, known_with, next_items}
-use Rattle.gw_core.specs.declared.act.Act.{Act}
 use Rattle.gw_core.specs.declared.act.Acts.{Acts}
 use Rattle.gw_core.specs.declared.gateway.Gateway.{Gateway}
-use Rattle.gw_dispatch.specs.RunState.{IsOrderly, UnlessBroken, WaitsStay}
+use Rattle.gw_dispatch.specs.RunState.{IsOrderly}
 use Rattle.gw_dispatch.specs.MidRound.{AreHeard, AreLinked, MidRound}
 use Rattle.gw_dispatch.specs.Round.{HoldsTills, InRound, known_at}
 use Rattle.gw_dispatch.specs.Wanted.{calls_wanted, owes_link}
 use Rattle.gw_dispatch.specs.declared.tills.Till.{Till}
-use Rattle.gw_dispatch.proofs.HandleLemmas.{KeepsWanted, StaysWith, WaitsWith, after-split, any_setup, disk-done, disk-failed, kept-cut, kept-kept, kept-link, moment-within, rest-cut, rest-kept}
+use Rattle.gw_dispatch.proofs.HandleLemmas.{KeepsWanted, StaysWith, WaitsWith, after-split, any_setup, disk-done, disk-failed, kept-kept, kept-link, moment-within, rest-kept}
 use Rattle.gw_dispatch.proofs.LinkLemmas.{KeepsLinks, LinksStay, becomes-keeps, owing-keeps}
 use Rattle.gw_dispatch.proofs.PerformLemmas.{MakesCall, rest-link}
 use Rattle.gw_dispatch.proofs.ServeLemmas.{begin-item}

@@ -27,8 +27,8 @@ use Rattle.jrn_log.specs.declared.fault.OpenFault.TheVariants.{Disk as JournalDi
 use Rattle.gw_rules.specs.LedgerRules.{EachLawfulHasKept}
 use Rattle.gw_rules.specs.RecordOrder.{EachLogFolds}
 use Rattle.gw_rules.specs.Triple.{ExtendsBy, TripleBy, IsNewRun, JustBegun}
-use Rattle.gw_dispatch.specs.RecordsOpening.{HasOpened, HasRecords, IsFileRefused, LedgerGives, OpenedBy, OpensBy, UnopenedBy, cause_of}
-use Rattle.gw_dispatch.specs.Growth.{EndsInFailure, GoesOnFrom}
+use Rattle.gw_dispatch.specs.RecordsOpening.{HasOpened, HasRecords, IsFileRefused, LacksMemory, LedgerGives, OpenedBy, OpensBy, UnopenedBy, cause_of}
+use Rattle.gw_dispatch.specs.Growth.{EndsInFailure}
 use Rattle.gw_dispatch.specs.declared.records.Records.{Records}
 use Rattle.gw_dispatch.specs.declared.records.Unopened.{Unopened}
 use Rattle.gw_dispatch.specs.declared.records.Unopened.TheVariants.{Disk, TooLong, Cut, BadRecord, Memory}
@@ -38,7 +38,7 @@ use Rattle.gw_owes.specs.Calls.{OwedCall, WriteFirstGate, Sync}
 use Rattle.gw_rules.specs.Acts.{Act, ToTake, AreDue, IsDueStep, IsMeasuring, Look, Unmeasured, Measured, Looked, after_act, is_to_read, look_after, look_after_step, look_from, moves_of, taken_of}
 use Rattle.gw_rules.specs.Lawful.{IsCourse, Stands, first_call}
 use Rattle.gw_rules.specs.Scene.{Scene}
-use Rattle.gw_rules.specs.Stage.{Opening, Looking, Broken, is_looking, is_running, stage_synced, stage_wrote}
+use Rattle.gw_rules.specs.Stage.{Opening, Looking, Broken, is_broken, is_looking, is_round, is_running, stage_synced, stage_wrote}
 use Rattle.gw_rules.specs.View.{View, after_turn, later, view_from}
 use Rattle.gw_rules.proofs.CourseLemmas.{course-prefix, makes, makes-append, quiet-prefix, stands-outside, turns_of-makes}
 
@@ -315,6 +315,20 @@ module _ (own : Setup) (scene : Scene) (o : IsOpening own scene) where
         kept = kept;
       })
 
+  -- where memory was refused once the file was synced, or once it was opened
+  synced-lacks : LacksMemory (first_synced scene)
+  synced-lacks = record {
+    clear = ap (λ s. is_broken (stage_synced s)) o.stage;
+    calls = λ r. absurd (let h : false ≡ true = sym (ap (λ s. is_round (stage_synced s)) o.stage) ∙ r in cc);
+  }
+
+  opened-lacks : LacksMemory (view_from (owing scene) (makes (Synced ∷ first_gate (length scene.outside.file))))
+  opened-lacks = by_size (nat_le (length scene.outside.file) 1) refl
+    where
+      by_size : (small : Bool) → nat_le (length scene.outside.file) 1 ≡ small → LacksMemory (view_from (owing scene) (makes (Synced ∷ (if nat_le (length scene.outside.file) 1 then first_gate_write ∷ Synced ∷ [] else []))))
+      by_size true e = rw e (record { clear = ap (λ s. is_broken (stage_synced (stage_wrote (stage_synced s)))) o.stage; calls = λ r. refl })
+      by_size false e = rw e (record { clear = ap (λ s. is_broken (stage_synced s)) o.stage; calls = λ r. refl })
+
   failed-view : (turns : List Turn) → FailedTurns scene.outside.file turns → (view_from (owing scene) (makes turns)).scene.stage ≡ Broken
   failed-view turns (inl e) = rw e refl
   failed-view turns (inr (inl e)) = rw e refl
@@ -379,7 +393,7 @@ module _ (own : Setup) (scene : Scene) (o : IsOpening own scene) (turns : List T
   fault-leads JournalDisk t by_file = failed-leads own scene o turns t
   fault-leads (JournalTooLong count) t by_file = too-long-leads count t by_file
   fault-leads (JournalCut slot) t by_file = absurd (o.has.whole slot by_file.1)
-  fault-leads JournalMemory t by_file = synced-leads own scene o turns (UnopenedBy Memory) t tt
+  fault-leads JournalMemory t by_file = synced-leads own scene o turns (UnopenedBy Memory) t (synced-lacks own scene o)
 
   ledger-leads : (result : Result Records Unopened) → IsOfLedger result → turns ≡ Synced ∷ first_gate (length scene.outside.file) → IsByFile own.slots scene.outside.file result → OpeningLeads own scene o turns (OpenedBy own result)
   ledger-leads (Ok records) of t by_file = opened-leads own scene o turns (OpenedBy own (Ok records)) t (opened-view own scene o records by_file)
@@ -388,7 +402,7 @@ module _ (own : Setup) (scene : Scene) (o : IsOpening own scene) (turns : List T
       too-long-leads count (t ∙ ap (λ (small : Bool). Synced ∷ (if small then first_gate_write ∷ Synced ∷ [] else [])) (refused-some own.slots scene.outside.file by_file.1)) by_file
   ledger-leads (Err (Cut slot)) of t by_file = absurd of
   ledger-leads (Err (BadRecord slot)) of t by_file = absurd (bad-not scene.outside.file (records_of scene) slot o.has by_file.1)
-  ledger-leads (Err Memory) of t by_file = opened-leads own scene o turns (OpenedBy own (Err Memory)) t tt
+  ledger-leads (Err Memory) of t by_file = opened-leads own scene o turns (OpenedBy own (Err Memory)) t (opened-lacks own scene o)
 
   result-leads : {T : Type 0} (journal : Result T OpenFault) (result : Result Records Unopened) → IsMadeOf journal result → OpeningTurns scene.outside.file journal turns → IsByFile own.slots scene.outside.file result
       → OpeningLeads own scene o turns (OpenedBy own result)
@@ -437,10 +451,6 @@ opening-failed old new fault cause is disk grows before e =
 
 pub ledger-not-failed : {A : Type 0} (journal : JournalValue) (bodies : List (List ℕ)) (result : Result Records Unopened) → LedgerGives journal bodies result → result ≡ Err Disk → A
 ledger-not-failed journal bodies result gives e = absurd (subst (LedgerGives journal bodies) e gives)
-
--- what an opening does is added to the log
-pub opening-adds : {Call : List Turn → List Turn → Type 0} (old new : Observed) → GrowsBy Added old new Call → IfObserved old (λ log. GoesOnFrom log new)
-opening-adds old new grows before e = let x = grows.observed before e in (x.1, x.4)
 
 -- ---- the triple
 

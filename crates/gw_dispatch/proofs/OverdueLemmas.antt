@@ -1,21 +1,21 @@
 -- Requests that have waited for too long: the first of them is the first whose key owes anything, and where there is none all keys are passed.
 use Rattle.std.proofs.Common.{◌≡◌, ◌⊎◌, ◌<◌, ◌≤◌, ◌+◌, zero, suc, inl, inr, ℕ, ℤ, List, [], ◌∷◌, ◌++◌, length, refl, sym, ◌∙◌, ap, subst, append-nil, arith, Bool, true, false, Option, Some, None}
-use Rattle.std.specs.Prelude.{map, filter, not, is_some}
+use Rattle.std.specs.Prelude.{filter, not, is_some}
 use Rattle.gw_base.specs.Moment.{moment_of}
 use Rattle.gw_base.specs.declared.condition.Condition.TheVariants.{Aborted}
 use Rattle.gw_base.specs.declared.key.Key.{Key}
 use Rattle.gw_base.specs.declared.setup.Setup.{Setup}
 use Rattle.gw_ledger.specs.Keys.{same_key}
 use Rattle.gw_site.specs.Observed.{Observed}
-use Rattle.gw_site.specs.Outside.{Connection, Outside}
+use Rattle.gw_site.specs.Outside.{Outside}
 use Rattle.jrn_record.specs.declared.records.Record.{Record}
-use Rattle.gw_owes.specs.Calls.{OwedCall, SendTill}
+use Rattle.gw_owes.specs.Calls.{OwedCall}
 use Rattle.gw_owes.specs.Core.{Core, Wait}
 use Rattle.gw_owes.specs.Days.{days_served}
 use Rattle.gw_owes.specs.Dialogues.{AllHaveDialogues}
 use Rattle.gw_owes.specs.Items.{RoundItem, Due, Overdue}
 use Rattle.gw_owes.specs.RecordLaws.{AreTerminalsInOrder}
-use Rattle.gw_owes.specs.Row.{Known, Row, becoming, owing_nothing, owing_where}
+use Rattle.gw_owes.specs.Row.{Known, Row, owing_nothing, owing_where}
 use Rattle.gw_owes.specs.TerminalLaws.{settings_of}
 use Rattle.gw_owes.specs.WaitingLaws.{AreWaitsInOrder}
 use Rattle.gw_owes.specs.WaitingRows.{is_overdue, of_waiting, overdue_row, refusal_calls, taken_out}

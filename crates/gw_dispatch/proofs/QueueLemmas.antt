@@ -12,9 +12,8 @@ use Rattle.sale_values.specs.declared.header.Header.{Header}
 use Rattle.sale_values.specs.declared.request.Reference.{Reference}
 use Rattle.sale_values.specs.declared.request.SaleRequest.{SaleRequest}
 use Rattle.sale_values.specs.declared.request.SaleRequest.TheVariants as requests
-use Rattle.gw_ledger.specs.Fold.{AreFolded}
 use Rattle.gw_owes.specs.declared.terminal.Terminal.{Terminal}
-use Rattle.gw_owes.specs.Calls.{OwedCall, records_kept}
+use Rattle.gw_owes.specs.Calls.{records_kept}
 use Rattle.gw_owes.specs.Core.{Core, Wait}
 use Rattle.gw_owes.specs.Diagnosis.{NamedTerminal, named_terminal}
 use Rattle.gw_owes.specs.Dialogues.{AllHaveDialogues}
@@ -22,10 +21,9 @@ use Rattle.gw_owes.specs.Items.{RoundItem, Asked, Queue, Serve}
 use Rattle.gw_owes.specs.ReadAs.{Request}
 use Rattle.gw_owes.specs.RecordLaws.{AreTerminalsInOrder, EachQueueKeepsInOrder, EachRequestTakesOne, EachRowBringsReadItems, HasRoom, IsInOrder, IsNumbered, IsReadItem, IsReadQueued}
 use Rattle.gw_owes.specs.Requests.{abort_items, begun_by}
-use Rattle.gw_owes.specs.Row.{Known, Row, becoming}
+use Rattle.gw_owes.specs.Row.{Known, Row}
 use Rattle.gw_owes.specs.Steps.{StepResult, KeptReply, Fails, Begins, Waits, items_of_result}
 use Rattle.gw_owes.specs.Stops.{stop_items_at}
-use Rattle.gw_owes.specs.TerminalLaws.{settings_of}
 use Rattle.gw_owes.specs.WaitingLaws.{AreWaitsInOrder, EachRowKeepsWaits}
 use Rattle.gw_owes.specs.WaitingRows.{queue_row}
 use Rattle.gw_owes.specs.Waits.{memory_reserved, waiting_with}
@@ -34,7 +32,7 @@ use Rattle.gw_owes.proofs.WaitingFrameLemmas.{moments-keep-waits, named-there}
 use Rattle.gw_owes.proofs.WaitingListLemmas.{waits-under}
 use Rattle.gw_rules.specs.Triple.{Triple}
 use Rattle.gw_rules.proofs.TripleLemmas.{triple-then}
-use Rattle.gw_core.specs.IsRow.{AreCallsWith, IsRow, alone, known_with}
+use Rattle.gw_core.specs.IsRow.{IsRow, alone, known_with}
 use Rattle.gw_core.specs.ReplyOf.{IsKnownAt, QueuesAt}
 use Rattle.gw_core.specs.declared.act.Act.{Act}
 use Rattle.gw_core.specs.declared.gateway.Gateway.{Gateway}
@@ -47,7 +45,7 @@ use Rattle.gw_dispatch.specs.declared.run_state.RunState.{RunState}
 use Rattle.gw_dispatch.specs.declared.tills.Till.{Till}
 use Rattle.gw_dispatch.proofs.HandleLemmas.{moment-within, rest-kept}
 use Rattle.gw_dispatch.proofs.PerformLemmas.{MakesCall, replies_only, row-becomes, wanted-reply}
-use Rattle.gw_dispatch.proofs.RunStateLemmas.{stand-on, well-core}
+use Rattle.gw_dispatch.proofs.RunStateLemmas.{well-core}
 use Rattle.gw_dispatch.proofs.SendLemmas.{sent-dialogues, sent-stays}
 use Rattle.gw_dispatch.proofs.StepLemmas.{begin-held}
 

@@ -24,8 +24,9 @@ use Rattle.gw_owes.specs.Row.{Known}
 use Rattle.gw_owes.specs.Terminals.{core_without, forgets_till}
 use Rattle.gw_owes.specs.declared.terminal.Terminal.{Terminal}
 use Rattle.gw_owes.proofs.FrameLemmas.{incomplete-waits, reading-chunk, reading-waiting, rest-chunk}
+use Rattle.gw_rules.specs.Lawful.{IsIdle}
 use Rattle.gw_rules.specs.Scene.{Scene}
-use Rattle.gw_rules.specs.Stage.{Stage, Resting, Opening, Looking, AtPoll, Handling, Over, Broken, is_round, is_running}
+use Rattle.gw_rules.specs.Stage.{Stage, Resting, Opening, Looking, AtPoll, Handling, Over, Broken, is_broken, is_round, is_running}
 use Rattle.gw_rules.specs.View.{View, polled, at_event, at_first, till_cut}
 use Rattle.gw_rules.specs.Triple.{Triple, Owing, AtEvent}
 use Rattle.gw_rules.proofs.TripleLemmas.{triple-refl, triple-then, triple-weaker, triple-after, triple-before, triple-frame, triple-some}
@@ -34,27 +35,67 @@ use Rattle.gw_dispatch.specs.RunState.{gateway_of}
 use Rattle.gw_dispatch.specs.MidRound.{AllHear, AreHeard, AreLinked, AreReady, HeldRound, MidRound, due_items, each_terminal, is_linked_in, keys_waiting, overdue_items}
 use Rattle.gw_dispatch.specs.Round.{HoldsTills, IsIn, InRound, known_at}
 use Rattle.gw_dispatch.specs.Serving.{AfterFault, AfterTill, held_without, items_of}
-use Rattle.gw_dispatch.specs.RecordsOpening.{HasOpened}
-use Rattle.gw_dispatch.specs.Rounds.{MatchesOutside, IsHeldRun, IsBetweenRounds, IsPolled, BeforeChunk, BeforeOpen, BeforePtBytes, BeforePtEnd, due_in, known_by}
+use Rattle.gw_dispatch.specs.RecordsOpening.{HasOpened, LacksMemory}
+use Rattle.gw_dispatch.specs.Rounds.{MatchesOutside, IsHeldRun, IsBetweenRounds, IsPolled, IsRunOpened, BeforeChunk, BeforeOpen, BeforePtBytes, BeforePtEnd, due_in, known_by}
 use Rattle.gw_dispatch.specs.RunEnd.{EndedBy}
 use Rattle.gw_dispatch.specs.Tills.{AreBelow, OthersStillHold, AreWaiting, bytes_held, others, rank, reader_of, rested, till_of}
 use Rattle.gw_dispatch.specs.declared.engine.Dispatch.{Dispatch}
 use Rattle.gw_dispatch.specs.declared.engine.Ended.TheVariants.{Done}
 use Rattle.gw_dispatch.specs.declared.fault.TurnFault.{TurnFault}
+use Rattle.gw_dispatch.specs.declared.records.Records.{Records}
 use Rattle.gw_dispatch.specs.declared.run_state.RunState.{RunState}
 use Rattle.gw_dispatch.specs.declared.tills.Till.{Till}
 use Rattle.gw_dispatch.proofs.ReaderLemmas.{IsAt, rank-rested, reader-rested, rested-others, rested-push, till-at}
 use Rattle.gw_dispatch.proofs.ServeLemmas.{waiting-items}
 use Rattle.gw_dispatch.proofs.TillLemmas.{rank-held-none, rank-held-open, found, others-held, below-hears, below-without, below-push, below-closed, below-up, without-new, held-push, length-held}
-use Rattle.gw_dispatch.proofs.EngineLemmas.{some-scene, begin-first, cut-in, known_without}
+use Rattle.gw_dispatch.proofs.EngineLemmas.{some-scene, begin-first, cut-in, known_without, round-idle}
 use Rattle.gw_dispatch.proofs.FitLemmas.{Fit, are-heard, fit-heard, heard_by, hears-at}
 
 never : (s : Observed) (P Q : View → Type 0) → ((v : View) → P v → ⊥) → Triple s s P Q
 never s P Q no_way = triple-weaker s s P P P Q (λ v p. p) (λ v p. absurd (no_way v p)) (triple-refl s P)
 
--- no memory: nothing is said
-pub no-memory : (s : Observed) (P : View → Type 0) → Triple s s P (λ v. Unit {0})
-no-memory s P = triple-after s s P P _ (triple-refl s P) (λ v p. tt)
+-- ---- memory
+
+-- memory was refused, and no call was made
+pub no-memory : (s : Observed) (P Q : View → Type 0) → ((v : View) → P v → Q v) → Triple s s P Q
+no-memory s P Q holds = triple-after s s P P Q (triple-refl s P) holds
+
+-- no call is owed as a chunk of a till comes
+pub chunk-idle : (setup : Setup) (dispatch : Dispatch) (polls : ℕ) (now : ℤ) (till : ℕ) (chunk : List ℕ) (v : View) → BeforeChunk setup dispatch polls now till chunk v → IsIdle v
+chunk-idle setup dispatch polls now till chunk v p = let b = p.1 in round-idle _ _ _ _ v b.round
+
+-- nor as a till opens
+pub open-idle : (setup : Setup) (dispatch : Dispatch) (polls : ℕ) (now : ℤ) (till : ℕ) (v : View) → BeforeOpen setup dispatch polls now till v → IsIdle v
+open-idle setup dispatch polls now till v p = let b = p.1 in round-idle _ _ _ _ v b.round
+
+round-clear : (stage : Stage) → is_round stage ≡ true → is_broken stage ≡ false
+round-clear Resting e = refl
+round-clear (Opening refused) e = refl
+round-clear (Looking refused) e = refl
+round-clear AtPoll e = refl
+round-clear Handling e = refl
+round-clear Over e = refl
+round-clear Broken e = absurd cc
+
+running-clear : (stage : Stage) → is_running stage ≡ true → is_broken stage ≡ false
+running-clear Resting e = refl
+running-clear (Opening refused) e = refl
+running-clear (Looking refused) e = refl
+running-clear AtPoll e = refl
+running-clear Handling e = refl
+running-clear Over e = refl
+running-clear Broken e = absurd cc
+
+-- a round in which no call is owed may end the run so
+pub idle-lacks : (v : View) → IsIdle v → LacksMemory v
+idle-lacks v idle = record { clear = round-clear v.scene.stage idle.round; calls = λ e. idle.calls }
+
+-- so may a run whose opening is done
+pub opened-lacks : (setup : Setup) (records : Records) (v : View) → HasOpened setup records v → LacksMemory v
+opened-lacks setup records v h = lacks h.opened
+  where
+    lacks : IsRunOpened setup v → LacksMemory v
+    lacks (scene, is, n) = subst LacksMemory (sym is) (record { clear = running-clear scene.stage n.running; calls = λ e. refl })
 
 -- ---- the terminals that are remembered
 

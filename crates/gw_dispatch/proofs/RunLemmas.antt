@@ -1,6 +1,6 @@
 -- How a run ends, by the opening of its site, that of its records, and its rounds.
-use Rattle.std.proofs.Common.{◌≡◌, ◌∙◌, ℕ, Bool, true, false, List, [], ◌∷◌, ◌++◌, Some, refl, ap, subst, inl, inr, append-nil, append_assoc, length}
-use Rattle.std.specs.Prelude.{Ok, Err}
+use Rattle.std.proofs.Common.{◌≡◌, ◌≤◌, ◌∙◌, ℕ, Bool, true, false, List, [], ◌∷◌, ◌++◌, Some, refl, ap, subst, inl, inr, append-nil, append_assoc, arith, length}
+use Rattle.std.specs.Prelude.{Result, Ok, Err}
 use Rattle.gw_base.specs.declared.setup.Setup.{Setup}
 use Rattle.gw_site.specs.Observed.{AddedWhole, GrowsBy, GrowsWhole, IfObserved, Observed}
 use Rattle.gw_site.specs.Outside.{Outside, outside_of}
@@ -14,13 +14,14 @@ use Rattle.gw_rules.specs.View.{View}
 use Rattle.gw_rules.proofs.ActLemmas.{join-due, owed-due}
 use Rattle.gw_rules.proofs.TripleLemmas.{triple-after, triple-due, triples-then}
 use Rattle.gw_dispatch.specs.RecordsOpening.{HasOpened, HoldsFile, IsExactlyBad, IsExactlyCut, IsExactlyRefused, OpenedBy, OpensBy, UnopenedBy}
-use Rattle.gw_dispatch.specs.Growth.{GoesOnFrom}
-use Rattle.gw_dispatch.specs.RunEnd.{EndedBy, EndsByFound, HasBegun, EndsRounds, IsDueFrom, IsEndByFile, NoneBegan, ReportsFile, end_by}
+use Rattle.gw_dispatch.specs.Growth.{AddsPolls, EndsForMemory, EndsForMemorySince, GoesOnByCalls, polls_in}
+use Rattle.gw_dispatch.specs.RunEnd.{EndedBy, EndsByFound, HasBegun, EndsRounds, IsDueFrom, IsEndByFile, NoneBegan, end_by}
 use Rattle.gw_dispatch.specs.declared.engine.Ended.{Ended}
 use Rattle.gw_dispatch.specs.declared.engine.Ended.TheVariants.{Done, NotOpened, Disk, TooLong, Cut, BadRecord, NoMemory}
 use Rattle.gw_dispatch.specs.declared.records.Records.{Records}
 use Rattle.gw_dispatch.specs.declared.records.Unopened.{Unopened}
 use Rattle.gw_dispatch.specs.declared.records.Unopened.TheVariants.{Disk as DiskCause, TooLong as TooLongCause, Cut as CutCause, BadRecord as BadRecordCause, Memory as MemoryCause}
+use Rattle.gw_dispatch.proofs.GrowthLemmas.{adds-then, calls-for-memory}
 
 -- ---- the ends
 
@@ -33,15 +34,6 @@ run-by-file slots file records (TooLong count) h holds refused = absurd h
 run-by-file slots file records (Cut slot) h holds refused = absurd h
 run-by-file slots file records (BadRecord slot) h holds refused = absurd h
 run-by-file slots file records NoMemory h holds refused = tt
-
-pub run-reports-none : (ended : Ended) → EndsRounds ended → ReportsFile ended → ⊥
-run-reports-none Done h r = r
-run-reports-none NotOpened h r = r
-run-reports-none Disk h r = r
-run-reports-none (TooLong count) h r = h
-run-reports-none (Cut slot) h r = h
-run-reports-none (BadRecord slot) h r = h
-run-reports-none NoMemory h r = r
 
 pub run-has-begun : (ended : Ended) → EndsRounds ended → HasBegun ended
 run-has-begun Done h = h
@@ -121,9 +113,9 @@ pub opened-observed : {Add : Bool → Bool → List Turn → List Turn → Type 
 opened-observed old mid grows holds before e = let x = grows.observed before e in holds (before ++ x.1) x.4
 
 -- the file that is found once it was opened
-pub found : (E : Type 0) (slots : ℕ) (own : Setup) (old mid new : Observed) (ended : Ended) → GrowsWhole old mid (OpenTurns {E = E} own (Ok tt)) → IfObserved mid (λ log. IsEndByFile slots (outside_of log).file ended)
-    → (ReportsFile ended → IfObserved mid (λ log. GoesOnFrom log new)) → IfObserved old (λ before. EndsByFound slots before new ended)
-found E slots own old mid new ended grows ends adds before e =
+pub found : (E : Type 0) (slots most : ℕ) (own : Setup) (old mid new : Observed) (ended : Ended) → GrowsWhole old mid (OpenTurns {E = E} own (Ok tt)) → IfObserved mid (λ log. IsEndByFile slots (outside_of log).file ended)
+    → IfObserved mid (λ log. AddsPolls most log new) → IfObserved old (λ before. EndsByFound slots before new ended)
+found E slots most own old mid new ended grows ends adds before e =
     let x = grows.observed before e in
     by_dark old.dark mid.dark x.0 x.1 x.2 x.3 x.4
   where
@@ -141,7 +133,7 @@ found E slots own old mid new ended grows ends adds before e =
       file = t.0;
       found = inr t.1;
       ends = subst (λ (o : Outside). IsEndByFile slots o.file ended) (ap (λ l. outside_of (before ++ l)) t.3 ∙ outside_of-append before (Crash t.0 ∷ Start own ∷ [])) (ends (before ++ turns) log);
-      began = λ r. let a = adds r (before ++ turns) log in inr (Start own ∷ a.0, a.1 ∙ ap Some (append_assoc before turns a.0 ∙ ap (λ l. before ++ (l ++ a.0)) t.3));
+      began = λ r. let a = adds (before ++ turns) log in inr (Start own ∷ a.0, a.1 ∙ ap Some (append_assoc before turns a.0 ∙ ap (λ l. before ++ (l ++ a.0)) t.3));
     }
 
     by_dark : (d n : Bool) (turns added : List Turn) → OpenTurns {E = E} own (Ok tt) before turns → AddedWhole d n turns added → mid.log ≡ Some (before ++ added) → EndsByFound slots before new ended
@@ -150,6 +142,49 @@ found E slots own old mid new ended grows ends adds before e =
     by_dark false true turns added t (inl a) log = still (rw a at log)
     by_dark false true turns added t (inr a) log = begun turns t (rw a at log)
     by_dark false false turns added t a log = begun turns t (rw a at log)
+
+-- an opening is no poll
+opened-none : (E : Type 0) (own : Setup) (result : Result (Unit {0}) E) (before turns : List Turn) → OpenTurns own result before turns → polls_in turns ≡ 0
+opened-none E own (Ok done) before turns (inl t) = ap polls_in t
+opened-none E own (Ok done) before turns (inr t) = ap polls_in t.3
+opened-none E own (Err failed) before turns t = ap polls_in t
+
+whole-none : (d n : Bool) (turns added : List Turn) → AddedWhole d n turns added → polls_in turns ≡ 0 → polls_in added ≤ 0
+whole-none true true turns added a none = let e = ap polls_in a in omega (arith, e)
+whole-none true false turns added a none = absurd a
+whole-none false true turns added (inl a) none = let e = ap polls_in a in omega (arith, e)
+whole-none false true turns added (inr a) none = let e = ap polls_in a in omega (arith, e, none)
+whole-none false false turns added a none = let e = ap polls_in a in omega (arith, e, none)
+
+pub opened-polls : (E : Type 0) (own : Setup) (result : Result (Unit {0}) E) (most : ℕ) (old new : Observed) → GrowsWhole old new (OpenTurns own result) → IfObserved old (λ before. AddsPolls most before new)
+opened-polls E own result most old new grows before e =
+    let x = grows.observed before e in
+    let none = whole-none old.dark new.dark x.0 x.1 x.3 (opened-none E own result before x.0 x.2) in
+    (x.1, x.4, omega (arith, none))
+
+-- and then come so many
+pub run-polls : (E : Type 0) (own : Setup) (most : ℕ) (old mid new : Observed) → GrowsWhole old mid (OpenTurns {E = E} own (Ok tt)) → IfObserved mid (λ log. AddsPolls most log new) → IfObserved old (λ before. AddsPolls most before new)
+run-polls E own most old mid new grows polls before e = adds-then 0 most most before mid new (omega arith) (opened-polls E own (Ok tt) 0 old mid grows before e) polls
+
+-- a run has begun, after which memory may be refused
+pub opened-for-memory : (E : Type 0) (own : Setup) (old mid new : Observed) → GrowsWhole old mid (OpenTurns {E = E} own (Ok tt)) → (mid.dark ≡ true → new.dark ≡ true) → IfObserved mid (λ log. EndsForMemorySince log new) → IfObserved old (λ before. EndsForMemory new)
+opened-for-memory E own old mid new grows stays ends before e =
+    let x = grows.observed before e in
+    by_dark old.dark mid.dark x.0 x.1 refl x.2 x.3 x.4
+  where
+    begun : (turns : List Turn) → OpenTurns {E = E} own (Ok tt) before turns → GoesOnByCalls (before ++ turns) new → EndsForMemory new
+    begun turns (inl t) goes = calls-for-memory before [] (Start own) new refl (subst (λ more. GoesOnByCalls (before ++ more) new) t goes)
+    begun turns (inr t) goes = calls-for-memory before (Crash t.0 ∷ []) (Start own) new refl (subst (λ more. GoesOnByCalls (before ++ more) new) t.3 goes)
+
+    by_ends : (turns : List Turn) → OpenTurns {E = E} own (Ok tt) before turns → EndsForMemorySince (before ++ turns) new → EndsForMemory new
+    by_ends turns t (inl now) = now
+    by_ends turns t (inr goes) = begun turns t goes
+
+    by_dark : (d n : Bool) (turns added : List Turn) → mid.dark ≡ n → OpenTurns {E = E} own (Ok tt) before turns → AddedWhole d n turns added → mid.log ≡ Some (before ++ added) → EndsForMemory new
+    by_dark true true turns added dark t a log = inl (stays dark)
+    by_dark true false turns added dark t a log = absurd a
+    by_dark false true turns added dark t a log = inl (stays dark)
+    by_dark false false turns added dark t a log = by_ends turns t (ends (before ++ turns) (rw a at log))
 
 -- where it wasn't, the end says nothing of a file
 pub not-found : (slots : ℕ) (before : List Turn) (new : Observed) → EndsByFound slots before new NotOpened

@@ -6,6 +6,7 @@ use Rattle.std.proofs.lemmas.List.{length-map}
 use Rattle.std.proofs.lemmas.Option.{slice_get-map}
 use Rattle.gw_site.specs.Observed.{Observed}
 use Rattle.jrn_record.specs.declared.records.Record.{Record}
+use Rattle.jrn_log.specs.Journal.{JournalValue, StandsFor}
 use Rattle.gw_ledger.specs.Sums.{open_count_of}
 use Rattle.gw_owes.specs.Core.{Core, Wait}
 use Rattle.gw_owes.specs.Days.{days_served}
@@ -135,6 +136,18 @@ forgets-ready core readers till ready = record {
   dialogues = forgets-dialogues till core ready.dialogues;
   count = ready.count ∙ sym (length-map core.terminals (forgets_till till));
   waits = ready.waits;
+}
+
+-- the site was called, and a journal that stood for it still does
+pub ready-still : (dispatch : Dispatch) (a b : Observed) → IsReady dispatch a → ((journal : JournalValue) → StandsFor journal a → StandsFor journal b) → IsReady dispatch b
+ready-still dispatch a b ready stands = record {
+  well = record {
+    order = ready.well.order;
+    records = record { count = ready.well.records.count; slots = ready.well.records.slots; stands = stands dispatch.state.records.journal ready.well.records.stands };
+    spare = ready.well.spare;
+  };
+  tills = ready.tills;
+  terminals = ready.terminals;
 }
 
 -- something else is remembered

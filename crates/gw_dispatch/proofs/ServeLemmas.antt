@@ -24,7 +24,7 @@ use Rattle.gw_owes.specs.Reply.{ReplyValue, reply_value_tree}
 use Rattle.gw_owes.specs.Row.{Known, Row, owing, owing_where}
 use Rattle.gw_owes.specs.Rows.{row_of, asked_row}
 use Rattle.gw_owes.proofs.FrameLemmas.{items-waiting, items-unframed, items-payload, reading-payload}
-use Rattle.gw_rules.specs.Lawful.{may_begin}
+use Rattle.gw_rules.specs.Lawful.{IsIdle, may_begin}
 use Rattle.gw_rules.specs.Scene.{Scene}
 use Rattle.gw_rules.specs.Stage.{busy}
 use Rattle.gw_rules.specs.Triple.{Triple, Owing}
@@ -47,7 +47,7 @@ use Rattle.gw_dispatch.specs.declared.run_state.RunState.{RunState}
 use Rattle.gw_dispatch.specs.declared.serving.Next.{Next}
 use Rattle.gw_dispatch.specs.declared.serving.Next.TheVariants.{Incomplete, Message as NextMessage, Unframed as NextUnframed}
 use Rattle.gw_dispatch.specs.declared.tills.Till.{Till}
-use Rattle.gw_dispatch.proofs.EngineLemmas.{IsHere, begin-first, begun-in, pass-all, read-in, row-known, some-scene, triple-known}
+use Rattle.gw_dispatch.proofs.EngineLemmas.{IsHere, begin-first, begun-in, pass-all, read-in, round-idle, row-known, some-scene, triple-known}
 use Rattle.gw_dispatch.proofs.ReaderLemmas.{IsAt, dropped-reader, empty-waits, rank-rested, reader-absent, till-at}
 use Rattle.gw_dispatch.proofs.RunStateLemmas.{stand-on, well-core}
 use Rattle.gw_dispatch.proofs.SendLemmas.{sent-dialogues, sent-stays}
@@ -249,9 +249,13 @@ well-on state a b well goes = record { order = well.order; records = stand-on st
 
 -- ---- a fault
 
--- memory was refused: nothing is said
-pub no-memory-said : (s : Observed) (P : View → Type 0) (fault : TurnFault) → fault ≡ Memory → Triple s s P (λ v. AfterFault fault v)
-no-memory-said s P fault is = triple-after s s P P _ (triple-refl s P) (λ v p. subst (λ fault. AfterFault fault v) (sym is) tt)
+-- no call is owed where items come next
+pub held-idle : (setup : Setup) (core : Core) (kept : List Record) (tills : List Till) (polls : ℕ) (now : ℤ) (Also : Outside → Type 0) (items : List RoundItem) (v : View) → MidRound setup core kept tills polls now Also [] items v → IsIdle v
+held-idle setup core kept tills polls now Also items v h = round-idle (known_at setup core kept now) polls h.outside items v h.round
+
+-- memory was refused, in a round in which no call is owed
+pub no-memory-said : (s : Observed) (P : View → Type 0) → ((v : View) → P v → IsIdle v) → (fault : TurnFault) → fault ≡ Memory → Triple s s P (λ v. AfterFault fault v)
+no-memory-said s P idle fault is = triple-after s s P P _ (triple-refl s P) (λ v p. subst (λ fault. AfterFault fault v) (sym is) (idle v p))
 
 -- ---- what a reader holds then
 

@@ -1,6 +1,7 @@
 -- The definitions of the loop of a run: a round, the tills that it holds, and how a run ends.
 pub mod Apdus
 pub mod Growth
+pub mod GrowthExample
 pub mod RunState
 pub mod Keeping
 pub mod KeepingExample

@@ -1,5 +1,5 @@
 -- What the opening of a run's records returns, by the journal's file as it began.
-use Rattle.std.specs.Prelude.{◌≡◌, ◌⊎◌, ◌↔◌, ◌+◌, ◌<◌, ◌≤◌, ℕ, Bool, true, List, length, Result, Ok, Err}
+use Rattle.std.specs.Prelude.{◌≡◌, ◌⊎◌, ◌↔◌, ◌+◌, ◌<◌, ◌≤◌, ℕ, Bool, true, List, [], length, Result, Ok, Err}
 use Rattle.gw_base.specs.declared.setup.Setup.{Setup}
 use Rattle.jrn_record.specs.declared.records.Record.{Record}
 use Rattle.jrn_log.specs.Journal.{JournalValue}
@@ -9,7 +9,8 @@ use Rattle.jrn_log.specs.declared.fault.OpenFault.TheVariants.{Disk as JournalDi
 use Rattle.gw_ledger.specs.Fold.{AreBodiesOf, IsFirstBad}
 use Rattle.gw_ledger.specs.Sums.{open_count_of}
 use Rattle.gw_rules.specs.Acts.{Act, AreDue, AreDueTo, Unmeasured, Looked}
-use Rattle.gw_rules.specs.Stage.{Looking, Broken}
+use Rattle.gw_rules.specs.Lawful.{IsClear}
+use Rattle.gw_rules.specs.Stage.{Looking, Broken, is_round}
 use Rattle.gw_rules.specs.View.{View}
 use Rattle.gw_dispatch.specs.Rounds.{IsRunOpened}
 use Rattle.gw_dispatch.specs.declared.records.Records.{Records}
@@ -89,13 +90,18 @@ abbrev pub OpensBy : {T E : Type 0} → Setup → Result T E → Bool → View �
 OpensBy setup (Ok records) dark v acts = AreDueTo setup Unmeasured Looked dark v acts
 OpensBy setup (Err cause) dark v acts = AreDue setup v Unmeasured acts
 
+-- memory was refused: no call on the disk has failed, and in a round no call is owed
+pub record LacksMemory (v : View) : Type 0 where
+  pub clear : IsClear v
+  pub calls : is_round v.scene.stage ≡ true → v.calls ≡ []
+
 -- what is left where no records were opened: after a failure of the disk no more call is made; of the file it is known that it is refused, and with what length. A lawful log never has a truncated slot, nor a bad record.
 abbrev pub UnopenedBy : Unopened → View → Type 0
 UnopenedBy Disk v = v.scene.stage ≡ Broken
 UnopenedBy (TooLong count) v = (v.scene.stage ≡ Looking true) × (length v.scene.outside.file ≡ count)
 UnopenedBy (Cut slot) v = ⊥
 UnopenedBy (BadRecord slot) v = ⊥
-UnopenedBy Memory v = Unit {0}
+UnopenedBy Memory v = LacksMemory v
 
 -- the opening of a run is done, and these records are kept
 pub record HasOpened (setup : Setup) (records : Records) (v : View) : Type 0 where

@@ -11,7 +11,7 @@ use Rattle.jrn_log.specs.Slots.{IsFileTooLong, IsTruncatedSlot}
 use Rattle.gw_rules.specs.Acts.{Act, AreDue, Look}
 use Rattle.gw_rules.specs.Stage.{Resting, Looking, Over, Broken, is_running}
 use Rattle.gw_rules.specs.View.{View}
-use Rattle.gw_dispatch.specs.RecordsOpening.{HasRecords, IsBadSlot, IsFileRefused}
+use Rattle.gw_dispatch.specs.RecordsOpening.{HasRecords, IsBadSlot, IsFileRefused, LacksMemory}
 use Rattle.gw_dispatch.specs.declared.engine.Ended.{Ended}
 use Rattle.gw_dispatch.specs.declared.engine.Ended.TheVariants.{Done, NotOpened, Disk, TooLong, Cut, BadRecord, NoMemory}
 use Rattle.gw_dispatch.specs.declared.records.Unopened.{Unopened}
@@ -32,7 +32,7 @@ EndedBy Disk most v = v.scene.stage ≡ Broken
 EndedBy (TooLong count) most v = (v.scene.stage ≡ Looking true) × (length v.scene.outside.file ≡ count)
 EndedBy (Cut slot) most v = ⊥
 EndedBy (BadRecord slot) most v = ⊥
-EndedBy NoMemory most v = Unit {0}
+EndedBy NoMemory most v = LacksMemory v
 
 -- no run was begun after this log: that the site could not be opened was added, or nothing where the site is dark
 abbrev pub NoneBegan : List Turn → Observed → Type 0
@@ -69,6 +69,16 @@ ReportsFile (TooLong count) = Unit {0}
 ReportsFile (Cut slot) = Unit {0}
 ReportsFile (BadRecord slot) = Unit {0}
 ReportsFile NoMemory = ⊥
+
+-- memory was refused in a run that ends so, or may be as its end is reported: a fault of the file has a number, whose line takes memory
+abbrev pub MayLackMemory : Ended → Type 0
+MayLackMemory Done = ⊥
+MayLackMemory NotOpened = ⊥
+MayLackMemory Disk = ⊥
+MayLackMemory (TooLong count) = Unit {0}
+MayLackMemory (Cut slot) = Unit {0}
+MayLackMemory (BadRecord slot) = Unit {0}
+MayLackMemory NoMemory = Unit {0}
 
 -- after this log the run has begun with a power failure that has left this file
 abbrev pub BeganWith : List Turn → Observed → List ℕ → Type 0

@@ -6,6 +6,7 @@ use Rattle.sale_frame.specs.Decode.{decode_frames}
 use Rattle.gw_owes.specs.Events.{decoded_items}
 use Rattle.gw_owes.specs.Items.{RoundItem}
 use Rattle.gw_owes.specs.Terminals.{core_without}
+use Rattle.gw_rules.specs.Lawful.{IsIdle}
 use Rattle.gw_rules.specs.Stage.{Broken}
 use Rattle.gw_rules.specs.View.{View}
 use Rattle.gw_dispatch.specs.MidRound.{HeldRound}
@@ -23,10 +24,10 @@ held_without state till = record state { core = core_without state.core till }
 abbrev pub items_of : ℕ → List Till → List RoundItem
 items_of till tills = decoded_items till (decode_frames (bytes_held till tills))
 
--- after a fault: where a call on the disk has failed the run is over; without memory it ends, whatever is owed
+-- after a fault: a call on the disk has failed; or memory was refused, in a round in which no call is owed
 abbrev pub AfterFault : TurnFault → View → Type 0
 AfterFault Disk v = v.scene.stage ≡ Broken
-AfterFault Memory v = Unit {0}
+AfterFault Memory v = IsIdle v
 
 -- Inner: after some of the payloads that the reader of this till holds: those that it still holds come next
 abbrev pub AfterTill : {T : Type 0} → Result T TurnFault → Setup → RunState → List Till → ℕ → ℤ → (Outside → Type 0) → ℕ → List RoundItem → View → Type 0

@@ -13,12 +13,12 @@ ghost use Rattle.gw_rules.specs.Triple.{Triple, TripleBy, RunTriple, IsRun, Just
 ghost use Rattle.gw_rules.specs.View.{View};
 ghost use Rattle.gw_dispatch.specs.Rounds.{IsReady, BeforeChunk, BeforeOpen, BeforePtBytes, BeforePtEnd, IsBetweenRounds, IsPolled, IsHandled, IsOfTill, AfterEvent, AfterRound};
 ghost use Rattle.gw_dispatch.specs.RunState.{LeavesRoom, UnlessBroken, gateway_of};
-ghost use Rattle.gw_dispatch.specs.Growth.{EndsInFailure, HasGoneOn, GoesOnFrom, HasBroken};
+ghost use Rattle.gw_dispatch.specs.Growth.{AddsPolls, EndsForMemory, EndsForMemorySince, EndsInFailure, EndsRoundForMemory, GoesOnByPolls, HasGoneOn, HasBroken};
 ghost use Rattle.gw_dispatch.specs.Serving.{held_without};
 ghost use Rattle.gw_dispatch.specs.Tills.{others};
 ghost use Rattle.gw_dispatch.specs.declared.fault.TurnFault.{TurnFault as TheFault};
 ghost use Rattle.gw_dispatch.specs.RecordsOpening.{HasOpened};
-ghost use Rattle.gw_dispatch.specs.RunEnd.{EndedBy, EndsByFound, HasBegun, EndsRounds, IsDueFrom, IsEndByFile, NoneBegan, ReportsFile, end_by};
+ghost use Rattle.gw_dispatch.specs.RunEnd.{EndedBy, EndsByFound, HasBegun, EndsRounds, IsDueFrom, IsEndByFile, MayLackMemory, NoneBegan, end_by};
 
 use crate::fault::TurnFault;
 use crate::pts::{new_readers, on_bytes, on_closed, on_due};
@@ -288,7 +288,7 @@ impl Dispatch {
     /// One round: a poll, what its event brings, and then what may be due. What was heard is read into the buffer.
     ///
     /// Between two rounds nothing is owed, and so it is after this one: all that it owed is done, and nothing else. After no memory
-    /// the run ends.
+    /// the run ends; that comes only of the event of a till that has opened or sent bytes, and where no call is owed.
     pub fn turn<S: Site>(
         &mut self,
         site: &mut S,
@@ -299,10 +299,11 @@ impl Dispatch {
             (IsBetweenRounds setup self.old polls)
             (AfterRound result setup self.new (polls + 1)) }
         ensures buf { length buf.new ≡ 4096 }
+        ensures memory { result ≡ Err TheFault.Memory → IfObserved (S.observed site.old) (λ before. EndsRoundForMemory before (S.observed site.new)) }
         ensures failed { result ≡ Err TheFault.Disk → HasBroken (S.observed site.old) (S.observed site.new) }
         ensures ready { OnOk result (IsReady self.new (S.observed site.new)) }
         ensures gateway { self.new.state.gateway ≡ self.old.state.gateway }
-        ensures goes_on { HasGoneOn (S.observed site.old) (S.observed site.new) }
+        ensures goes_on { GoesOnByPolls 1 (S.observed site.old) (S.observed site.new) }
     {
         let Polled { now, what } = site.poll(buf);
         match self.on_event(site, now, what, buf) {
@@ -331,7 +332,8 @@ pub(crate) fn rounds<S: Site>(
     ensures failed { result ≡ Ended.Disk → HasBroken (S.observed site.old) (S.observed site.new) }
     ensures triple { Triple (S.observed site.old) (S.observed site.new) (HasOpened setup.now records) (EndedBy result most) }
     ensures ran { EndsRounds result }
-    ensures goes_on { HasGoneOn (S.observed site.old) (S.observed site.new) }
+    ensures memory { MayLackMemory result → IfObserved (S.observed site.old) (λ before. EndsForMemorySince before (S.observed site.new)) }
+    ensures goes_on { GoesOnByPolls most (S.observed site.old) (S.observed site.new) }
 {
     let mut dispatch = match Dispatch::open(alloc, setup, records) {
         Ok(dispatch) => dispatch,
@@ -371,7 +373,8 @@ fn journaled<S: Site>(alloc: Global, setup: &Setup, site: &mut S, most: u64) -> 
     ensures disk { result ≡ Ended.Disk → Rose (S.observed site.old).faults (S.observed site.new).faults }
     ensures file { IfObserved (S.observed site.old) (λ before. IsEndByFile setup.now.slots (outside_of before).file result) }
     ensures failed { result ≡ Ended.Disk → IfObserved (S.observed site.old) (λ before. EndsInFailure (S.observed site.new)) }
-    ensures adds { ReportsFile result → IfObserved (S.observed site.old) (λ before. GoesOnFrom before (S.observed site.new)) }
+    ensures memory { MayLackMemory result → IfObserved (S.observed site.old) (λ before. EndsForMemorySince before (S.observed site.new)) }
+    ensures polls { IfObserved (S.observed site.old) (λ before. AddsPolls most before (S.observed site.new)) }
     ensures later { (S.observed site.old).faults ≤ (S.observed site.new).faults }
 {
     match Records::open(alloc, site, setup.slots) {
@@ -383,7 +386,10 @@ fn journaled<S: Site>(alloc: Global, setup: &Setup, site: &mut S, most: u64) -> 
 /// One run over a site, of at most so many polls. The records of its journal are opened before the first.
 ///
 /// The log of the site goes on by what is owed and by nothing else, and whatever is owed is done before the next poll. A site
-/// that goes dark ends the run.
+/// that goes dark ends the run. However it ends, the site was polled no more often.
+///
+/// Memory is refused only before the first poll, or in a round in which a till has opened or bytes of one have come: in the log no
+/// event comes after that one, and no poll. Else the site is dark.
 pub fn run<S: Site>(alloc: Global, setup: &Setup, site: &mut S, most: u64) -> Ended
     requires { IsSetup setup.now }
     ensures lawful { RunTriple setup.now (S.observed site.old) (S.observed site.new) (IsRun setup.now) (EndedBy result most) }
@@ -392,6 +398,8 @@ pub fn run<S: Site>(alloc: Global, setup: &Setup, site: &mut S, most: u64) -> En
     ensures disk { result ≡ Ended.Disk → Rose (S.observed site.old).faults (S.observed site.new).faults }
     ensures file { IfObserved (S.observed site.old) (λ before. EndsByFound setup.now.slots before (S.observed site.new) result) }
     ensures failed { result ≡ Ended.Disk → IfObserved (S.observed site.old) (λ before. EndsInFailure (S.observed site.new)) }
+    ensures memory { MayLackMemory result → IfObserved (S.observed site.old) (λ before. EndsForMemory (S.observed site.new)) }
+    ensures polls { IfObserved (S.observed site.old) (λ before. AddsPolls most before (S.observed site.new)) }
     ensures later { (S.observed site.old).faults ≤ (S.observed site.new).faults }
 {
     match site.open(setup) {

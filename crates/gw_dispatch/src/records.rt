@@ -8,7 +8,7 @@ ghost use Rattle.jrn_log.specs.Journal.{StandsFor};
 ghost use Rattle.gw_ledger.specs.Sums.{open_count_of};
 ghost use Rattle.gw_rules.specs.Triple.{TripleBy, JustBegun};
 ghost use Rattle.gw_dispatch.specs.RecordsOpening.{LedgerGives, HoldsFile, IsExactlyCut, IsExactlyBad, IsExactlyRefused, OpenedBy, OpensBy, cause_of};
-ghost use Rattle.gw_dispatch.specs.Growth.{EndsInFailure, GoesOnFrom};
+ghost use Rattle.gw_dispatch.specs.Growth.{EndsInFailure, GoesOnByCalls};
 
 use gw_base::Bodies;
 use gw_ledger::{BadRecord, Ledger, LedgerFault};
@@ -101,7 +101,7 @@ impl Records {
         ensures bad { IfObserved (S.observed site.old) (λ log. IsExactlyBad slots (outside_of log).file result) }
         ensures disk { result ≡ Err Unopened.Disk → Rose (S.observed site.old).faults (S.observed site.new).faults }
         ensures failed { result ≡ Err Unopened.Disk → IfObserved (S.observed site.old) (λ log. EndsInFailure (S.observed site.new)) }
-        ensures adds { IfObserved (S.observed site.old) (λ log. GoesOnFrom log (S.observed site.new)) }
+        ensures adds { IfObserved (S.observed site.old) (λ log. GoesOnByCalls log (S.observed site.new)) }
         ensures later { (S.observed site.old).faults ≤ (S.observed site.new).faults }
         ensures count { IfOk result (λ records. records.journal.len ≡ length records.ledger.records) }
         ensures limit { IfOk result (λ records. records.journal.slots ≡ slots) }

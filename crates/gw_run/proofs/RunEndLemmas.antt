@@ -1,5 +1,5 @@
 -- How the top call ends after one run.
-use Rattle.std.proofs.Common.{◌≡◌, ℕ, List, ◌++◌, Some, ◌∙◌, ap, subst, sym}
+use Rattle.std.proofs.Common.{◌≡◌, ℕ, List, ◌++◌, Some, ◌∙◌, ap, arith, inl, refl, subst, sym}
 use Rattle.gw_base.specs.declared.setup.Setup.{Setup}
 use Rattle.gw_site.specs.Observed.{IfObserved, Observed}
 use Rattle.gw_site.specs.declared.turn.Turn.{Turn}
@@ -11,8 +11,10 @@ use Rattle.gw_books.specs.PastLaws.{AgreesThroughout, EachLogAgrees}
 use Rattle.gw_dispatch.specs.RunEnd.{EndedBy}
 use Rattle.gw_dispatch.specs.declared.engine.Ended.{Ended}
 use Rattle.gw_run.specs.RunEnds.{EndsRun, EndsWithStatus, GivesEnd, GivesStatus, ending_of}
+use Rattle.gw_run.specs.Serving.{MayReportMemory}
 use Rattle.gw_run.specs.Top.{status_of}
 use Rattle.gw_run.specs.declared.ending.Ending.{Ending}
+use Rattle.gw_run.specs.declared.ending.Ending.TheVariants.{Played, Words, Long, Line as AtLine, Input, NotOpened, Memory, OutputFailed, Disk, LongJournal, CutJournal, BadSlot}
 
 -- after one run at most something weaker is so
 pub run-weaker : (own : Setup) (old new : Observed) (Shape : List Turn → Type 0) (Q R : View → Type 0) → ((v : View) → Q v → R v) → RunTriple own old new Shape Q → RunTriple own old new Shape R
@@ -35,6 +37,24 @@ gives-status ending status IsSo s r = (r.0, s ∙ ap status_of r.1, r.2)
 -- and so does that of a run
 pub run-status : (own : Setup) (old new : Observed) (ending : Ending) (status most : ℕ) → status ≡ status_of ending → RunTriple own old new (IsRun own) (EndsRun ending most) → RunTriple own old new (IsRun own) (EndsWithStatus status most)
 run-status own old new ending status most s runs = run-weaker own old new (IsRun own) (EndsRun ending most) (EndsWithStatus status most) (λ v r. gives-status ending status (λ ended. EndedBy ended most v) s r) runs
+
+-- of 71 memory was refused
+refused-status : (ending : Ending) → status_of ending ≡ 71 → ending ≡ Memory
+refused-status Memory e = refl
+refused-status Played e = absurd (let h : ◌≡◌ {A = ℕ} 0 71 = e in omega (arith, h))
+refused-status Words e = absurd (let h : ◌≡◌ {A = ℕ} 64 71 = e in omega (arith, h))
+refused-status Long e = absurd (let h : ◌≡◌ {A = ℕ} 65 71 = e in omega (arith, h))
+refused-status (AtLine line) e = absurd (let h : ◌≡◌ {A = ℕ} 65 71 = e in omega (arith, h))
+refused-status Input e = absurd (let h : ◌≡◌ {A = ℕ} 66 71 = e in omega (arith, h))
+refused-status NotOpened e = absurd (let h : ◌≡◌ {A = ℕ} 69 71 = e in omega (arith, h))
+refused-status OutputFailed e = absurd (let h : ◌≡◌ {A = ℕ} 73 71 = e in omega (arith, h))
+refused-status Disk e = absurd (let h : ◌≡◌ {A = ℕ} 74 71 = e in omega (arith, h))
+refused-status (LongJournal size) e = absurd (let h : ◌≡◌ {A = ℕ} 76 71 = e in omega (arith, h))
+refused-status (CutJournal slot) e = absurd (let h : ◌≡◌ {A = ℕ} 76 71 = e in omega (arith, h))
+refused-status (BadSlot slot) e = absurd (let h : ◌≡◌ {A = ℕ} 76 71 = e in omega (arith, h))
+
+pub status-lacks : (ending : Ending) (status : ℕ) → status ≡ status_of ending → status ≡ 71 → MayReportMemory ending
+status-lacks ending status s e = inl (refused-status ending (sym s ∙ e))
 
 some-turns : (a b : List Turn) → Some a ≡ Some b → a ≡ b
 some-turns a b e = cc

@@ -13,7 +13,7 @@ use Rattle.gw_config.specs.Grammar.{document_of}
 use Rattle.gw_config.specs.declared.fault.ConfigFault.{ConfigFault}
 use Rattle.gw_config.specs.declared.fault.ConfigFault.TheVariants.{Long as ConfigLong, NotToml, Missing, Wrong, Twice, Memory as ConfigMemory}
 use Rattle.gw_dispatch.specs.Growth.{EndsInFailure}
-use Rattle.gw_dispatch.specs.RunEnd.{EndedBy, EndsByFound, NoneBegan}
+use Rattle.gw_dispatch.specs.RunEnd.{EndedBy, EndsByFound, MayLackMemory, NoneBegan}
 use Rattle.gw_dispatch.specs.declared.engine.Ended.{Ended}
 use Rattle.gw_dispatch.specs.declared.engine.Ended.TheVariants.{Done, NotOpened as RunNotOpened, NoMemory, Disk as RunDisk, TooLong, Cut, BadRecord}
 use Rattle.gw_rules.specs.Lawful.{IsClear, IsCourse, Stands, turns_of}
@@ -24,8 +24,8 @@ use Rattle.gw_rules.proofs.CourseLemmas.{stands-more}
 use Rattle.gw_run.specs.Replay.{IsInputFault, IsInputRead, IsReportedEnd, WritesTail}
 use Rattle.gw_run.specs.RunEnds.{EndsRun, ending_of}
 use Rattle.gw_run.specs.ScriptLog.{IsStopped}
-use Rattle.gw_run.specs.Serve.{EndsByFile, HasMadePolls, IsReadSetup, IsServable, IsSetupOfInput, IsUntouched, OtherCause, RunCause, ServeCause, ServePrinted, Serves, SiteCalls, SiteRose, TakesFile, serve_tail}
-use Rattle.gw_run.specs.Serving.{IsConfigEnd, IsDocumentEnd, IsInputEnd, IsReportedServe, IsRunEnding, RunPrinted, WritesServe, config_ending, input_ending}
+use Rattle.gw_run.specs.Serve.{EndsByFile, EndsWithoutMemory, HasMadePolls, IsReadSetup, IsServable, IsSetupOfInput, IsUntouched, OtherCause, RunCause, ServeCause, ServePrinted, Serves, SiteCalls, SiteRose, TakesFile, serve_tail}
+use Rattle.gw_run.specs.Serving.{IsConfigEnd, IsDocumentEnd, IsInputEnd, IsReportedServe, IsRunEnding, MayReportMemory, RunPrinted, WritesServe, config_ending, input_ending}
 use Rattle.gw_run.specs.Top.{HasRisen, IfBytesObserved, Stream, tail_of}
 use Rattle.gw_run.specs.declared.ending.Ending.{Ending}
 use Rattle.gw_run.specs.declared.ending.Ending.TheVariants.{Played, Words, Long, Line as AtLine, Input, NotOpened, Memory, OutputFailed, Disk, LongJournal, CutJournal, BadSlot}
@@ -66,38 +66,54 @@ after-run ending (ended, e) = subst IsAfterRun (sym e) (run-end ended)
 pub run-not-failed : (ending : Ending) → IsRunEnding ending → ending ≡ OutputFailed → ⊥
 run-not-failed ending is e = subst IsAfterRun e (after-run ending is)
 
+-- of an end after a run it may be reported that memory was refused only where it may have been
+by-ended : (ended : Ended) → MayReportMemory (ending_of ended) → MayLackMemory ended
+by-ended Done (inl e) = let h : Played ≡ Memory = e in cc
+by-ended Done (inr numbered) = numbered
+by-ended RunNotOpened (inl e) = let h : NotOpened ≡ Memory = e in cc
+by-ended RunNotOpened (inr numbered) = numbered
+by-ended RunDisk (inl e) = let h : Disk ≡ Memory = e in cc
+by-ended RunDisk (inr numbered) = numbered
+by-ended NoMemory reports = tt
+by-ended (TooLong size) reports = tt
+by-ended (Cut slot) reports = tt
+by-ended (BadRecord slot) reports = tt
+
+pub run-lacks : (ended : Ended) (ending : Ending) → ending ≡ ending_of ended → MayReportMemory ending → MayLackMemory ended
+run-lacks ended ending e reports = by-ended ended (subst MayReportMemory e reports)
+
 by-cause : (ending : Ending) (setup : Setup) (out : Stream) (site : SiteCalls) → IsAfterRun ending → EndsByFile ending setup site →
-    (ending ≡ NotOpened → SiteRose site) → (ending ≡ NotOpened → IfObserved site.before (λ before. NoneBegan before site.after)) → (ending ≡ Disk → SiteRose site) → (ending ≡ Disk → IfObserved site.before (λ before. EndsInFailure site.after)) → RunCause ending setup out site
-by-cause Played setup out site is file opened none disk failed = file
-by-cause NotOpened setup out site is file opened none disk failed = (opened refl, none refl)
-by-cause Memory setup out site is file opened none disk failed = tt
-by-cause Disk setup out site is file opened none disk failed = (disk refl, failed refl)
-by-cause (LongJournal size) setup out site is file opened none disk failed = file
-by-cause (CutJournal slot) setup out site is file opened none disk failed = file
-by-cause (BadSlot slot) setup out site is file opened none disk failed = file
-by-cause Words setup out site is file opened none disk failed = absurd is
-by-cause Long setup out site is file opened none disk failed = absurd is
-by-cause (AtLine line) setup out site is file opened none disk failed = absurd is
-by-cause Input setup out site is file opened none disk failed = absurd is
-by-cause OutputFailed setup out site is file opened none disk failed = absurd is
+    (ending ≡ NotOpened → SiteRose site) → (ending ≡ NotOpened → IfObserved site.before (λ before. NoneBegan before site.after)) → (ending ≡ Disk → SiteRose site) → (ending ≡ Disk → IfObserved site.before (λ before. EndsInFailure site.after)) → (MayReportMemory ending → EndsWithoutMemory site) → RunCause ending setup out site
+by-cause Played setup out site is file opened none disk failed memory = file
+by-cause NotOpened setup out site is file opened none disk failed memory = (opened refl, none refl)
+by-cause Memory setup out site is file opened none disk failed memory = memory (inl refl)
+by-cause Disk setup out site is file opened none disk failed memory = (disk refl, failed refl)
+by-cause (LongJournal size) setup out site is file opened none disk failed memory = file
+by-cause (CutJournal slot) setup out site is file opened none disk failed memory = file
+by-cause (BadSlot slot) setup out site is file opened none disk failed memory = file
+by-cause Words setup out site is file opened none disk failed memory = absurd is
+by-cause Long setup out site is file opened none disk failed memory = absurd is
+by-cause (AtLine line) setup out site is file opened none disk failed memory = absurd is
+by-cause Input setup out site is file opened none disk failed memory = absurd is
+by-cause OutputFailed setup out site is file opened none disk failed memory = absurd is
 
 -- the cause of the end of a run, by what it gives
 pub run-cause : (ending : Ending) (setup : Setup) (out : Stream) (site : SiteCalls) → IsRunEnding ending → EndsByFile ending setup site →
-    (ending ≡ NotOpened → SiteRose site) → (ending ≡ NotOpened → IfObserved site.before (λ before. NoneBegan before site.after)) → (ending ≡ Disk → SiteRose site) → (ending ≡ Disk → IfObserved site.before (λ before. EndsInFailure site.after)) → RunCause ending setup out site
-run-cause ending setup out site is file opened none disk failed = by-cause ending setup out site (after-run ending is) file opened none disk failed
+    (ending ≡ NotOpened → SiteRose site) → (ending ≡ NotOpened → IfObserved site.before (λ before. NoneBegan before site.after)) → (ending ≡ Disk → SiteRose site) → (ending ≡ Disk → IfObserved site.before (λ before. EndsInFailure site.after)) → (MayReportMemory ending → EndsWithoutMemory site) → RunCause ending setup out site
+run-cause ending setup out site is file opened none disk failed memory = by-cause ending setup out site (after-run ending is) file opened none disk failed memory
 
 -- and of the end that is reported
-pub reported-cause : (ending result : Ending) (setup : Setup) (out : Stream) (site : SiteCalls) → RunCause ending setup out site → (result ≡ OutputFailed → HasRisen out) → IsReportedEnd ending result → RunCause result setup out site
-reported-cause ending result setup out site cause rose (inl same) = subst (λ e. RunCause e setup out site) (sym same) cause
-reported-cause ending result setup out site cause rose (inr (inl memory)) = subst (λ e. RunCause e setup out site) (sym memory.0) tt
-reported-cause ending result setup out site cause rose (inr (inr failed)) = subst (λ e. RunCause e setup out site) (sym failed) (rose failed)
+pub reported-cause : (ending result : Ending) (setup : Setup) (out : Stream) (site : SiteCalls) → RunCause ending setup out site → (MayReportMemory ending → EndsWithoutMemory site) → (result ≡ OutputFailed → HasRisen out) → IsReportedEnd ending result → RunCause result setup out site
+reported-cause ending result setup out site cause lacks rose (inl same) = subst (λ e. RunCause e setup out site) (sym same) cause
+reported-cause ending result setup out site cause lacks rose (inr (inl memory)) = subst (λ e. RunCause e setup out site) (sym memory.0) (lacks (inr memory.1))
+reported-cause ending result setup out site cause lacks rose (inr (inr failed)) = subst (λ e. RunCause e setup out site) (sym failed) (rose failed)
 
 -- what is printed of it
-pub run-printed : (ending result : Ending) (setup : Setup) (out : Stream) (site : SiteCalls) (added : List ℕ) → RunCause ending setup out site → WritesTail ending result added → RunPrinted setup out site result added
-run-printed ending result setup out site added cause (inl (same, all)) = inl (all ∙ ap tail_of (sym same))
-run-printed ending result setup out site added cause (inr (inl (memory, names, all))) = inl (all ∙ ap tail_of (sym memory))
-run-printed ending result setup out site added cause (inr (inr (failed, (reported, inl same, prefix)))) = inr (failed, (ending, cause, subst (λ e. IsPrefix added (tail_of e)) same prefix))
-run-printed ending result setup out site added cause (inr (inr (failed, (reported, inr other, prefix)))) = inr (failed, (Memory, tt, subst (λ e. IsPrefix added (tail_of e)) other.0 prefix))
+pub run-printed : (ending result : Ending) (setup : Setup) (out : Stream) (site : SiteCalls) (added : List ℕ) → RunCause ending setup out site → (MayReportMemory ending → EndsWithoutMemory site) → WritesTail ending result added → RunPrinted setup out site result added
+run-printed ending result setup out site added cause lacks (inl (same, all)) = inl (all ∙ ap tail_of (sym same))
+run-printed ending result setup out site added cause lacks (inr (inl (memory, names, all))) = inl (all ∙ ap tail_of (sym memory))
+run-printed ending result setup out site added cause lacks (inr (inr (failed, (reported, inl same, prefix)))) = inr (failed, (ending, cause, subst (λ e. IsPrefix added (tail_of e)) same prefix))
+run-printed ending result setup out site added cause lacks (inr (inr (failed, (reported, inr other, prefix)))) = inr (failed, (Memory, lacks (inr other.1), subst (λ e. IsPrefix added (tail_of e)) other.0 prefix))
 
 -- ---- what a run adds
 
@@ -263,7 +279,7 @@ memory-lines ending result added (inr (inr (failed, (reported, inr memory, prefi
 
 input-end-cause : (ending : Ending) (input out : Stream) (site : SiteCalls) → IsUntouched site → IsInputEnd ending input → OtherCause ending input out site
 input-end-cause Input input out site untouched end = record { rose = end.0; within = end.1; untouched = untouched }
-input-end-cause Memory input out site untouched end = tt
+input-end-cause Memory input out site untouched end = inl untouched
 input-end-cause Played input out site untouched end = absurd end
 input-end-cause Words input out site untouched end = absurd end
 input-end-cause Long input out site untouched end = absurd end
@@ -282,7 +298,7 @@ config-end-cause (Other ending) input out site untouched end = input-end-cause e
 -- the cause of an end without a run
 pub config-cause : (ending result : ServeEnding) (input out : Stream) (site : SiteCalls) → IsUntouched site → IsConfigEnd ending input → (result ≡ Other OutputFailed → HasRisen out) → IsReportedServe ending result → ServeCause result input out site
 config-cause ending result input out site untouched end rose (inl same) = subst (λ e. ServeCause e input out site) (sym same) (config-end-cause ending input out site untouched end)
-config-cause ending result input out site untouched end rose (inr (inl memory)) = subst (λ e. ServeCause e input out site) (sym memory) tt
+config-cause ending result input out site untouched end rose (inr (inl memory)) = subst (λ e. ServeCause e input out site) (sym memory) (inl untouched)
 config-cause ending result input out site untouched end rose (inr (inr failed)) = subst (λ e. ServeCause e input out site) (sym failed) (rose failed)
 
 -- and what is printed of it
@@ -292,7 +308,7 @@ config-printed ending result input out site added untouched end (inr (inl (memor
 config-printed ending result input out site added untouched end (inr (inr (failed, (reported, inl same, prefix)))) =
     inr (failed, record { ending = ending; could = config-end-cause ending input out site untouched end; prefix = subst (λ e. IsPrefix added (serve_tail e)) same prefix })
 config-printed ending result input out site added untouched end (inr (inr (failed, (reported, inr memory, prefix)))) =
-    inr (failed, record { ending = Other Memory; could = tt; prefix = subst (λ e. IsPrefix added (serve_tail e)) memory prefix })
+    inr (failed, record { ending = Other Memory; could = inl untouched; prefix = subst (λ e. IsPrefix added (serve_tail e)) memory prefix })
 
 -- it isn't one that a run ends well with
 config-not-played : (ending : ServeEnding) (input : Stream) → IsConfigEnd ending input → ending ≡ Other Played → ⊥
@@ -319,7 +335,7 @@ serve-cause Disk setup input out site read cause = (setup, read, cause)
 serve-cause (LongJournal size) setup input out site read cause = (setup, read, cause)
 serve-cause (CutJournal slot) setup input out site read cause = (setup, read, cause)
 serve-cause (BadSlot slot) setup input out site read cause = (setup, read, cause)
-serve-cause Memory setup input out site read cause = tt
+serve-cause Memory setup input out site read cause = inr (setup, read, cause)
 serve-cause OutputFailed setup input out site read cause = cause
 serve-cause Words setup input out site read cause = absurd cause
 serve-cause Long setup input out site read cause = absurd cause

@@ -10,7 +10,7 @@ use Rattle.gw_rules.specs.Lawful.{Stands}
 use Rattle.gw_rules.specs.View.{View}
 use Rattle.gw_run.specs.LogWritten.{Adds}
 use Rattle.gw_run.specs.Replay.{IsReportedEnd, ReplayCause, ReplayPrinted, WritesTail}
-use Rattle.gw_run.specs.Serve.{HasServed, ServeCause, ServePrinted, Serves, SiteCalls, serve_status}
+use Rattle.gw_run.specs.Serve.{HasServed, IsUntouched, ServeCause, ServePrinted, Serves, SiteCalls, serve_status}
 use Rattle.gw_run.specs.Top.{Cause, HasRisen, IsEnded, Stream, status_of, tail_of}
 use Rattle.gw_run.specs.Words.{AreRefused, AskForReplay, AskNotToServe, AskToServe, order_of}
 use Rattle.gw_run.specs.declared.ending.Ending.{Ending}
@@ -95,24 +95,24 @@ serve-ended status input out site ending s cause printed = record {
   output = λ written e. let y = printed written e in (y.0, y.2, y.1);
 }
 
-memory-printed : (input out : Stream) (site : SiteCalls) (ending : Ending) (added : List ℕ) → WritesTail Memory ending added → ServePrinted (λ other. ServeCause other input out site) (Other ending) added
-memory-printed input out site ending added (inl (same, all)) = inl (all ∙ ap tail_of (sym same))
-memory-printed input out site ending added (inr (inl (memory, names, all))) = absurd names
-memory-printed input out site ending added (inr (inr (failed, (reported, inl same, prefix)))) = inr (ap Other failed, record { ending = Other Memory; could = tt; prefix = subst (λ e. IsPrefix added (tail_of e)) same prefix })
-memory-printed input out site ending added (inr (inr (failed, (reported, inr other, prefix)))) = absurd other.1
+memory-printed : (input out : Stream) (site : SiteCalls) (ending : Ending) (added : List ℕ) → IsUntouched site → WritesTail Memory ending added → ServePrinted (λ other. ServeCause other input out site) (Other ending) added
+memory-printed input out site ending added untouched (inl (same, all)) = inl (all ∙ ap tail_of (sym same))
+memory-printed input out site ending added untouched (inr (inl (memory, names, all))) = absurd names
+memory-printed input out site ending added untouched (inr (inr (failed, (reported, inl same, prefix)))) = inr (ap Other failed, record { ending = Other Memory; could = inl untouched; prefix = subst (λ e. IsPrefix added (tail_of e)) same prefix })
+memory-printed input out site ending added untouched (inr (inr (failed, (reported, inr other, prefix)))) = absurd other.1
 
-memory-cause : (input out : Stream) (site : SiteCalls) (ending : Ending) → (ending ≡ OutputFailed → HasRisen out) → IsReportedEnd Memory ending → ServeCause (Other ending) input out site
-memory-cause input out site ending rose (inl same) = subst (λ e. ServeCause (Other e) input out site) (sym same) tt
-memory-cause input out site ending rose (inr (inl memory)) = absurd memory.1
-memory-cause input out site ending rose (inr (inr failed)) = subst (λ e. ServeCause (Other e) input out site) (sym failed) (rose failed)
+memory-cause : (input out : Stream) (site : SiteCalls) (ending : Ending) → IsUntouched site → (ending ≡ OutputFailed → HasRisen out) → IsReportedEnd Memory ending → ServeCause (Other ending) input out site
+memory-cause input out site ending untouched rose (inl same) = subst (λ e. ServeCause (Other e) input out site) (sym same) (inl untouched)
+memory-cause input out site ending untouched rose (inr (inl memory)) = absurd memory.1
+memory-cause input out site ending untouched rose (inr (inr failed)) = subst (λ e. ServeCause (Other e) input out site) (sym failed) (rose failed)
 
 -- there was no memory for the words
-pub memory-served : (status : ℕ) (input out : Stream) (site : SiteCalls) (ending : Ending) → status ≡ status_of ending → (ending ≡ OutputFailed → HasRisen out) → IsReportedEnd Memory ending → Adds out.before out.after (WritesTail Memory ending) → HasServed status input out site
-memory-served status input out site ending s rose which printed = record {
+pub memory-served : (status : ℕ) (input out : Stream) (site : SiteCalls) (ending : Ending) → IsUntouched site → status ≡ status_of ending → (ending ≡ OutputFailed → HasRisen out) → IsReportedEnd Memory ending → Adds out.before out.after (WritesTail Memory ending) → HasServed status input out site
+memory-served status input out site ending untouched s rose which printed = record {
   ending = Other ending;
   status_is = s;
-  cause = memory-cause input out site ending rose which;
-  output = λ written e. let y = printed written e in (y.0, y.2, memory-printed input out site ending y.0 y.1);
+  cause = memory-cause input out site ending untouched rose which;
+  output = λ written e. let y = printed written e in (y.0, y.2, memory-printed input out site ending y.0 untouched y.1);
 }
 
 memory-status : (status : ℕ) (ending : Ending) → status ≡ status_of ending → IsReportedEnd Memory ending → (status ≡ 71) ⊎ (ending ≡ OutputFailed)

@@ -12,7 +12,7 @@ use Rattle.gw_config.specs.FaultLine.{fault_line}
 use Rattle.gw_config.specs.Faults.{document_limit, fault_in, without_offset, IsInsideOf}
 use Rattle.gw_config.specs.Grammar.{IsSetupIn}
 use Rattle.gw_config.specs.declared.fault.ConfigFault.{ConfigFault}
-use Rattle.gw_dispatch.specs.Growth.{EndsInFailure}
+use Rattle.gw_dispatch.specs.Growth.{EndsForMemory, EndsInFailure}
 use Rattle.gw_dispatch.specs.RunEnd.{EndsByFound, HasPolled, IsEndByFile, IsFound, NoneBegan, ReportsFile}
 use Rattle.gw_dispatch.specs.declared.engine.Ended.{Ended}
 use Rattle.gw_rules.specs.Lawful.{IsLawful, Stands}
@@ -82,6 +82,10 @@ IsSetupOfInput input setup = IsSetup setup × IfBytesObserved input (λ text. Is
 abbrev pub EndsByFile : Ending → Setup → SiteCalls → Type 0
 EndsByFile ending setup site = IfObserved site.before (λ before. GivesEnd ending (EndsByFound setup.slots before site.after))
 
+-- memory may be refused where the log of the site ends so, or the site is dark
+abbrev pub EndsWithoutMemory : SiteCalls → Type 0
+EndsWithoutMemory site = IfObserved site.before (λ before. EndsForMemory site.after)
+
 -- the cause of each end of a run with this setup
 abbrev pub RunCause : Ending → Setup → Stream → SiteCalls → Type 0
 RunCause Played setup out site = EndsByFile Played setup site
@@ -90,7 +94,7 @@ RunCause Long setup out site = ⊥
 RunCause (AtLine line) setup out site = ⊥
 RunCause Input setup out site = ⊥
 RunCause NotOpened setup out site = SiteRose site × IfObserved site.before (λ before. NoneBegan before site.after)
-RunCause Memory setup out site = Unit {0}
+RunCause Memory setup out site = EndsWithoutMemory site
 RunCause OutputFailed setup out site = HasRisen out
 RunCause Disk setup out site = SiteRose site × IfObserved site.before (λ before. EndsInFailure site.after)
 RunCause (LongJournal size) setup out site = EndsByFile (LongJournal size) setup site
@@ -115,7 +119,7 @@ OtherCause Long input out site = ⊥
 OtherCause (AtLine line) input out site = ⊥
 OtherCause Input input out site = HasFailedInput input site
 OtherCause NotOpened input out site = IsRunCause NotOpened input out site
-OtherCause Memory input out site = Unit {0}
+OtherCause Memory input out site = IsUntouched site ⊎ IsRunCause Memory input out site
 OtherCause OutputFailed input out site = HasRisen out
 OtherCause Disk input out site = IsRunCause Disk input out site
 OtherCause (LongJournal size) input out site = IsRunCause (LongJournal size) input out site

@@ -6,6 +6,7 @@ use Rattle.gw_config.specs.Faults.{document_limit, fault_in, without_offset, IsI
 use Rattle.gw_config.specs.declared.fault.ConfigFault.{ConfigFault}
 use Rattle.gw_config.specs.declared.fault.ConfigFault.TheVariants.{Long as ConfigLong, NotToml, Missing, Wrong, Twice, Memory as ConfigMemory}
 use Rattle.gw_dispatch.specs.declared.engine.Ended.{Ended}
+use Rattle.gw_run.specs.Replay.{HasNumber}
 use Rattle.gw_run.specs.RunEnds.{ending_of}
 use Rattle.gw_run.specs.Serve.{IsConfigFault, RunCause, SiteCalls, serve_tail}
 use Rattle.gw_run.specs.Top.{HasRisen, IfBytesObserved, IsReadWithin, Stream, tail_of}
@@ -77,6 +78,10 @@ IsReportedServe ending result = (result ≡ ending) ⊎ ((result ≡ Other Memor
 -- Inner: the end of a run
 abbrev pub IsRunEnding : Ending → Type 0
 IsRunEnding ending = (ended : Ended) × (ending ≡ ending_of ended)
+
+-- Inner: of this end it may be reported that memory was refused: it says so, or its fault line has a number
+abbrev pub MayReportMemory : Ending → Type 0
+MayReportMemory ending = (ending ≡ Memory) ⊎ HasNumber ending
 
 -- Inner: what is printed of a run that ends so
 abbrev pub RunPrinted : Setup → Stream → SiteCalls → Ending → List ℕ → Type 0

@@ -7,9 +7,9 @@ ghost use Rattle.gw_books.specs.PastLaws.{AgreesThroughout};
 ghost use Rattle.gw_rules.specs.Lawful.{IsClear, Stands};
 ghost use Rattle.gw_rules.specs.Triple.{IsRun, RunTriple};
 ghost use Rattle.gw_rules.specs.View.{View};
-ghost use Rattle.gw_dispatch.specs.Growth.{EndsInFailure};
+ghost use Rattle.gw_dispatch.specs.Growth.{AddsPolls, EndsForMemory, EndsInFailure};
 ghost use Rattle.gw_dispatch.specs.RunEnd.{EndsByFound, NoneBegan};
-ghost use Rattle.gw_run.specs.Serving.{IsRunEnding};
+ghost use Rattle.gw_run.specs.Serving.{IsRunEnding, MayReportMemory};
 ghost use Rattle.gw_run.specs.RunEnds.{EndsRun, EndsWithStatus, GivesEnd, GivesStatus, ending_of};
 
 use crate::ending::Ending;
@@ -44,6 +44,8 @@ pub(crate) fn run_ended<S: Site>(alloc: Global, setup: &Setup, site: &mut S, mos
     ensures none { result ≡ Ending.NotOpened → IfObserved (S.observed site.old) (λ before. NoneBegan before (S.observed site.new)) }
     ensures disk { result ≡ Ending.Disk → Rose (S.observed site.old).faults (S.observed site.new).faults }
     ensures failed { result ≡ Ending.Disk → IfObserved (S.observed site.old) (λ before. EndsInFailure (S.observed site.new)) }
+    ensures memory { MayReportMemory result → IfObserved (S.observed site.old) (λ before. EndsForMemory (S.observed site.new)) }
+    ensures polls { IfObserved (S.observed site.old) (λ before. AddsPolls most before (S.observed site.new)) }
     ensures later { (S.observed site.old).faults ≤ (S.observed site.new).faults }
 {
     ending_of(run_gateway(alloc, setup, site, most))
@@ -55,7 +57,7 @@ pub(crate) fn run_ended<S: Site>(alloc: Global, setup: &Setup, site: &mut S, mos
 /// lawfully by one run at most, in which each call is due. Where the site isn't dark then, the run has ended as its status says:
 /// - 0: `Stopped` was polled, or all polls were made;
 /// - 69: the site could not be opened;
-/// - 71: memory was refused;
+/// - 71: memory was refused, before the first poll or in a round in which a till has opened or bytes of one have come;
 /// - 74: a call on the disk has failed;
 /// - 76: the journal is refused: it is too long for the setup's slots, or leaves fewer of them free than keys are open.
 ///
@@ -74,6 +76,8 @@ pub fn run<S: Site>(alloc: Global, setup: &Setup, site: &mut S, most: u64) -> u8
     ensures none { result ≡ 69 → IfObserved (S.observed site.old) (λ before. NoneBegan before (S.observed site.new)) }
     ensures disk { result ≡ 74 → Rose (S.observed site.old).faults (S.observed site.new).faults }
     ensures failed { result ≡ 74 → IfObserved (S.observed site.old) (λ before. EndsInFailure (S.observed site.new)) }
+    ensures memory { result ≡ 71 → IfObserved (S.observed site.old) (λ before. EndsForMemory (S.observed site.new)) }
+    ensures polls { IfObserved (S.observed site.old) (λ before. AddsPolls most before (S.observed site.new)) }
     ensures agrees { IfObserved (S.observed site.old) (λ before. (v : View) → Stands before v → IsClear v → IfObserved (S.observed site.new) AgreesThroughout) }
     ensures later { (S.observed site.old).faults ≤ (S.observed site.new).faults }
 {

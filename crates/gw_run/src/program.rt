@@ -5,6 +5,7 @@ ghost use Rattle.gw_site.specs.declared.turn.Turn.{Turn};
 ghost use Rattle.gw_script.specs.Decode.{script_limit};
 ghost use Rattle.gw_script.specs.site.Decode.{script_of};
 ghost use Rattle.gw_site.specs.Observed.{IfObserved};
+ghost use Rattle.gw_dispatch.specs.Growth.{AddsPolls};
 ghost use Rattle.gw_rules.specs.Lawful.{IsClear, Stands};
 ghost use Rattle.gw_rules.specs.View.{View};
 ghost use Rattle.gw_run.specs.LogWritten.{Adds};
@@ -91,7 +92,8 @@ fn replay<I: Source, O: Sink>(alloc: Global, input: &mut I, out: &mut O) -> Endi
 ///
 /// The words are those of one command: `MODE`, and the options `--turns N`, `--from N` and `--payments N`. The modes are `serve` and `replay`.
 ///
-/// - `serve` reads a configuration from the input, and runs the engine over the site that is handed in, for at most `--turns` polls.
+/// - `serve` reads a configuration from the input, and runs the engine over the site that is handed in, for at most `--turns` polls,
+///   however it ends.
 /// - `replay` reads a script from the input, plays it, and writes the text of its log. The engine runs over the script's site, and is
 ///   started again, with the same setup, after each power failure. The site that is handed in gets no call.
 ///
@@ -102,7 +104,8 @@ fn replay<I: Source, O: Sink>(alloc: Global, input: &mut I, out: &mut O) -> Endi
 ///   begins with `config`);
 /// - 66: the input could not be read (`input`);
 /// - 69: the site could not be opened in the last run (`open`);
-/// - 71: memory was refused (`memory`);
+/// - 71: memory was refused (`memory`); in `serve` the site got no call then, or was not polled yet, or its last event is that a till has
+///   opened or sent bytes, or it is dark;
 /// - 73: the output could not be written, whose last line may be incomplete;
 /// - 74: a call on the disk has failed in the last run (`disk`);
 /// - 76: the journal is refused (`journal long N`, `journal cut N` or `journal slot N`); that of a script never is, as all its runs have
@@ -137,6 +140,9 @@ pub fn top<S: Site, I: Source, O: Sink>(
         (stream_observed I.left I.faults input.old input.new)
         (stream_observed O.written O.faults out.old out.new)
         (site_calls (S.observed site.old) (S.observed site.new)) }
+
+    // However it ends, the site was polled no more often.
+    ensures polls { (most : ℕ) → AskToServe words.now most → IfObserved (S.observed site.old) (λ before. AddsPolls most before (S.observed site.new)) }
 
     // The headline, from a lawful and clear log on.
     ensures headline { (most : ℕ) → AskToServe words.now most → IfObserved (S.observed site.old) (λ before. (v : View) → Stands before v → IsClear v

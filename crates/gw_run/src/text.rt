@@ -51,10 +51,17 @@ fn is_space_or_visible(byte: u8) -> bool
     (b' '..=b'~').contains(&byte)
 }
 
+/// Whether each byte is a space or visible ASCII.
+///
+/// Each is looked at, also after one that isn't: without an early end many are looked at in one step.
 fn are_printable(bytes: &[u8]) -> bool
     ensures { result ≡ list_all is_space_or_visible bytes.now }
 {
-    bytes.iter().all(|byte| is_space_or_visible(*byte))
+    let mut printable = true;
+    for byte in bytes {
+        printable &= is_space_or_visible(*byte);
+    }
+    printable
 }
 
 /// The message of one whole frame, where it is printable ASCII.

@@ -1,10 +1,11 @@
 -- Proof of the contract of `journaled`.
-use Rattle.std.proofs.Common.{refl, sym, subst}
+use Rattle.std.proofs.Common.{arith, inr, refl, sym, subst}
 use Rattle.gw_site.specs.Outside.{outside_of}
 use Rattle.gw_rules.specs.Acts.{Unmeasured}
 use Rattle.gw_rules.specs.Triple.{TripleBy, JustBegun}
 use Rattle.gw_dispatch.specs.RunEnd.{EndedBy, HasBegun, IsDueFrom, IsEndByFile}
-use Rattle.gw_dispatch.proofs.RunLemmas.{cause-by-file, cause-has-begun, opened-run, run-by-file, run-has-begun, run-reports-none, unopened-run}
+use Rattle.gw_dispatch.proofs.GrowthLemmas.{adds-then, calls-poll-none, calls-then-ends}
+use Rattle.gw_dispatch.proofs.RunLemmas.{cause-by-file, cause-has-begun, opened-run, run-by-file, run-has-begun, unopened-run}
 use Rattle.gw_dispatch.proofs.engine.journaled.Goals as goal
 
 pub returns-in-Ok-clause-triple : goal.returns-in-Ok-clause-triple
@@ -16,8 +17,11 @@ returns-in-Ok-clause-begun g c = run-has-begun c.rounds.result c.rounds.ensures.
 pub returns-in-Ok-clause-file : goal.returns-in-Ok-clause-file
 returns-in-Ok-clause-file g c = λ log e. run-by-file c.args.setup.now.slots (outside_of log).file c.in-Ok.records c.rounds.result c.rounds.ensures.ran (c.in-Ok.ensures.file log e) (c.in-Ok.ensures.too_long log e)
 
-pub returns-in-Ok-clause-adds : goal.returns-in-Ok-clause-adds
-returns-in-Ok-clause-adds g c = λ r. absurd (run-reports-none c.rounds.result c.rounds.ensures.ran r)
+pub returns-in-Ok-clause-polls : goal.returns-in-Ok-clause-polls
+returns-in-Ok-clause-polls g c = λ before e. adds-then 0 c.args.most c.args.most before (g.S.Site.observed c.open.new.site) (g.S.Site.observed c.rounds.new.site) (omega arith) (calls-poll-none 0 before (g.S.Site.observed c.open.new.site) (c.in-Ok.ensures.adds before e)) c.rounds.ensures.goes_on.adds
+
+pub returns-in-Ok-clause-memory : goal.returns-in-Ok-clause-memory
+returns-in-Ok-clause-memory g c = λ lacks before e. calls-then-ends before (g.S.Site.observed c.open.new.site) (g.S.Site.observed c.rounds.new.site) (c.in-Ok.ensures.adds before e) (c.rounds.ensures.memory lacks)
 
 pub returns-in-Err-clause-triple : goal.returns-in-Err-clause-triple
 returns-in-Err-clause-triple g c = subst (λ ended. TripleBy (IsDueFrom c.args.setup.now Unmeasured) (g.S.Site.observed c.args.site.now) (g.S.Site.observed c.open.new.site) (JustBegun c.args.setup.now) (EndedBy ended c.args.most)) (sym c.ended_by.ensures)
@@ -29,3 +33,9 @@ returns-in-Err-clause-begun g c = subst HasBegun (sym c.ended_by.ensures) (cause
 pub returns-in-Err-clause-file : goal.returns-in-Err-clause-file
 returns-in-Err-clause-file g c = λ log e. subst (IsEndByFile c.args.setup.now.slots (outside_of log).file) (sym c.ended_by.ensures)
     (cause-by-file c.args.setup.now.slots (outside_of log).file c.in-Err.cause (c.in-Err.ensures.too_long log e) (c.in-Err.ensures.cut log e) (c.in-Err.ensures.bad log e))
+
+pub returns-in-Err-clause-polls : goal.returns-in-Err-clause-polls
+returns-in-Err-clause-polls g c = λ before e. calls-poll-none c.args.most before (g.S.Site.observed c.open.new.site) (c.in-Err.ensures.adds before e)
+
+pub returns-in-Err-clause-memory : goal.returns-in-Err-clause-memory
+returns-in-Err-clause-memory g c = λ lacks before e. inr (c.in-Err.ensures.adds before e)

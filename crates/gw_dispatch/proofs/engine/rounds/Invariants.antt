@@ -1,7 +1,7 @@
 -- What the loop of `rounds` keeps.
 use Rattle.std.proofs.Common.{◌≡◌, length}
 use Rattle.gw_rules.specs.Triple.{Triple}
-use Rattle.gw_dispatch.specs.Growth.{HasGoneOn}
+use Rattle.gw_dispatch.specs.Growth.{GoesOnByPolls}
 use Rattle.gw_dispatch.specs.RunState.{gateway_of}
 use Rattle.gw_dispatch.specs.RecordsOpening.{HasOpened}
 use Rattle.gw_dispatch.specs.Rounds.{IsReady, IsBetweenRounds}
@@ -13,5 +13,5 @@ invariant-loop-made g l = record {
   ready : IsReady l.dispatch (g.S.Site.observed l.site);
   gateway : gateway_of l.fn.setup ≡ l.dispatch.state.gateway;
   buf : length l.buf ≡ 4096;
-  goes_on : HasGoneOn (g.S.Site.observed l.fn.site) (g.S.Site.observed l.site);
+  goes_on : GoesOnByPolls l.made (g.S.Site.observed l.fn.site) (g.S.Site.observed l.site);
 }

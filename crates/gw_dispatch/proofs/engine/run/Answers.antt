@@ -1,10 +1,11 @@
 -- Proof of the contract of `run`.
+use Rattle.std.specs.Prelude.{Err}
 use Rattle.gw_site.specs.declared.site.Failed.{Failed}
 use Rattle.gw_rules.specs.Acts.{Unopened, Unmeasured}
 use Rattle.gw_rules.specs.Triple.{JustBegun}
 use Rattle.gw_rules.proofs.RunLemmas.{begun-runs, failed-runs, opened-runs, runs-then-due}
 use Rattle.gw_dispatch.specs.RunEnd.{EndedBy}
-use Rattle.gw_dispatch.proofs.RunLemmas.{begun-opened, found, none-began, not-found, opened-observed}
+use Rattle.gw_dispatch.proofs.RunLemmas.{begun-opened, found, none-began, not-found, opened-for-memory, opened-observed, opened-polls, run-polls}
 use Rattle.gw_dispatch.proofs.engine.run.Goals as goal
 
 pub returns-in-Ok-clause-lawful : goal.returns-in-Ok-clause-lawful
@@ -15,7 +16,7 @@ pub returns-in-Ok-clause-none : goal.returns-in-Ok-clause-none
 returns-in-Ok-clause-none g c = λ e. absurd (begun-opened c.journaled.result c.journaled.ensures.begun e)
 
 pub returns-in-Ok-clause-file : goal.returns-in-Ok-clause-file
-returns-in-Ok-clause-file g c = found Failed c.args.setup.now.slots c.args.setup.now _ _ _ c.journaled.result c.in-Ok.ensures.turns c.journaled.ensures.file c.journaled.ensures.adds
+returns-in-Ok-clause-file g c = found Failed c.args.setup.now.slots c.args.most c.args.setup.now _ _ _ c.journaled.result c.in-Ok.ensures.turns c.journaled.ensures.file c.journaled.ensures.polls
 
 pub returns-in-Ok-clause-failed : goal.returns-in-Ok-clause-failed
 returns-in-Ok-clause-failed g c = λ disk. opened-observed _ _ c.in-Ok.ensures.turns (c.journaled.ensures.failed disk)
@@ -28,3 +29,12 @@ returns-in-Err-clause-none g c = λ e. none-began c.in-Err.field-0 c.args.setup.
 
 pub returns-in-Err-clause-file : goal.returns-in-Err-clause-file
 returns-in-Err-clause-file g c = λ before e. not-found c.args.setup.now.slots before _
+
+pub returns-in-Ok-clause-polls : goal.returns-in-Ok-clause-polls
+returns-in-Ok-clause-polls g c = run-polls Failed c.args.setup.now c.args.most _ _ (g.S.Site.observed c.journaled.new.site) c.in-Ok.ensures.turns c.journaled.ensures.polls
+
+pub returns-in-Ok-clause-memory : goal.returns-in-Ok-clause-memory
+returns-in-Ok-clause-memory g c = λ lacks. opened-for-memory Failed c.args.setup.now _ _ (g.S.Site.observed c.journaled.new.site) c.in-Ok.ensures.turns c.journaled.ensures.triple.stays (c.journaled.ensures.memory lacks)
+
+pub returns-in-Err-clause-polls : goal.returns-in-Err-clause-polls
+returns-in-Err-clause-polls g c = opened-polls Failed c.args.setup.now (Err c.in-Err.field-0) c.args.most _ _ c.in-Err.ensures.turns

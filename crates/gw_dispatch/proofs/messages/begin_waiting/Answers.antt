@@ -1,5 +1,5 @@
 -- Proof of the contract of `begin_waiting`.
-use Rattle.std.proofs.Common.{◌++◌, ◌<◌, [], ap, length, refl, subst, sym, ◌∙◌}
+use Rattle.std.proofs.Common.{◌++◌, ◌<◌, [], ap, refl, subst, sym, ◌∙◌}
 use Rattle.std.specs.Prelude.{Ok, true, false}
 use Rattle.std.proofs.lemmas.Int.{to_z-of_z}
 use Rattle.gw_rules.proofs.TripleLemmas.{triple-refl, triple-then}
@@ -45,3 +45,9 @@ returns-in-Ok-false-clause-still g c = still-then c.args.tills.now.list.items c.
 
 pub returns-in-Err-clause-still : goal.returns-in-Err-clause-still
 returns-in-Err-clause-still g c = still-then c.args.tills.now.list.items c.loop.tills.list.items c.look_at_next.new.tills.list.items c.loop.invariant.still c.look_at_next.ensures.still
+
+pub returns-in-Ok-false-clause-goes_on : goal.returns-in-Ok-false-clause-goes_on
+returns-in-Ok-false-clause-goes_on g c = goes-then _ _ _ c.loop.invariant.goes_on c.look_at_next.ensures.goes_on
+
+pub returns-in-Err-clause-goes_on : goal.returns-in-Err-clause-goes_on
+returns-in-Err-clause-goes_on g c = goes-then _ _ _ c.loop.invariant.goes_on c.look_at_next.ensures.goes_on

@@ -8,6 +8,7 @@ use Rattle.zvt_msg.specs.MessageDecode.{decode_pt_message}
 use Rattle.gw_owes.specs.Items.{Greet}
 use Rattle.gw_dispatch.specs.MidRound.{AreHeard, HeldRound}
 use Rattle.gw_dispatch.proofs.FitLemmas.{linked-is}
+use Rattle.gw_dispatch.proofs.GrowthLemmas.{goes-then}
 use Rattle.gw_dispatch.proofs.HandleLemmas.{BeginsNext, TakesHandled, apdu-broken, apdu-outside, apdu-taken, disk-done, disk-failed}
 use Rattle.gw_dispatch.proofs.RunStateLemmas.{well-core}
 use Rattle.gw_dispatch.proofs.PerformLemmas.{Handles, greet-outside}
@@ -82,3 +83,12 @@ returns-in-Err-begin_waiting-clause-still g c = still-then c.args.tills.now.list
 
 pub returns-in-Err-handle-clause-still : goal.returns-in-Err-handle-clause-still
 returns-in-Err-handle-clause-still g c = still-then c.args.tills.now.list.items c.greet.new.tills.list.items c.handle.new.tills.list.items c.greet.ensures.still c.handle.ensures.still
+
+pub returns-in-Err-handle-clause-goes_on : goal.returns-in-Err-handle-clause-goes_on
+returns-in-Err-handle-clause-goes_on g c = goes-then _ _ _ c.greet.ensures.goes_on.goes_on c.handle.ensures.goes_on
+
+pub returns-in-Ok-begin_waiting-clause-goes_on : goal.returns-in-Ok-begin_waiting-clause-goes_on
+returns-in-Ok-begin_waiting-clause-goes_on g c = goes-then _ _ _ c.greet.ensures.goes_on.goes_on (goes-then _ _ _ c.handle.ensures.goes_on c.begin_waiting.ensures.goes_on)
+
+pub returns-in-Err-begin_waiting-clause-goes_on : goal.returns-in-Err-begin_waiting-clause-goes_on
+returns-in-Err-begin_waiting-clause-goes_on g c = goes-then _ _ _ c.greet.ensures.goes_on.goes_on (goes-then _ _ _ c.handle.ensures.goes_on c.begin_waiting.ensures.goes_on)

@@ -1,5 +1,5 @@
 -- Proof of the contract of `refuse_all_overdue`.
-use Rattle.std.proofs.Common.{◌≡◌, sym, ◌∙◌}
+use Rattle.std.proofs.Common.{sym, ◌∙◌}
 use Rattle.std.proofs.lemmas.Int.{to_z-of_z}
 use Rattle.gw_rules.proofs.TripleLemmas.{triple-then}
 use Rattle.gw_dispatch.proofs.GrowthLemmas.{stands-then}

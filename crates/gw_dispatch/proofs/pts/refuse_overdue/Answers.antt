@@ -1,5 +1,5 @@
 -- Proof of the contract of `refuse_overdue`.
-use Rattle.std.proofs.Common.{◌≡◌, ◌∙◌, sym, true}
+use Rattle.std.proofs.Common.{◌∙◌, sym}
 use Rattle.std.proofs.lemmas.Int.{to_z-of_z}
 use Rattle.gw_base.specs.Moment.{moment_of}
 use Rattle.gw_dispatch.proofs.OverdueLemmas.{RefusesFirst, overdue-count, overdue-has, overdue-less, overdue-reply, overdue-stays, refused-first}

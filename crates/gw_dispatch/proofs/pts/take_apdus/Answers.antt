@@ -42,3 +42,9 @@ returns-in-Ok-false-clause-still g c = still-then c.args.tills.now.list.items c.
 
 pub returns-in-Err-clause-still : goal.returns-in-Err-clause-still
 returns-in-Err-clause-still g c = still-then c.args.tills.now.list.items c.loop.tills.list.items c.take_apdu.new.tills.list.items c.loop.invariant.still c.take_apdu.ensures.still
+
+pub returns-in-Ok-false-clause-goes_on : goal.returns-in-Ok-false-clause-goes_on
+returns-in-Ok-false-clause-goes_on g c = goes-then _ _ _ c.loop.invariant.goes_on c.take_apdu.ensures.goes_on
+
+pub returns-in-Err-clause-goes_on : goal.returns-in-Err-clause-goes_on
+returns-in-Err-clause-goes_on g c = goes-then _ _ _ c.loop.invariant.goes_on c.take_apdu.ensures.goes_on

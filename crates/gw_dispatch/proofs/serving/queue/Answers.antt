@@ -1,9 +1,9 @@
 -- Proof of the contract of `queue`.
-use Rattle.std.proofs.Common.{◌≡◌, ◌∙◌, refl, sym, ap, subst}
+use Rattle.std.proofs.Common.{◌∙◌, refl}
 use Rattle.std.proofs.lemmas.Int.{to_z-of_z}
 use Rattle.gw_base.specs.Moment.{moment_of}
 use Rattle.gw_dispatch.proofs.GrowthLemmas.{goes-nowhere}
-use Rattle.gw_dispatch.proofs.PerformLemmas.{MakesCall, wanted-writable}
+use Rattle.gw_dispatch.proofs.PerformLemmas.{wanted-writable}
 use Rattle.gw_dispatch.proofs.QueueLemmas.{QueuesBy, queued-count, queued-done, queued-reply, queued-well, queues-few}
 use Rattle.gw_dispatch.proofs.ReaderLemmas.{still-same}
 use Rattle.gw_dispatch.proofs.SendLemmas.{sent-count}

@@ -8,6 +8,7 @@ use Rattle.gw_owes.specs.Core.{Core}
 use Rattle.gw_owes.specs.Items.{Queue, Serve}
 use Rattle.gw_rules.proofs.TripleLemmas.{triple-after, triple-refl, triple-then}
 use Rattle.gw_core.specs.declared.till.Given.TheVariants.{Nothing, Reply, Begins, Queues}
+use Rattle.gw_dispatch.specs.MidRound.{AreHeard}
 use Rattle.gw_dispatch.specs.NextMessage.{IsNextOf}
 use Rattle.gw_dispatch.specs.Serving.{items_of}
 use Rattle.gw_dispatch.specs.Tills.{AllStillHold, IsThere, bytes_held, reader_of}
@@ -15,11 +16,11 @@ use Rattle.gw_dispatch.specs.declared.fault.TurnFault.TheVariants.{Memory}
 use Rattle.gw_dispatch.specs.declared.serving.Next.TheVariants.{Incomplete, Message, Unframed}
 use Rattle.gw_dispatch.proofs.ReaderLemmas.{absent-bytes, dropped-reader, dropped-still, empty-waits, others-still}
 use Rattle.gw_dispatch.proofs.SendLemmas.{forgets-this, sent-count}
-use Rattle.gw_dispatch.proofs.ServeLemmas.{dropped-items, moved, no-memory-said, same-items, same-well, still-left, still-shorter, taken-begins, taken-queues, taken-replied, taken-silent, takes-less, unframed, well-sent}
+use Rattle.gw_dispatch.proofs.ServeLemmas.{dropped-items, held-idle, moved, no-memory-said, same-items, same-well, still-left, still-shorter, taken-begins, taken-queues, taken-replied, taken-silent, takes-less, unframed, well-sent}
 use Rattle.gw_dispatch.proofs.serving.serve_next.Goals as goal
 
 pub returns-in-Err-clause-triple : goal.returns-in-Err-clause-triple
-returns-in-Err-clause-triple g c = λ setup polls heard items same. no-memory-said _ _ Memory refl
+returns-in-Err-clause-triple g c = λ setup polls heard items same. no-memory-said _ _ (λ v p. held-idle setup c.args.state.now.core c.args.state.now.records.ledger.records c.args.tills.now.list.items polls c.args.now (AreHeard heard) (items_of c.args.till c.args.tills.now.list.items ++ items) v p) Memory refl
 
 pub returns-in-Ok-Incomplete-clause-triple : goal.returns-in-Ok-Incomplete-clause-triple
 returns-in-Ok-Incomplete-clause-triple g c = λ setup polls heard items same.
@@ -170,7 +171,7 @@ pub returns-in-Ok-queue-clause-others : goal.returns-in-Ok-queue-clause-others
 returns-in-Ok-queue-clause-others g c = others-still c.args.till c.args.tills.now.list.items c.next_message.new.tills.list.items c.queue.new.tills.list.items c.in-Ok-Message-Queues.ensures.others c.queue.ensures.still
 
 pub returns-clause-triple : goal.returns-clause-triple
-returns-clause-triple g c = λ setup polls heard items same. rw c.in-Err-queue.ensures.untouched (no-memory-said _ _ Memory refl)
+returns-clause-triple g c = λ setup polls heard items same. rw c.in-Err-queue.ensures.untouched (no-memory-said _ _ (λ v p. held-idle setup c.args.state.now.core c.args.state.now.records.ledger.records c.args.tills.now.list.items polls c.args.now (AreHeard heard) (items_of c.args.till c.args.tills.now.list.items ++ items) v p) Memory refl)
 
 pub returns-clause-others : goal.returns-clause-others
 returns-clause-others g c = others-still c.args.till c.args.tills.now.list.items c.next_message.new.tills.list.items c.queue.new.tills.list.items c.in-Ok-Message-Queues.ensures.others c.queue.ensures.still

@@ -1,5 +1,5 @@
 -- Proof of the contract of `run`.
-use Rattle.gw_run.proofs.RunEndLemmas.{gives-status, run-agrees, run-status}
+use Rattle.gw_run.proofs.RunEndLemmas.{gives-status, run-agrees, run-status, status-lacks}
 use Rattle.gw_run.proofs.one_run.run.Goals as goal
 
 pub returns-clause-lawful : goal.returns-clause-lawful
@@ -10,3 +10,6 @@ returns-clause-file g c = λ log e. gives-status c.run_ended.result c.status.res
 
 pub returns-clause-agrees : goal.returns-clause-agrees
 returns-clause-agrees g c = run-agrees c.law_headline.ensures.throughout _ _ _ _ _ c.run_ended.ensures.lawful
+
+pub returns-clause-memory : goal.returns-clause-memory
+returns-clause-memory g c = λ e. c.run_ended.ensures.memory (status-lacks c.run_ended.result c.status.result c.status.ensures e)

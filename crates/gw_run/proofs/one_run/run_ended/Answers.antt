@@ -1,5 +1,6 @@
 -- Proof of the contract of `run_ended`.
 use Rattle.gw_run.proofs.RunEndLemmas.{gives-end}
+use Rattle.gw_run.proofs.ServeLemmas.{run-lacks}
 use Rattle.gw_run.proofs.one_run.run_ended.Goals as goal
 
 pub returns-clause-lawful : goal.returns-clause-lawful
@@ -10,3 +11,6 @@ returns-clause-file g c = λ log e. (c.run.result, c.ending_of.ensures, c.run.en
 
 pub returns-clause-which : goal.returns-clause-which
 returns-clause-which g c = (c.run.result, c.ending_of.ensures)
+
+pub returns-clause-memory : goal.returns-clause-memory
+returns-clause-memory g c = λ reports. c.run.ensures.memory (run-lacks c.run.result c.ending_of.result c.ending_of.ensures reports)

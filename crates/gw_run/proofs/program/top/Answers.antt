@@ -1,5 +1,7 @@
 -- Proof of the contract of `top`.
-use Rattle.std.proofs.Common.{◌∙◌, sym}
+use Rattle.std.proofs.Common.{◌∙◌, refl, subst, sym}
+use Rattle.gw_dispatch.specs.Growth.{AddsPolls}
+use Rattle.gw_dispatch.proofs.GrowthLemmas.{goes-nowhere, goes-without-poll}
 use Rattle.gw_run.specs.declared.ending.Ending.TheVariants.{Memory}
 use Rattle.gw_run.proofs.ReplayLemmas.{status-after}
 use Rattle.gw_run.proofs.TopLemmas.{lines-ended, memory-served, memory-serves, replay-asked, replay-ended, serve-ended, serve-turns, serves-status}
@@ -12,6 +14,10 @@ pub returns-in-Serve-clause-headline : goal.returns-in-Serve-clause-headline
 returns-in-Serve-clause-headline g c = λ turns asks before e v stands clear.
     serves-status _ c.status.result c.in-Ok-Some.order.polls turns c.serve.result before _ c.status.ensures (serve-turns c.args.words.now c.in-Ok-Some.order turns (sym c.in-Ok-Some.field-0-is ∙ c.in-Ok-Some.ensures) asks) (c.serve.ensures.headline before e v stands clear)
 
+pub returns-in-Serve-clause-polls : goal.returns-in-Serve-clause-polls
+returns-in-Serve-clause-polls g c = λ turns asks before e.
+    subst (λ most. AddsPolls most before (g.S.Site.observed c.serve.new.site)) (serve-turns c.args.words.now c.in-Ok-Some.order turns (sym c.in-Ok-Some.field-0-is ∙ c.in-Ok-Some.ensures) asks) (c.serve.ensures.polls before e)
+
 pub returns-in-Replay-clause-ended : goal.returns-in-Replay-clause-ended
 returns-in-Replay-clause-ended g c = λ asks. replay-ended c.status-in-Replay.result c.args.words.now _ _ c.replay.result c.status-in-Replay.ensures (replay-asked c.args.words.now c.in-Ok-Some.order (sym c.in-Ok-Some.field-0-is ∙ c.in-Ok-Some.ensures) c.in-Replay.is) c.replay.ensures.cause c.replay.ensures.printed
 
@@ -22,8 +28,11 @@ pub returns-in-Err-clause-ended : goal.returns-in-Err-clause-ended
 returns-in-Err-clause-ended g c = λ asks. lines-ended c.status-in-Err.result c.args.words.now _ _ Memory c.write_last_lines-in-Err.result tt c.status-in-Err.ensures tt c.write_last_lines-in-Err.ensures.output_failed c.write_last_lines-in-Err.ensures.which c.write_last_lines-in-Err.ensures.observed
 
 pub returns-in-Err-clause-served : goal.returns-in-Err-clause-served
-returns-in-Err-clause-served g c = λ turns asks. memory-served c.status-in-Err.result _ _ _ c.write_last_lines-in-Err.result c.status-in-Err.ensures c.write_last_lines-in-Err.ensures.output_failed c.write_last_lines-in-Err.ensures.which c.write_last_lines-in-Err.ensures.observed
+returns-in-Err-clause-served g c = λ turns asks. memory-served c.status-in-Err.result _ _ _ c.write_last_lines-in-Err.result refl c.status-in-Err.ensures c.write_last_lines-in-Err.ensures.output_failed c.write_last_lines-in-Err.ensures.which c.write_last_lines-in-Err.ensures.observed
 
 pub returns-in-Err-clause-headline : goal.returns-in-Err-clause-headline
 returns-in-Err-clause-headline g c = λ turns asks before e v stands clear.
     memory-serves c.law_headline.ensures.throughout _ turns c.status-in-Err.result c.write_last_lines-in-Err.result before v _ c.status-in-Err.ensures c.write_last_lines-in-Err.ensures.which e stands
+
+pub returns-in-Err-clause-polls : goal.returns-in-Err-clause-polls
+returns-in-Err-clause-polls g c = λ turns asks. (goes-without-poll turns (g.S.Site.observed c.args.site.now) (g.S.Site.observed c.args.site.now) (goes-nowhere (g.S.Site.observed c.args.site.now))).adds

@@ -1,5 +1,6 @@
 -- Proof of the contract of `serve`.
 use Rattle.std.proofs.Common.{◌≡◌}
+use Rattle.gw_dispatch.proofs.GrowthLemmas.{goes-nowhere, goes-without-poll}
 use Rattle.gw_run.specs.declared.ending.Ending.TheVariants.{Played}
 use Rattle.gw_run.specs.declared.serving.ServeEnding.TheVariants.{Other}
 use Rattle.gw_run.proofs.ServeLemmas.{config-unplayed, input-setup, nothing-served, other-same, serve-printed, serves-own}
@@ -17,3 +18,6 @@ returns-in-Ok-clause-headline g c = λ before e v stands clear. serves-own c.in-
 pub returns-in-Err-clause-headline : goal.returns-in-Err-clause-headline
 returns-in-Err-clause-headline g c = λ before e v stands clear. nothing-served c.law_headline.ensures.throughout _ c.args.most (c.write_serve_lines.result ≡ Other Played) before v _
     (config-unplayed c.in-Err.ending c.write_serve_lines.result _ c.in-Err.ensures.fault c.write_serve_lines.ensures.which) e stands
+
+pub returns-in-Err-clause-polls : goal.returns-in-Err-clause-polls
+returns-in-Err-clause-polls g c = (goes-without-poll c.args.most (g.S.Site.observed c.args.site.now) (g.S.Site.observed c.args.site.now) (goes-nowhere (g.S.Site.observed c.args.site.now))).adds

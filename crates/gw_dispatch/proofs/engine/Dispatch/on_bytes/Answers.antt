@@ -5,7 +5,7 @@ use Rattle.gw_dispatch.specs.Tills.{rank}
 use Rattle.gw_dispatch.specs.declared.fault.TurnFault.TheVariants.{Memory}
 use Rattle.gw_dispatch.proofs.ReaderLemmas.{others-still-then, waiting-but}
 use Rattle.gw_dispatch.proofs.RunStateLemmas.{served-ready}
-use Rattle.gw_dispatch.proofs.RoundLemmas.{chunk-failed, chunk-served, chunk-unheld, fed-others}
+use Rattle.gw_dispatch.proofs.RoundLemmas.{chunk-failed, chunk-idle, chunk-served, chunk-unheld, fed-others}
 use Rattle.gw_dispatch.proofs.ServeLemmas.{no-memory-said}
 use Rattle.gw_dispatch.proofs.engine.Dispatch.on_bytes.Goals as goal
 
@@ -14,7 +14,7 @@ returns-in-None-clause-triple g c = λ setup polls named. chunk-unheld _ setup c
     (ap (rank c.args.number) (sym c.deref.ensures.value) ∙ sym c.index_of.ensures.index ∙ c.in-None.is)
 
 pub returns-in-Err-clause-triple : goal.returns-in-Err-clause-triple
-returns-in-Err-clause-triple g c = λ setup polls named. no-memory-said _ _ Memory refl
+returns-in-Err-clause-triple g c = λ setup polls named. no-memory-said _ _ (λ v p. chunk-idle setup c.args.self.now polls c.args.now c.args.number c.args.bytes.now v p) Memory refl
 
 pub returns-in-Ok-serve-clause-triple : goal.returns-in-Ok-serve-clause-triple
 returns-in-Ok-serve-clause-triple g c = λ setup polls named.

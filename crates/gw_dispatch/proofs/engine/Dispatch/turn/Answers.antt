@@ -17,9 +17,8 @@ use Rattle.gw_rules.proofs.CallLemmas.{poll-triple}
 use Rattle.gw_dispatch.specs.MidRound.{due_items}
 use Rattle.gw_dispatch.specs.Rounds.{IsBetweenRounds, IsHandling, IsPolled}
 use Rattle.gw_dispatch.specs.declared.engine.Dispatch.{Dispatch}
-use Rattle.gw_dispatch.proofs.GrowthLemmas.{goes-then, was-polled}
-use Rattle.gw_dispatch.proofs.ReaderLemmas.{still-same}
-use Rattle.gw_dispatch.proofs.RunStateLemmas.{ready-core, stays-same}
+use Rattle.gw_dispatch.proofs.GrowthLemmas.{goes-then, polled-for-memory, polled-stands, polls-then-calls, was-polled}
+use Rattle.gw_dispatch.proofs.RunStateLemmas.{ready-core, ready-still}
 use Rattle.gw_dispatch.proofs.RoundLemmas.{rest-polled, handled-rest}
 use Rattle.gw_dispatch.proofs.engine.Dispatch.turn.Goals as goal
 
@@ -41,13 +40,23 @@ returns-in-Ok-Went-clause-triple g c = λ setup polls named.
     (rw (with_items_is c.on_event.new.self.readers c.on_due.new.readers (c.on_due.auto.readers ∙ c.deref_mut.ensures.len)) q))))
 
 pub on_event-requires-clause-ready : goal.on_event-requires-clause-ready
-on_event-requires-clause-ready g c = ready-core c.args.self.now c.args.self.now.state.core c.args.self.now.readers.items _ _ _ refl refl c.requires.ready (still-same c.args.self.now.tills.list.items) (stays-same c.args.self.now.state.core) c.requires.ready.terminals (was-polled _ _ c.poll-now.result c.poll-now.new.buf c.poll-now.ensures.turns c.poll-now.ensures.cause)
+on_event-requires-clause-ready g c = ready-still c.args.self.now _ _ c.requires.ready (polled-stands _ _ c.poll-now.result c.poll-now.new.buf c.poll-now.ensures.turns)
 
 pub returns-in-Ok-Went-clause-ready : goal.returns-in-Ok-Went-clause-ready
 returns-in-Ok-Went-clause-ready g c = ready-core c.on_event.new.self c.on_due.new.core c.on_due.new.readers _ _ _ refl (with_items_is c.on_event.new.self.readers c.on_due.new.readers (c.on_due.auto.readers ∙ c.deref_mut.ensures.len)) c.in-Ok-Went.ensures.ready c.on_due.ensures.still c.on_due.ensures.order c.on_due.ensures.ready c.on_due.ensures.goes_on
 
 pub returns-in-Ok-Went-clause-goes_on : goal.returns-in-Ok-Went-clause-goes_on
-returns-in-Ok-Went-clause-goes_on g c = goes-then _ _ _ (was-polled _ _ c.poll-now.result c.poll-now.new.buf c.poll-now.ensures.turns c.poll-now.ensures.cause).goes_on (goes-then _ _ _ c.in-Ok-Went.ensures.goes_on c.on_due.ensures.goes_on.goes_on)
+returns-in-Ok-Went-clause-goes_on g c = polls-then-calls 1 _ _ _ (was-polled _ _ c.poll-now.result c.poll-now.new.buf c.poll-now.ensures.turns c.poll-now.ensures.cause) (goes-then _ _ _ c.in-Ok-Went.ensures.goes_on c.on_due.ensures.goes_on.goes_on)
+
+pub returns-in-Ok-Stopped-clause-goes_on : goal.returns-in-Ok-Stopped-clause-goes_on
+returns-in-Ok-Stopped-clause-goes_on g c = polls-then-calls 1 _ _ _ (was-polled _ _ c.poll-now.result c.poll-now.new.buf c.poll-now.ensures.turns c.poll-now.ensures.cause) c.in-Ok-Stopped.ensures.goes_on
+
+pub returns-in-Err-clause-goes_on : goal.returns-in-Err-clause-goes_on
+returns-in-Err-clause-goes_on g c = polls-then-calls 1 _ _ _ (was-polled _ _ c.poll-now.result c.poll-now.new.buf c.poll-now.ensures.turns c.poll-now.ensures.cause) c.in-Err.ensures.goes_on
+
+pub returns-in-Err-clause-memory : goal.returns-in-Err-clause-memory
+returns-in-Err-clause-memory g c = λ e. polled-for-memory _ _ _ c.poll-now.result c.poll-now.new.buf c.poll-now.ensures.turns (c.in-Err.ensures.memory e) c.in-Err.ensures.goes_on
+    (c.in-Err.ensures.triple c.requires.ready.well.order.setup 0 c.requires.ready.well.order.gateway_is).stays
 
 pub returns-in-Ok-Stopped-clause-triple : goal.returns-in-Ok-Stopped-clause-triple
 returns-in-Ok-Stopped-clause-triple g c = λ setup polls named.

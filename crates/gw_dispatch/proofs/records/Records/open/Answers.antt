@@ -3,7 +3,8 @@ use Rattle.std.proofs.Common.{ap, sym, subst}
 use Rattle.std.specs.Prelude.{ℕ, List, Ok, Err}
 use Rattle.jrn_log.specs.Journal.{JournalValue}
 use Rattle.gw_site.specs.Outside.{outside_of}
-use Rattle.gw_dispatch.proofs.OpeningLemmas.{ledger-not-failed, of-ledger, opening-adds, opening-failed, opens}
+use Rattle.gw_dispatch.proofs.GrowthLemmas.{opening-adds}
+use Rattle.gw_dispatch.proofs.OpeningLemmas.{ledger-not-failed, of-ledger, opening-failed, opens}
 use Rattle.gw_dispatch.proofs.RecordsLemmas.{IsByFile, by_journal, by_ledger, exactly_bad, exactly_cut, exactly_refused, state, stands_too}
 use Rattle.gw_dispatch.proofs.records.Records.open.Goals as goal
 
@@ -54,7 +55,7 @@ pub returns-in-Err-clause-failed : goal.returns-in-Err-clause-failed
 returns-in-Err-clause-failed g c = λ disk. opening-failed _ _ c.in-Err.fault c.unopened_by.result c.unopened_by.ensures disk c.in-Err.ensures.turns
 
 pub returns-in-Err-clause-adds : goal.returns-in-Err-clause-adds
-returns-in-Err-clause-adds g c = opening-adds _ _ c.in-Err.ensures.turns
+returns-in-Err-clause-adds g c = opening-adds {T = JournalValue × List (List ℕ)} (Err c.in-Err.fault) _ _ c.in-Err.ensures.turns
 
 pub returns-in-Ok-clause-triple : goal.returns-in-Ok-clause-triple
 returns-in-Ok-clause-triple g c = λ setup same.
@@ -65,4 +66,4 @@ pub returns-in-Ok-clause-failed : goal.returns-in-Ok-clause-failed
 returns-in-Ok-clause-failed g c = λ disk. ledger-not-failed c.in-Ok.journal c.in-Ok.bodies c.with_ledger.result c.with_ledger.ensures disk
 
 pub returns-in-Ok-clause-adds : goal.returns-in-Ok-clause-adds
-returns-in-Ok-clause-adds g c = opening-adds _ _ c.in-Ok.ensures.turns
+returns-in-Ok-clause-adds g c = opening-adds {T = JournalValue × List (List ℕ)} (Ok (c.in-Ok.journal, c.in-Ok.bodies)) _ _ c.in-Ok.ensures.turns
