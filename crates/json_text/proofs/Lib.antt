@@ -3,6 +3,7 @@ mod PrefixLemmas
 pub mod CanonicalLemmas
 pub mod CharacterLemmas
 pub mod EndLemmas
+pub mod FewLemmas
 pub mod FollowLemmas
 pub mod GrowthLemmas
 pub mod LevelLemmas
@@ -12,9 +13,11 @@ pub mod LoopLemmas
 pub mod NameLemmas
 pub mod NumberLemmas
 pub mod ObjectLemmas
+pub mod PartLemmas
 pub mod ReaderLemmas
 pub mod ScanLemmas
 pub mod StateLemmas
+pub mod StretchLemmas
 pub mod StringLemmas
 pub mod TreeLemmas
 pub mod UniqueLemmas

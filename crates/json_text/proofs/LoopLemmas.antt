@@ -1,13 +1,11 @@
 -- The loop over the bytes.
-use Rattle.std.proofs.Common.{◌≡◌, ℕ, ◌+◌, ◌<◌, ◌≤◌, List, [], length, get_or, take, refl, sym, ap, subst, ◌∙◌, Bool, true, false, true≢false}
-use Rattle.std.specs.Prelude.{MatchBool}
+use Rattle.std.proofs.Common.{◌≡◌, ℕ, ◌+◌, ◌<◌, ◌≤◌, List, [], length, get_or, take, refl, sym, ap, subst, ◌∙◌}
 use Rattle.std.proofs.lemmas.List.{take_all}
 use Rattle.json_text.specs.Scan.{Scan, outside, scan, scan_step}
-use Rattle.json_text.specs.inner.ReaderStates.{Level, ReaderState, value, reader_state, levels, Stays, StepsOn}
+use Rattle.json_text.specs.inner.ReaderStates.{Level, ReaderState, value, reader_state, levels, StepsOn}
 use Rattle.json_text.specs.Fault.{RefusesText}
 use Rattle.json_text.specs.inner.StepErrors.{Fails, read_error_at}
 use Rattle.json_text.specs.declared.state.OpenLevel.{OpenLevel}
-use Rattle.json_text.specs.declared.state.Mode.{Mode}
 use Rattle.json_text.specs.declared.state.State.{State}
 use Rattle.json_text.specs.declared.fault.StepError.{StepError}
 use Rattle.json_text.specs.declared.fault.StepError.TheVariants as step_errors
@@ -28,18 +26,6 @@ one_read b offset c p st t i r s = record {
 
 pub next_read : (b : List ℕ) (offset c : ℕ) (p : ReaderState) (st : List Level) (t : State) → offset < length b → c ≡ get_or b offset 0 → IsRead (take offset b) p st → StepsOn p st c t → IsRead (take (offset + 1) b) (reader_state t.mode) (levels t.stack.items)
 next_read b offset c p st t lt e r s = one_read b offset c p st t (at_byte b offset c lt e) r s
-
--- the mode hasn't changed
-pub same_read : (b : List ℕ) (offset : ℕ) (m n : Mode) (st : List Level) → n ≡ m → IsRead (take offset b) (reader_state m) st → IsRead (take offset b) (reader_state n) st
-same_read b offset m n st e r = subst (λ (o : Mode). IsRead (take offset b) (reader_state o) st) (sym e) r
-
-pub taken : (m n : Mode) (c : ℕ) (b : Bool) → b ≡ true → MatchBool b (Stays m c n) (n ≡ m) → Stays m c n
-taken m n c true e h = h
-taken m n c false e h = absurd (true≢false (sym e))
-
-pub untouched : (m n : Mode) (c : ℕ) (b : Bool) → b ≡ false → MatchBool b (Stays m c n) (n ≡ m) → n ≡ m
-untouched m n c true e h = absurd (true≢false e)
-untouched m n c false e h = h
 
 pub refused : (b : List ℕ) (offset c : ℕ) (p : ReaderState) (st : List Level) (s : StepError) → offset < length b → c ≡ get_or b offset 0 → IsRead (take offset b) p st → Fails p st c s → RefusesText b (read_error_at s offset)
 refused b offset c p st step_errors.Memory lt e r f = tt

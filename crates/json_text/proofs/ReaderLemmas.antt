@@ -12,7 +12,7 @@ use Rattle.json_text.specs.Grammar.{Rules, is_space}
 use Rattle.json_text.specs.Scan.{outside, inside, scan_step}
 use Rattle.json_text.specs.inner.CharacterLeft.{LeftOfCharacter, IsSound, LeavesNext, LeavesNone, Starts, scan_within}
 use Rattle.json_text.specs.inner.NumberLeft.{LeftOfNumber, LeavesNumber, EndsNumber}
-use Rattle.json_text.specs.inner.ReaderStates.{Level, in_list, in_object, ReaderState, value, first_element, first_name, name, colon, after, number_in, string_in, character_in, as_value, as_name, LeadsTo, IsDead, scan_of, pairs, levels, role_of, reader_state, IsWithin, IsPlain, Stays, StepsOn}
+use Rattle.json_text.specs.inner.ReaderStates.{Level, in_list, in_object, ReaderState, value, first_element, first_name, name, colon, after, number_in, string_in, character_in, as_value, as_name, LeadsTo, IsDead, scan_of, pairs, levels, role_of, reader_state, IsWithin, StepsOn}
 use Rattle.json_text.specs.inner.StepErrors.{FailsAt, Fails, IsTooDeep, IsRepeated, IsKindAt, IsNoMark}
 use Rattle.json_text.specs.declared.character.CharacterState.{CharacterState}
 use Rattle.json_text.specs.declared.number.NumberState.{NumberState}
@@ -35,7 +35,7 @@ use Rattle.json_text.specs.declared.fault.FaultKind.TheVariants as kinds
 use Rattle.json_text.proofs.TreeLemmas.{value_of-List, value_of-Object}
 use Rattle.json_text.proofs.ScanLemmas.{stays_outside, space_is}
 use Rattle.json_text.proofs.NameLemmas.{repeated}
-use Rattle.json_text.proofs.CharacterLemmas.{starts_scalar, first_ascii}
+use Rattle.json_text.proofs.CharacterLemmas.{starts_scalar}
 use Rattle.json_text.proofs.ValueLemmas as values
 use Rattle.json_text.proofs.ObjectLemmas as objects
 use Rattle.json_text.proofs.StateLemmas.{space_after, list_dead, object_dead, number_on, number_ends, number_ended, text_closes, text_next, text_whole, text_dead, character_next, character_whole, character_dead}
@@ -234,29 +234,6 @@ text_wrong fs t text x fault_kind ne dead k = by_kind (string_in (role_of t) tex
 
 pub character_wrong : (fs : List OpenLevel) (t : Target) (text : List ℕ) (s : CharacterState) (x : ℕ) (fault_kind : FaultKind) → IsSound s → ((w : List ℕ) (c : ℕ) → LeftOfCharacter s (x ∷ w) c → ⊥) → IsKindAt (scan_within s) x fault_kind → FailsAt (character_in (role_of t) text s) (levels fs) x fault_kind
 character_wrong fs t text s x fault_kind sound dead k = by_kind (character_in (role_of t) text s) (levels fs) x fault_kind (λ R. character_dead R (levels fs) (role_of t) text s x sound dead) k
-
--- ---- bytes appended to the text so far
-
-pub text_stays : (m : Mode) (t : Target) (old new : String Global) (x ch : ℕ) → m ≡ modes.Str t old → IsPlain x → ch ≡ x → string_bytes new ≡ string_bytes old ++ encode_utf8 ch → Stays m x (modes.Str t new)
-text_stays m t old new x ch is p e f =
-    let l : LeavesNone Starts inside x ch = subst (λ (k : ℕ). LeavesNone Starts inside x k) (sym e) (first_ascii x p.0 (omega (arith, p)) p.2 p.3) in
-    subst (λ (n : Mode). Stays n x (modes.Str t new)) (sym is) (record {
-      within = tt;
-      leads = λ R st. subst (λ (q : ReaderState). LeadsTo R (string_in (role_of t) (string_bytes old)) st x q st) (sym (ap (string_in (role_of t)) f)) (text_whole R st (role_of t) (string_bytes old) x ch p.2 l);
-      scans = l.scans;
-    })
-
-pub number_stays : (m : Mode) (old new : String Global) (p q : NumberState) (c ch : ℕ) → m ≡ modes.Number old p → LeavesNumber (LeftOfNumber p) c q → ch ≡ c → string_bytes new ≡ string_bytes old ++ encode_utf8 ch → Stays m c (modes.Number new q)
-number_stays m old new p q c ch is l e f =
-    let g : string_bytes new ≡ string_bytes old ++ c ∷ [] = f ∙ ap (λ (t : List ℕ). string_bytes old ++ t) (ap encode_utf8 e ∙ encode_ascii c l.byte.ascii) in
-    subst (λ (n : Mode). Stays n c (modes.Number new q)) (sym is) (record {
-      within = tt;
-      leads = λ R st. subst (λ (t : List ℕ). LeadsTo R (number_in (string_bytes old) p) st c (number_in t q) st) (sym g) (number_on R st (string_bytes old) p q c l);
-      scans = stays_outside c l.byte.no_mark.3;
-    })
-
-pub stays_steps : (m : Mode) (c : ℕ) (n : Mode) (o : Vec OpenLevel Global) → Stays m c n → StepsOn (reader_state m) (levels o.items) c (state o n)
-stays_steps m c n o h = record { within = h.within; leads = λ R le. h.leads R (levels o.items); scans = h.scans }
 
 -- ---- the closing quotation mark
 

@@ -91,6 +91,7 @@ pub(crate) fn first(byte: u8) -> CharacterStep
 
 impl CharacterState {
     /// The next byte of a character.
+    #[inline(always)]
     pub(crate) fn next(self, byte: u8) -> CharacterStep
         requires { IsSound self }
         ensures { IsCharacterStep (LeftOfCharacter self) (scan_within self) byte result }

@@ -18,6 +18,7 @@ mod members;
 mod number;
 mod reader;
 mod state;
+mod stretches;
 #[cfg(test)]
 mod tests;
 mod tree;

@@ -33,6 +33,7 @@ impl NumberState {
     }
 
     /// The next byte, `None` where no number goes on with it.
+    #[inline(always)]
     pub(crate) fn next(self, byte: u8) -> Option<NumberState>
         ensures { MatchOption result (EndsNumber (LeftOfNumber self) byte) (LeavesNumber (LeftOfNumber self) byte) }
     {

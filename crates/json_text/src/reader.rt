@@ -1,5 +1,5 @@
 //! The reader: one byte after another, with a stack of its own.
-ghost use Rattle.std.specs.Prelude.{◌≡◌, ◌≢◌, ◌<◌, [], ◌∷◌, length, drop, map, false, string_bytes, IfOk, IfErr, IsTrue, ◌↔◌, MatchBool, MatchOption, MatchResult};
+ghost use Rattle.std.specs.Prelude.{◌≡◌, ◌≢◌, ◌<◌, [], ◌∷◌, length, drop, map, false, string_bytes, IfOk, IfErr, MatchOption, MatchResult};
 ghost use Rattle.json_text.specs.Tree.{Tree};
 ghost use Rattle.json_text.specs.ValueOf.{value_of};
 ghost use Rattle.json_text.specs.inner.NumberLeft.{LeavesNumber, EndsNumber};
@@ -7,7 +7,7 @@ ghost use Rattle.json_text.specs.Number.{IsNumberText};
 ghost use Rattle.json_text.specs.inner.CharacterLeft.{IsSound, scan_within};
 ghost use Rattle.json_text.specs.Scan.{inside};
 ghost use Rattle.json_text.specs.Grammar.{is_space, Spells};
-ghost use Rattle.json_text.specs.inner.ReaderStates.{pairs, levels, reader_state, role_of, literal_text, literal_tree, value, first_element, first_name, name, colon, after, literal, number_in, string_in, character_in, in_list, in_object, IsWithin, IsPlain, Stays, StepsOn, CannotEnd, Ends};
+ghost use Rattle.json_text.specs.inner.ReaderStates.{pairs, levels, reader_state, role_of, literal_text, literal_tree, value, first_element, first_name, name, colon, after, literal, number_in, string_in, character_in, in_list, in_object, IsWithin, TakesStretch, StepsOn, CannotEnd, Ends};
 ghost use Rattle.json_text.specs.inner.StepErrors.{Fails, IsKindAt, IsNoMark};
 ghost use Rattle.json_text.specs.Fault.{RefusesText};
 
@@ -16,6 +16,7 @@ use crate::fault::{FaultKind, JsonFault, ReadError, StepError};
 use crate::members::{NamedObject, OpenObject};
 use crate::number::NumberState;
 use crate::state::{Literal, Mode, OpenLevel, State, Target};
+use crate::stretches::{is_white, take_number, take_text, white_len};
 use crate::tree::{Chars, Json, Numeral};
 use gw_bytes::MOST_LEVELS;
 use std::alloc::{AllocError, Global};
@@ -38,15 +39,17 @@ pub fn read(alloc: Global, bytes: &[u8]) -> Result<Json, ReadError>
         stack: Vec::new(alloc),
         mode: Mode::Value,
     };
-    for (offset, byte) in bytes.iter().enumerate() {
-        match take(&mut state.mode, *byte) {
-            Ok(true) => continue,
-            Ok(false) => {}
+    let mut offset = 0;
+    while offset < bytes.len() {
+        match take(&mut state.mode, &bytes[offset..]) {
+            Ok(taken) => offset += taken,
             Err(_) => return Err(ReadError::Memory),
         }
-        match step(alloc, &mut state, *byte) {
-            Ok(()) => {}
-            Err(error) => return Err(error.at_offset(offset)),
+        if offset < bytes.len() {
+            match step(alloc, &mut state, bytes[offset]) {
+                Ok(()) => offset += 1,
+                Err(error) => return Err(error.at_offset(offset)),
+            }
         }
     }
     match finish(state) {
@@ -58,36 +61,18 @@ pub fn read(alloc: Global, bytes: &[u8]) -> Result<Json, ReadError>
     }
 }
 
-/// Takes a byte of a string or of a number by appending it to the text so far, without a new state: most bytes of a
-/// message are such. `false` where it is another byte, which changes nothing.
-fn take(mode: &mut Mode, byte: u8) -> Result<bool, AllocError>
-    ensures { IfOk result (λ taken. MatchBool taken (Stays mode.old byte mode.new) (mode.new ≡ mode.old)) }
+/// Takes the bytes that leave the reader in its mode, all at once: whole characters of a string, a number, white space.
+/// How many these are.
+fn take(mode: &mut Mode, bytes: &[u8]) -> Result<usize, AllocError>
+    ensures { IfOk result (λ taken. TakesStretch mode.old bytes.now taken mode.new) }
 {
     match mode {
-        Mode::Str(_, text) => {
-            if !is_plain(byte) {
-                return Ok(false);
-            }
-            text.push(char::from(byte))?;
-            Ok(true)
-        }
-        Mode::Number(text, number_state) => {
-            let Some(next) = number_state.next(byte) else {
-                return Ok(false);
-            };
-            text.push(char::from(byte))?;
-            *number_state = next;
-            Ok(true)
-        }
-        _ => Ok(false),
+        Mode::Str(_, text) => take_text(text, bytes),
+        Mode::Number(text, number_state) => take_number(text, number_state, bytes),
+        Mode::Literal(_, _) => Ok(0),
+        Mode::Character(_, _, _) => Ok(0),
+        _ => Ok(white_len(bytes)),
     }
-}
-
-/// A character of a string by itself.
-fn is_plain(byte: u8) -> bool
-    ensures { IsTrue result ↔ IsPlain byte }
-{
-    byte >= 0x20 && byte < 0x80 && byte != b'"' && byte != b'\\'
 }
 
 /// Takes one byte, by the mode of the reader.
@@ -131,13 +116,6 @@ fn finish(state: State) -> Option<Json>
         }
         _ => None,
     }
-}
-
-/// White space between tokens (RFC 8259, section 2).
-fn is_white(byte: u8) -> bool
-    ensures { result ≡ is_space byte }
-{
-    byte == b' ' || byte == b'\t' || byte == b'\n' || byte == b'\r'
 }
 
 fn in_value(alloc: Global, state: &mut State, byte: u8) -> Result<(), StepError>

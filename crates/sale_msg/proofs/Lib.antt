@@ -2,6 +2,7 @@
 pub mod BodyLemmas
 pub mod FormLemmas
 pub mod HeaderLemmas
+pub mod LinkLemmas
 pub mod MessageLemmas
 pub mod MoneyLemmas
 pub mod PathLemmas

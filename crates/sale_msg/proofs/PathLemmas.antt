@@ -5,8 +5,8 @@ use Rattle.std.specs.List.{slice_split, position_or_len, before_first, after_fir
 use Rattle.std.proofs.lemmas.List.Splits.{slice_split_none, slice_split_first}
 use Rattle.std.proofs.lemmas.Str.Pattern.{IsSplitOnceResult, split_parts, split_once_first}
 use Rattle.std.proofs.lemmas.List.Sums.{fails_before_first}
-use Rattle.json_text.specs.Tree.{Tree, get_of}
-use Rattle.sale_msg.specs.Path.{is_point, tree_at, tree_under}
+use Rattle.json_text.specs.Tree.{Tree, get_of, string_of}
+use Rattle.sale_msg.specs.Path.{is_point, text_at, tree_at, tree_under}
 
 found : (o : Option Tree) → option_and_then (tree_under []) o ≡ o
 found None = refl
@@ -47,7 +47,7 @@ value_at_some path tree name rest h =
 
 -- ---- members of members
 
-within : (prefix after : List (List ℕ)) (tree : Tree)
+pub within : (prefix after : List (List ℕ)) (tree : Tree)
     → tree_under (prefix ++ after) tree ≡ option_and_then (tree_under after) (tree_under prefix tree)
 within [] after tree = refl
 within (name ∷ prefix) after tree = by (get_of name tree) (λ x. within prefix after x)
@@ -68,3 +68,8 @@ value_at_within path prefix after tree part names e =
     ap (λ ns. tree_under ns tree) names
     ∙ within (slice_split is_point prefix) (slice_split is_point after) tree
     ∙ ap (option_and_then (tree_under (slice_split is_point after))) e
+
+pub text_within : (path prefix after : List ℕ) (tree part : Tree)
+    → slice_split is_point path ≡ slice_split is_point prefix ++ slice_split is_point after
+    → tree_at prefix tree ≡ Some part → text_at path tree ≡ text_at after part
+text_within path prefix after tree part names e = ap (option_and_then string_of) (value_at_within path prefix after tree part names e)

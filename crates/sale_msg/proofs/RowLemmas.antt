@@ -8,6 +8,7 @@ use Rattle.sale_msg.specs.Table.{MemberRow}
 use Rattle.sale_msg.specs.Flaw.{AreMet, IsFirstAmong, IsFirstFlaw, IsFlaw, IsMet, MayBeAbsent, MayHoldAt}
 use Rattle.sale_msg.specs.inner.RowValue.{row_value}
 use Rattle.sale_msg.specs.declared.table.Form.{Form}
+use Rattle.sale_msg.specs.declared.table.Presence.{Presence}
 use Rattle.sale_msg.specs.declared.table.Presence.TheVariants.{Required, Optional}
 use Rattle.sale_msg.specs.declared.table.MemberRow.{MemberRow as ProgramRow}
 use Rattle.sale_msg.specs.declared.flaw.Flaw.{Flaw}
@@ -141,3 +142,11 @@ pub optional_as : (within path other reported : List ℕ) (form : Form) (tree pa
     → IsMet (record { within = other; path = reported; presence = Optional; form = form }) part
 unfolding IsMet
 optional_as within path other reported form tree part h e = let P : Option Tree → Type 0 = λ o. MatchOption o (Unit {0}) (HasForm form) in subst P e h
+
+pub may_hold_as : (within path other reported : List ℕ) (presence : Presence) (form : Form) (tree part : Tree)
+    → IsMet (record { within = within; path = path; presence = presence; form = form }) tree → tree_at within tree ≡ tree_at other part
+    → IsMet (record { within = other; path = reported; presence = Optional; form = form }) part
+unfolding IsMet
+may_hold_as within path other reported presence form tree part h e =
+    let P : Option Tree → Type 0 = λ o. MatchOption o (Unit {0}) (HasForm form) in
+    subst P e (met_may_hold (record { within = within; path = path; presence = presence; form = form }) tree h)

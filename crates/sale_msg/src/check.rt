@@ -1,36 +1,73 @@
 //! Objects against their tables.
-ghost use Rattle.std.specs.Prelude.{◌≡◌, ◌↔◌, All, map, true, IsTrue, MatchResult, Some};
+ghost use Rattle.std.specs.Prelude.{◌≡◌, ◌↔◌, ◌<◌, All, map, true, IsTrue, MatchResult, Some, None, get_or, length};
 ghost use Rattle.std.specs.List.{list_all};
+ghost use Rattle.std.specs.Option.{option_and_then};
 ghost use Rattle.json_text.specs.ValueOf.{value_of};
 ghost use Rattle.sale_msg.specs.Flaw.{AreMet, IsFirstAmong, IsFirstFlaw, IsFlaw, IsMet, MayBeAbsent};
 ghost use Rattle.sale_msg.specs.Grammar.{HasBody, IsBodyFlaw};
-ghost use Rattle.sale_msg.specs.Path.{text_at};
-ghost use Rattle.sale_msg.specs.inner.RowValue.{row_value, is_path};
+ghost use Rattle.sale_msg.specs.Path.{text_at, tree_at, tree_under};
+ghost use Rattle.sale_msg.specs.inner.RowValue.{HaveParents, is_path, member_value, own_names, row_value, values_at};
 
 use crate::flaw::Flaw;
 use crate::form::has_form;
-use crate::path::find;
+use crate::path::{find, find_under};
 use crate::table::{MemberRow, Presence, body_table, part_table};
 use crate::tabled_objects::parts;
 use crate::{Category, paths};
+use arrayvec::ArrayVec;
 use gw_base::Ident;
 use json_text::Json;
 
+/// The members that a table's rows name, after its object: there are at most 12 rows.
+pub(crate) type RowMembers<'a> = ArrayVec<Option<&'a Json>, 13>;
+
 /// Whether the object meets each row of the table; else the flaw of the first that it doesn't meet.
 pub(crate) fn check(tree: &Json, rows: &[MemberRow]) -> Result<(), Flaw>
-    requires { list_all (λ row. is_path row.path.now) rows.now ≡ true }
+    requires paths { list_all (λ row. is_path row.path.now) rows.now ≡ true }
+    requires links { HaveParents rows.now }
     ensures { MatchResult result (λ _. AreMet (map row_value rows.now) (value_of tree.now))
         (IsFirstFlaw (map row_value rows.now) (value_of tree.now)) }
 {
-    for row in rows {
-        check_row(tree, row)?;
+    match find_members(tree, rows) {
+        Ok(_) => Ok(()),
+        Err(flaw) => Err(flaw),
     }
-    Ok(())
+}
+
+/// The table's object, and then the members that its rows name, each where there is one; else the flaw of the first row
+/// that the object doesn't meet.
+pub(crate) fn find_members<'a>(tree: &'a Json, rows: &[MemberRow]) -> Result<RowMembers<'a>, Flaw>
+    requires paths { list_all (λ row. is_path row.path.now) rows.now ≡ true }
+    requires links { HaveParents rows.now }
+    ensures { MatchResult result
+        (λ found. AreMet (map row_value rows.now) (value_of tree.now)
+        × (map member_value found.items ≡ values_at (map row_value rows.now) (value_of tree.now)))
+        (IsFirstFlaw (map row_value rows.now) (value_of tree.now)) }
+{
+    let mut found = ArrayVec::new();
+    found.push(Some(tree));
+    for row in rows {
+        let member = check_row(tree, row, found.as_slice())?;
+        found.push(member);
+    }
+    Ok(found)
+}
+
+/// The member that the row names, in its parent.
+fn member_of<'a>(found: &[Option<&'a Json>], row: &MemberRow) -> Option<&'a Json>
+    requires { row.now.parent < length found.now }
+    ensures { member_value result ≡ option_and_then (tree_under (own_names row.now)) (get_or (map member_value found.now) row.now.parent None) }
+{
+    match found[row.parent] {
+        None => None,
+        Some(parent) => find_under(parent, row.names),
+    }
 }
 
 /// Whether each of these objects meets each row of the table; else the first flaw of the first that doesn't.
 pub(crate) fn check_each(parts: &[Json], rows: &[MemberRow]) -> Result<(), Flaw>
-    requires { list_all (λ row. is_path row.path.now) rows.now ≡ true }
+    requires paths { list_all (λ row. is_path row.path.now) rows.now ≡ true }
+    requires links { HaveParents rows.now }
     ensures { MatchResult result (λ _. All (AreMet (map row_value rows.now)) (map value_of parts.now))
         (IsFirstAmong (map row_value rows.now) (map value_of parts.now)) }
 {
@@ -52,22 +89,31 @@ pub(crate) fn check_body(category: Category, body: &Json) -> Result<(), Flaw>
     check_each(parts(category, body), part_rows)
 }
 
-fn check_row(tree: &Json, row: &MemberRow) -> Result<(), Flaw>
-    requires { is_path row.now.path.now ≡ true }
-    ensures { MatchResult result (λ _. IsMet (row_value row.now) (value_of tree.now))
+/// The member that the row names, where there is one and it is as the row says, or it may be absent; else the row's flaw.
+fn check_row<'a>(
+    tree: &Json,
+    row: &MemberRow,
+    found: &[Option<&'a Json>],
+) -> Result<Option<&'a Json>, Flaw>
+    requires path { is_path row.now.path.now ≡ true }
+    requires inside { row.now.parent < length found.now }
+    requires parent { option_and_then (tree_under (own_names row.now)) (get_or (map member_value found.now) row.now.parent None)
+        ≡ tree_at row.now.within.now (value_of tree.now) }
+    ensures { MatchResult result
+        (λ member. IsMet (row_value row.now) (value_of tree.now) × (member_value member ≡ tree_at row.now.within.now (value_of tree.now)))
         (IsFlaw (row_value row.now) (value_of tree.now)) }
 {
-    match find(tree, row.within) {
+    match member_of(found, row) {
         None => {
             if may_be_absent(row.presence, tree) {
-                Ok(())
+                Ok(None)
             } else {
                 Err(Flaw::Missing(reported_path(row.path)))
             }
         }
         Some(value) => {
             if has_form(row.form, value) {
-                Ok(())
+                Ok(Some(value))
             } else {
                 Err(Flaw::Wrong(reported_path(row.path)))
             }

@@ -5,9 +5,11 @@ ghost use Rattle.json_text.specs.ValueOf.{value_of};
 ghost use Rattle.sale_msg.specs.Flaw.{AreMet, IsMet};
 ghost use Rattle.sale_msg.specs.Grammar.{IsHeaded, IsHeadless, IsUnderEnvelope, HeaderHolds};
 ghost use Rattle.sale_msg.specs.Table.{header_rows};
+ghost use Rattle.sale_msg.specs.inner.HeaderMembers.{IsHeader, header_member_rows};
 
 use crate::check::{check, reported_path};
 use crate::members::{class, ident, ident_or_none, letters, message_type};
+use crate::path::find;
 use crate::paths;
 use crate::table::{Envelope, header_table};
 use json_text::Json;
@@ -55,18 +57,29 @@ fn header_under(envelope: Envelope, body: &Json) -> Result<Headed<'_>, SaleFault
 
 /// The header of a body object that meets the table of a response's header, as one that meets that of a request's
 /// header does too.
-#[tactic(auto, unfolding(crate::specs::Flaw::IsMet))]
 fn header_of(body: &Json) -> Header
     requires { AreMet (header_rows Envelope.Response) (value_of body.now) }
     ensures { HeaderHolds (value_of body.now) result }
 {
+    match find(body, paths::HEADER) {
+        None => unreachable!(),
+        Some(object) => header_in(object),
+    }
+}
+
+/// The header that the object is.
+#[tactic(auto, unfolding(crate::specs::Flaw::IsMet))]
+fn header_in(object: &Json) -> Header
+    requires { AreMet header_member_rows (value_of object.now) }
+    ensures { IsHeader (value_of object.now) result }
+{
     Header {
-        class: class(body, paths::HEADER_CLASS),
-        category: letters(body, paths::HEADER_CATEGORY),
-        kind: message_type(body, paths::HEADER_TYPE),
-        service: ident_or_none(body, paths::HEADER_SERVICE),
-        device: ident_or_none(body, paths::HEADER_DEVICE),
-        sale: ident(body, paths::HEADER_SALE),
-        poi: ident(body, paths::HEADER_POI),
+        class: class(object, paths::CLASS),
+        category: letters(object, paths::CATEGORY),
+        kind: message_type(object, paths::TYPE),
+        service: ident_or_none(object, paths::SERVICE),
+        device: ident_or_none(object, paths::DEVICE),
+        sale: ident(object, paths::SALE),
+        poi: ident(object, paths::POI),
     }
 }

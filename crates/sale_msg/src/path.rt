@@ -1,7 +1,7 @@
 //! Values at paths.
-ghost use Rattle.std.specs.Prelude.{◌≡◌, option_map};
+ghost use Rattle.std.specs.Prelude.{◌≡◌, map, option_map};
 ghost use Rattle.json_text.specs.ValueOf.{value_of};
-ghost use Rattle.sale_msg.specs.Path.{tree_at};
+ghost use Rattle.sale_msg.specs.Path.{tree_at, tree_under};
 
 use json_text::Json;
 
@@ -17,4 +17,18 @@ pub fn find<'a>(tree: &'a Json, path: &str) -> Option<&'a Json>
             Some(value) => find(value, rest),
         },
     }
+}
+
+/// The value under these names, of which each is a member of the object before.
+pub(crate) fn find_under<'a>(tree: &'a Json, names: &[&str]) -> Option<&'a Json>
+    ensures { option_map (λ v. value_of v.now) result ≡ tree_under (map (λ name. name.now) names.now) (value_of tree.now) }
+{
+    let mut value = tree;
+    for name in names {
+        match value.get(name.as_bytes()) {
+            None => return None,
+            Some(member) => value = member,
+        }
+    }
+    Some(value)
 }

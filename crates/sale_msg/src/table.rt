@@ -50,6 +50,10 @@ pub enum Envelope {
 /// One row of a table.
 #[derive(Clone, Copy)]
 pub(crate) struct MemberRow {
+    /// Where the member is looked for: in the member of the row of this number, from 1 on, or, at 0, in the table's object.
+    pub parent: usize,
+    /// The names that lead to it from there.
+    pub names: &'static [&'static str],
     /// The member's path within the table's object: names divided by points.
     pub within: &'static str,
     /// The path in a fault.
@@ -60,15 +64,29 @@ pub(crate) struct MemberRow {
 
 /// Rows of members whose path in a fault is their own.
 macro_rules! rows {
-    ($($path:ident $presence:ident $form:expr,)*) => {
-        [$(MemberRow { within: paths::$path, path: paths::$path, presence: Presence::$presence, form: $form }),*]
+    ($($path:ident $parent:literal [$($name:literal)*] $presence:ident $form:expr,)*) => {
+        [$(MemberRow {
+            parent: $parent,
+            names: &[$($name),*],
+            within: paths::$path,
+            path: paths::$path,
+            presence: Presence::$presence,
+            form: $form,
+        }),*]
     };
 }
 
 /// Rows of the members of an object within the body: a fault has their whole path.
 macro_rules! part_rows {
-    ($($within:ident $path:ident $presence:ident $form:expr,)*) => {
-        [$(MemberRow { within: paths::$within, path: paths::$path, presence: Presence::$presence, form: $form }),*]
+    ($($within:ident $path:ident $parent:literal [$($name:literal)*] $presence:ident $form:expr,)*) => {
+        [$(MemberRow {
+            parent: $parent,
+            names: &[$($name),*],
+            within: paths::$within,
+            path: paths::$path,
+            presence: Presence::$presence,
+            form: $form,
+        }),*]
     };
 }
 
@@ -76,15 +94,15 @@ macro_rules! part_rows {
 macro_rules! header {
     ($message_type:expr) => {
         rows! {
-            HEADER Required Form::Object,
-            HEADER_VERSION Optional Form::Version,
-            HEADER_CLASS Required Form::Class,
-            HEADER_CATEGORY Required Form::Letters,
-            HEADER_TYPE Required $message_type,
-            HEADER_SERVICE ByHeader Form::Ident(10),
-            HEADER_DEVICE Optional Form::Ident(10),
-            HEADER_SALE Required Form::Ident(40),
-            HEADER_POI Required Form::Ident(40),
+            HEADER 0 ["MessageHeader"] Required Form::Object,
+            HEADER_VERSION 1 ["ProtocolVersion"] Optional Form::Version,
+            HEADER_CLASS 1 ["MessageClass"] Required Form::Class,
+            HEADER_CATEGORY 1 ["MessageCategory"] Required Form::Letters,
+            HEADER_TYPE 1 ["MessageType"] Required $message_type,
+            HEADER_SERVICE 1 ["ServiceID"] ByHeader Form::Ident(10),
+            HEADER_DEVICE 1 ["DeviceID"] Optional Form::Ident(10),
+            HEADER_SALE 1 ["SaleID"] Required Form::Ident(40),
+            HEADER_POI 1 ["POIID"] Required Form::Ident(40),
         }
     };
 }
@@ -96,91 +114,91 @@ const RESPONSE_HEADER: [MemberRow; 9] = header!(Form::Kind);
 // A header may lack its ServiceID in a message of class `Device`; every body but those of Display and Print asks for it
 // again, since its request is found by it.
 const LOGIN: [MemberRow; 2] = rows! {
-    HEADER_SERVICE Required Form::Ident(10),
-    LOGIN Required Form::Object,
+    HEADER_SERVICE 0 ["MessageHeader" "ServiceID"] Required Form::Ident(10),
+    LOGIN 0 ["LoginRequest"] Required Form::Object,
 };
 
 const LOGOUT: [MemberRow; 2] = rows! {
-    HEADER_SERVICE Required Form::Ident(10),
-    LOGOUT Required Form::Object,
+    HEADER_SERVICE 0 ["MessageHeader" "ServiceID"] Required Form::Ident(10),
+    LOGOUT 0 ["LogoutRequest"] Required Form::Object,
 };
 
 const DIAGNOSIS: [MemberRow; 2] = rows! {
-    HEADER_SERVICE Required Form::Ident(10),
-    DIAGNOSIS Required Form::Object,
+    HEADER_SERVICE 0 ["MessageHeader" "ServiceID"] Required Form::Ident(10),
+    DIAGNOSIS 0 ["DiagnosisRequest"] Required Form::Object,
 };
 
 const PAYMENT: [MemberRow; 12] = rows! {
-    HEADER_SERVICE Required Form::Ident(10),
-    PAYMENT Required Form::Object,
-    PAYMENT_SALE_DATA Required Form::Object,
-    PAYMENT_SALE Required Form::Object,
-    PAYMENT_SALE_ID Required Form::Ident(80),
-    PAYMENT_SALE_STAMP Required Form::Ident(35),
-    PAYMENT_TRANSACTION Required Form::Object,
-    PAYMENT_AMOUNTS Required Form::Object,
-    PAYMENT_CURRENCY Required Form::Currency,
-    PAYMENT_AMOUNT Required Form::Amount,
-    PAYMENT_DATA Optional Form::Object,
-    PAYMENT_TYPE Optional Form::Text,
+    HEADER_SERVICE 0 ["MessageHeader" "ServiceID"] Required Form::Ident(10),
+    PAYMENT 0 ["PaymentRequest"] Required Form::Object,
+    PAYMENT_SALE_DATA 2 ["SaleData"] Required Form::Object,
+    PAYMENT_SALE 3 ["SaleTransactionID"] Required Form::Object,
+    PAYMENT_SALE_ID 4 ["TransactionID"] Required Form::Ident(80),
+    PAYMENT_SALE_STAMP 4 ["TimeStamp"] Required Form::Ident(35),
+    PAYMENT_TRANSACTION 2 ["PaymentTransaction"] Required Form::Object,
+    PAYMENT_AMOUNTS 7 ["AmountsReq"] Required Form::Object,
+    PAYMENT_CURRENCY 8 ["Currency"] Required Form::Currency,
+    PAYMENT_AMOUNT 8 ["RequestedAmount"] Required Form::Amount,
+    PAYMENT_DATA 2 ["PaymentData"] Optional Form::Object,
+    PAYMENT_TYPE 11 ["PaymentType"] Optional Form::Text,
 };
 
 const REVERSAL: [MemberRow; 7] = rows! {
-    HEADER_SERVICE Required Form::Ident(10),
-    REVERSAL Required Form::Object,
-    REVERSAL_ORIGINAL Required Form::Object,
-    REVERSAL_POI Required Form::Object,
-    REVERSAL_POI_ID Required Form::Ident(80),
-    REVERSAL_REASON Required Form::Text,
-    REVERSAL_AMOUNT Optional Form::Amount,
+    HEADER_SERVICE 0 ["MessageHeader" "ServiceID"] Required Form::Ident(10),
+    REVERSAL 0 ["ReversalRequest"] Required Form::Object,
+    REVERSAL_ORIGINAL 2 ["OriginalPOITransaction"] Required Form::Object,
+    REVERSAL_POI 3 ["POITransactionID"] Required Form::Object,
+    REVERSAL_POI_ID 4 ["TransactionID"] Required Form::Ident(80),
+    REVERSAL_REASON 2 ["ReversalReason"] Required Form::Text,
+    REVERSAL_AMOUNT 2 ["ReversedAmount"] Optional Form::Amount,
 };
 
 const ABORT: [MemberRow; 7] = rows! {
-    HEADER_SERVICE Required Form::Ident(10),
-    ABORT Required Form::Object,
-    ABORT_REFERENCE Required Form::Object,
-    ABORT_SERVICE Required Form::Ident(10),
-    ABORT_SALE Optional Form::Ident(40),
-    ABORT_POI Optional Form::Ident(40),
-    ABORT_REASON Optional Form::Text,
+    HEADER_SERVICE 0 ["MessageHeader" "ServiceID"] Required Form::Ident(10),
+    ABORT 0 ["AbortRequest"] Required Form::Object,
+    ABORT_REFERENCE 2 ["MessageReference"] Required Form::Object,
+    ABORT_SERVICE 3 ["ServiceID"] Required Form::Ident(10),
+    ABORT_SALE 3 ["SaleID"] Optional Form::Ident(40),
+    ABORT_POI 3 ["POIID"] Optional Form::Ident(40),
+    ABORT_REASON 2 ["AbortReason"] Optional Form::Text,
 };
 
 const STATUS: [MemberRow; 3] = rows! {
-    HEADER_SERVICE Required Form::Ident(10),
-    STATUS Required Form::Object,
-    STATUS_REFERENCE Optional Form::Object,
+    HEADER_SERVICE 0 ["MessageHeader" "ServiceID"] Required Form::Ident(10),
+    STATUS 0 ["TransactionStatusRequest"] Required Form::Object,
+    STATUS_REFERENCE 2 ["MessageReference"] Optional Form::Object,
 };
 
 const STATUS_REFERENCE: [MemberRow; 3] = part_rows! {
-    SERVICE STATUS_SERVICE Required Form::Ident(10),
-    SALE STATUS_SALE Optional Form::Ident(40),
-    POI STATUS_POI Optional Form::Ident(40),
+    SERVICE STATUS_SERVICE 0 ["ServiceID"] Required Form::Ident(10),
+    SALE STATUS_SALE 0 ["SaleID"] Optional Form::Ident(40),
+    POI STATUS_POI 0 ["POIID"] Optional Form::Ident(40),
 };
 
 const RECONCILIATION: [MemberRow; 3] = rows! {
-    HEADER_SERVICE Required Form::Ident(10),
-    RECONCILIATION Required Form::Object,
-    RECONCILIATION_TYPE Required Form::Period,
+    HEADER_SERVICE 0 ["MessageHeader" "ServiceID"] Required Form::Ident(10),
+    RECONCILIATION 0 ["ReconciliationRequest"] Required Form::Object,
+    RECONCILIATION_TYPE 2 ["ReconciliationType"] Required Form::Period,
 };
 
 const DISPLAY: [MemberRow; 2] = rows! {
-    DISPLAY Required Form::Object,
-    DISPLAY_OUTPUT Required Form::Outputs,
+    DISPLAY 0 ["DisplayRequest"] Required Form::Object,
+    DISPLAY_OUTPUT 1 ["DisplayOutput"] Required Form::Outputs,
 };
 
 const OUTPUT: [MemberRow; 6] = part_rows! {
-    OUTPUT_DEVICE DISPLAY_DEVICE Required Form::Ident(40),
-    OUTPUT_QUALIFY DISPLAY_QUALIFY Required Form::Ident(40),
-    OUTPUT_FLAG DISPLAY_FLAG Optional Form::Flag,
-    OUTPUT_CONTENT DISPLAY_CONTENT Required Form::Object,
-    OUTPUT_FORMAT DISPLAY_FORMAT Required Form::Text,
-    OUTPUT_TEXTS DISPLAY_TEXTS Optional Form::Texts,
+    OUTPUT_DEVICE DISPLAY_DEVICE 0 ["Device"] Required Form::Ident(40),
+    OUTPUT_QUALIFY DISPLAY_QUALIFY 0 ["InfoQualify"] Required Form::Ident(40),
+    OUTPUT_FLAG DISPLAY_FLAG 0 ["ResponseRequiredFlag"] Optional Form::Flag,
+    OUTPUT_CONTENT DISPLAY_CONTENT 0 ["OutputContent"] Required Form::Object,
+    OUTPUT_FORMAT DISPLAY_FORMAT 4 ["OutputFormat"] Required Form::Text,
+    OUTPUT_TEXTS DISPLAY_TEXTS 4 ["OutputText"] Optional Form::Texts,
 };
 
 const PRINT: [MemberRow; 3] = rows! {
-    PRINT Required Form::Object,
-    PRINT_OUTPUT Required Form::Object,
-    PRINT_QUALIFIER Required Form::Ident(40),
+    PRINT 0 ["PrintRequest"] Required Form::Object,
+    PRINT_OUTPUT 1 ["PrintOutput"] Required Form::Object,
+    PRINT_QUALIFIER 2 ["DocumentQualifier"] Required Form::Ident(40),
 };
 
 /// The table of the header.

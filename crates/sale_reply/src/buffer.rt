@@ -1,6 +1,6 @@
 //! The buffer of a message to a till.
 ghost use Rattle.std.specs.Prelude.{◌≡◌, ◌<◌, ◌≤◌, [], ◌∷◌, ◌++◌, length, drop, IfOk, flat_map, encode_utf8};
-ghost use Rattle.std.specs.Bool.{OnFalse};
+ghost use Rattle.std.specs.Bool.{OnFalse, OnTrue};
 ghost use Rattle.sale_reply.specs.Texts.{line_text};
 ghost use Rattle.json_text.specs.Canonical.{canonical_string, canonical_byte};
 ghost use Rattle.sale_frame.specs.Grammar.{frame};
@@ -95,8 +95,19 @@ impl Out {
         self.raw(escaped(byte).as_slice());
     }
 
-    /// Appends the bytes of a string. Those between two that have to be escaped are copied at once.
+    /// Appends the bytes of a string: at once where none of them has to be escaped, as in most.
     fn escape(&mut self, text: &[u8])
+        ensures { Appends self.old self.new (flat_map canonical_byte text.now) }
+    {
+        if is_plain(text) {
+            self.raw(text);
+        } else {
+            self.escape_stretches(text);
+        }
+    }
+
+    /// Appends the bytes of a string. Those between two that have to be escaped are copied at once.
+    fn escape_stretches(&mut self, text: &[u8])
         ensures { Appends self.old self.new (flat_map canonical_byte text.now) }
     {
         let mut start = 0;
@@ -220,4 +231,19 @@ fn is_escaped(byte: u8) -> bool
     ensures { OnFalse result (canonical_byte byte ≡ byte ∷ []) }
 {
     byte == b'"' || byte == b'\\' || byte < 32
+}
+
+/// Whether no byte of a string has to be escaped.
+///
+/// Each byte is looked at, also after one that has to be: without an early end many are looked at in one step.
+fn is_plain(text: &[u8]) -> bool
+    ensures { OnTrue result (flat_map canonical_byte text.now ≡ text.now) }
+{
+    let mut plain = true;
+    for byte in text {
+        if is_escaped(*byte) {
+            plain = false;
+        }
+    }
+    plain
 }

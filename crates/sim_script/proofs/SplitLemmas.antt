@@ -1,9 +1,12 @@
 -- Texts and words, split at the first line end or space.
 use Rattle.std.proofs.Common.{◌≡◌, ℕ, ◌+◌, ◌<◌, ◌≤◌, List, [], ◌∷◌, length, take, drop, refl, ap, arith, inl, inr, true, false}
 use Rattle.std.proofs.Math.Numerals.{one-add, add-one}
+use Rattle.std.proofs.lemmas.Bool.{false_from_ne_true}
 use Rattle.std.proofs.lemmas.Bool.Decides.{eqb_tells, nat_tests}
-use Rattle.std.specs.Prelude.{Bool, ◌==◌, nat_lt, if◌then◌else◌, Some, None, position}
+use Rattle.std.proofs.lemmas.List.Sums.{position_or_len_is}
+use Rattle.std.specs.Prelude.{Bool, ◌==◌, nat_lt, if◌then◌else◌, Option, Some, None, position}
 use Rattle.std.specs.List.{position_or_len}
+use Rattle.memchr.specs.Find.{IsFirstByte, is_byte}
 use Rattle.gw_script.specs.Decode.{split_lines, with_prefix}
 
 -- the offset of the first byte of this value, or the length
@@ -69,3 +72,14 @@ text_whole (byte ∷ bytes) some found =
   where
     not_below : (a b : ℕ) → nat_lt a b ≡ false → b ≤ a
     not_below a b e = grind (arith, nat_tests)
+
+-- the place that a search finds is the offset
+pub found_is : (bytes : List ℕ) (found : Option ℕ) → IsFirstByte (is_byte 10) bytes found → found ≡ position (λ x. x == 10) bytes
+found_is bytes (Some end) first =
+    let at : offset_of 10 bytes ≡ end = position_or_len_is (λ x. x == 10) bytes end 0 (omega (arith, first.0.high)) (λ k lt. false_from_ne_true _ (first.0.before k (omega arith) lt)) (λ lt. first.1) in
+    let within : nat_lt end (length bytes) ≡ true = let lt = first.0.high in grind (arith, nat_tests) in
+    rw (at, within) refl
+found_is bytes None nowhere =
+    let at : offset_of 10 bytes ≡ length bytes = position_or_len_is (λ x. x == 10) bytes (length bytes) 0 (omega arith) (λ k lt. false_from_ne_true _ (nowhere k (omega arith) lt)) (λ lt. absurd (omega (arith, lt))) in
+    let past : nat_lt (length bytes) (length bytes) ≡ false = grind (arith, nat_tests) in
+    rw (at, past) refl

@@ -14,6 +14,7 @@ use crate::setup_line::{add_setting, terminal_words};
 use crate::word::{first_word, link_number, name_word, number, number_within};
 use gw_base::LAST_MOMENT;
 use gw_bytes::{FEWEST_SLOTS, LONGEST_SCRIPT, LONGEST_WAIT, MOST_SLOTS, MOST_WAITING};
+use memchr::memchr;
 use std::alloc::{AllocError, Global};
 use std::str;
 
@@ -207,7 +208,7 @@ fn add_text(alloc: Global, script: &mut Script, text: &[u8]) -> Result<bool, All
 fn line_end(bytes: &[u8]) -> Option<usize>
     ensures { result ≡ position (λ byte. byte == 10) bytes.now }
 {
-    bytes.iter().position(|byte| *byte == b'\n')
+    memchr(b'\n', bytes)
 }
 
 /// The first text, and the bytes after its line end.

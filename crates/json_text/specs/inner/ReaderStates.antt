@@ -1,13 +1,13 @@
 -- Inner: what may follow in each state of the reader.
-use Rattle.std.specs.Prelude.{◌≡◌, ◌≢◌, ℕ, suc, ◌<◌, ◌≤◌, List, [], ◌∷◌, ◌++◌, length, map, reverse, drop, true, false, string_bytes}
+use Rattle.std.specs.Prelude.{◌≡◌, ◌≢◌, ℕ, suc, ◌<◌, ◌≤◌, List, [], ◌∷◌, ◌++◌, length, map, reverse, take, drop, true, false, string_bytes}
 use Rattle.std.specs.Char.{encode_utf8}
 use Rattle.std.specs.Str.{encode_utf8_all}
 use Rattle.json_text.specs.Tree.{Tree, null, boolean, number, string, array, object, Elements, element, Members, member, names}
 use Rattle.json_text.specs.ValueOf.{value_of, elements_onto, members_onto}
 use Rattle.json_text.specs.MemberNames.{pair_names}
 use Rattle.json_text.specs.Character.{AreCharacters}
-use Rattle.json_text.specs.Grammar.{Rules, skip, Value, First, More, FirstMember, MoreMembers, Allows, SpellsBy, literal_null, literal_true, literal_false}
-use Rattle.json_text.specs.Scan.{Scan, outside, inside, scan_step}
+use Rattle.json_text.specs.Grammar.{Rules, skip, is_space, Value, First, More, FirstMember, MoreMembers, Allows, SpellsBy, literal_null, literal_true, literal_false}
+use Rattle.json_text.specs.Scan.{Scan, outside, inside, scan_step, scan_from}
 use Rattle.json_text.specs.inner.CharacterLeft.{LeftOfCharacter, IsSound, scan_within}
 use Rattle.json_text.specs.inner.NumberLeft.{LeftOfNumber}
 use Rattle.json_text.specs.declared.character.CharacterState.{CharacterState}
@@ -209,11 +209,35 @@ IsWithin (modes.Character t text s) = IsSound s
 abbrev pub IsPlain : ℕ → Type 0
 IsPlain c = (32 ≤ c) × (c < 128) × (c ≢ 34) × (c ≢ 92)
 
--- the byte leads from one mode to another, whatever is open
-pub record Stays (m : Mode) (c : ℕ) (n : Mode) : Type 0 where
-  pub within : IsWithin n
-  pub leads : (R : Rules) (st : List Level) → LeadsTo R (reader_state m) st c (reader_state n) st
-  pub scans : scan_step (scan_of (reader_state m)) c ≡ scan_of (reader_state n)
+-- each of these is a character of a string by itself
+abbrev pub ArePlain : List ℕ → Type 0
+ArePlain [] = Unit {0}
+ArePlain (c ∷ w) = IsPlain c × ArePlain w
+
+-- each of these is white space
+abbrev pub AreSpaces : List ℕ → Type 0
+AreSpaces [] = Unit {0}
+AreSpaces (c ∷ w) = (is_space c ≡ true) × AreSpaces w
+
+-- the bytes w lead from one state to another, whatever is open and whatever follows
+pub record LeadsOver (p : ReaderState) (w : List ℕ) (q : ReaderState) : Type 0 where
+  pub on : (R : Rules) (st : List Level) (b : List ℕ) (v : Tree) → Rest R p st (w ++ b) v → Rest R q st b v
+  pub back : (R : Rules) (st : List Level) (b : List ℕ) (v : Tree) → Rest R q st b v → Rest R p st (w ++ b) v
+  pub scans : scan_from (scan_of p) w ≡ scan_of q
+
+-- the bytes w are whole characters, with which this text of a string becomes another
+abbrev pub TextGrows : List ℕ → List ℕ → List ℕ → Type 0
+TextGrows old w new = (role : Role) → LeadsOver (string_in role old) w (string_in role new)
+
+-- the bytes w go on with any number in this state, up to another
+abbrev pub NumberGrows : NumberState → List ℕ → NumberState → Type 0
+NumberGrows p w q = (text : List ℕ) → LeadsOver (number_in text p) w (number_in (text ++ w) q)
+
+-- so many of the bytes lead from one mode to another
+pub record TakesStretch (m : Mode) (b : List ℕ) (taken : ℕ) (n : Mode) : Type 0 where
+  pub few : taken ≤ length b
+  pub within : IsWithin m → IsWithin n
+  pub leads : LeadsOver (reader_state m) (take taken b) (reader_state n)
 
 -- the byte leads to this state
 pub record StepsOn (p : ReaderState) (st : List Level) (c : ℕ) (t : State) : Type 0 where
