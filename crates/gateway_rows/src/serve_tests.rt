@@ -216,7 +216,7 @@ fn the_longest_configuration(rt: HostRuntime) -> Result<(), Fail> {
     let alloc = rt.alloc();
     let mut document = String::from_str(alloc, USUAL)?;
     document.push('#')?;
-    while document.len() < 65_536 {
+    for _ in document.len()..65_536 {
         document.push('x')?;
     }
     check_served(
