@@ -5,7 +5,6 @@ bench_serve.py PROGRAM PAYMENTS FOLDER: PROGRAM is a build of the program, PAYME
 which has to be on the disk that is measured. Each figure is the median of ROUNDS rounds, and rounds of the gateway and of the bare syncs go by turns.
 Each terminal has a till of its own, which pays again as soon as it has its reply. Tills and terminals are played by one thread that only reads and
 writes bytes that were made before the round; how long that thread runs in a payment is measured too."""
-import json
 import os
 import select
 import socket
@@ -15,7 +14,7 @@ import sys
 import tempfile
 import time
 
-from played import ACK, COMPLETION, PATIENCE, Gateway, apdu, digits
+from played import ACK, COMPLETION, PATIENCE, Gateway, apdu, digits, frame
 
 ROUNDS = 5
 
@@ -35,21 +34,6 @@ def bare_syncs(path, payments):
         took = time.perf_counter() - began
     os.remove(path)
     return took
-
-
-def frame(category, service, sale, poi, body):
-    """A request with its length before it."""
-    header = dict(
-        ProtocolVersion="3.0",
-        MessageClass="Service",
-        MessageCategory=category,
-        MessageType="Request",
-        ServiceID=str(service),
-        SaleID=sale,
-        POIID=poi,
-    )
-    text = json.dumps({"SaleToPOIRequest": {"MessageHeader": header, category + "Request": body}}).encode()
-    return struct.pack(">I", len(text)) + text
 
 
 def payment(number, sale, poi):

@@ -52,6 +52,21 @@ def digits(value, size):
 ACK, COMPLETION = apdu("8000"), apdu("060f")
 
 
+def frame(category, service, sale, poi, body):
+    """A till's request with its length before it."""
+    header = dict(
+        ProtocolVersion="3.0",
+        MessageClass="Service",
+        MessageCategory=category,
+        MessageType="Request",
+        ServiceID=str(service),
+        SaleID=sale,
+        POIID=poi,
+    )
+    text = json.dumps({"SaleToPOIRequest": {"MessageHeader": header, category + "Request": body}}).encode()
+    return struct.pack(">I", len(text)) + text
+
+
 class Terminal:
     """A ZVT terminal on loopback with one connection at a time, which numbers its transactions from 1 and keeps a book.
 
@@ -153,17 +168,7 @@ class Till:
         self.waiting = collections.deque()
 
     def send(self, category, service, body, poi="T1"):
-        header = dict(
-            ProtocolVersion="3.0",
-            MessageClass="Service",
-            MessageCategory=category,
-            MessageType="Request",
-            ServiceID=str(service),
-            SaleID=self.sale,
-            POIID=poi,
-        )
-        text = json.dumps({"SaleToPOIRequest": {"MessageHeader": header, category + "Request": body}}).encode()
-        self.line.sendall(struct.pack(">I", len(text)) + text)
+        self.line.sendall(frame(category, service, self.sale, poi, body))
 
     def pay(self, service, amount, poi="T1"):
         sale = {"SaleTransactionID": {"TransactionID": str(service), "TimeStamp": "2025-03-07T10:11:04+00:00"}}

@@ -51,7 +51,7 @@ site_calls before after = record { before = before; after = after }
 abbrev pub SiteRose : SiteCalls → Type 0
 SiteRose site = Rose site.before.faults site.after.faults
 
--- no call was made on the site
+-- what is observed of the site is as it was
 abbrev pub IsUntouched : SiteCalls → Type 0
 IsUntouched site = site.after ≡ site.before
 

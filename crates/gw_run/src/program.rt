@@ -104,7 +104,7 @@ fn replay<I: Source, O: Sink>(alloc: Global, input: &mut I, out: &mut O) -> Endi
 ///   begins with `config`);
 /// - 66: the input could not be read (`input`);
 /// - 69: the site could not be opened in the last run (`open`);
-/// - 71: memory was refused (`memory`); in `serve` the site got no call then, or was not polled yet, or its last event is that a till has
+/// - 71: memory was refused (`memory`); in `serve` what is observed of the site is as it was, or it was not polled yet, or its last event is that a till has
 ///   opened or sent bytes, or it is dark;
 /// - 73: the output could not be written, whose last line may be incomplete;
 /// - 74: a call on the disk has failed in the last run (`disk`);
