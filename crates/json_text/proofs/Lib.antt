@@ -19,6 +19,7 @@ pub mod ScanLemmas
 pub mod StateLemmas
 pub mod StretchLemmas
 pub mod StringLemmas
+pub mod TokenLemmas
 pub mod TreeLemmas
 pub mod UniqueLemmas
 pub mod Utf8Lemmas

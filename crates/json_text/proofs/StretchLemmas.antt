@@ -48,16 +48,16 @@ over_then p q r w x f g = record {
 
 -- ---- white space
 
-space_name : (R : Rules) (done : List (List ℕ × Tree)) (st : List Level) (c : ℕ) → is_space c ≡ true → LeadsTo R (name done) st c (name done) st
+pub space_name : (R : Rules) (done : List (List ℕ × Tree)) (st : List Level) (c : ℕ) → is_space c ≡ true → LeadsTo R (name done) st c (name done) st
 space_name R done st c e = record { on = λ b v h. (h.0, rw e at h.1, h.2); back = λ b v h. (h.0, rw e h.1, h.2) }
 
-space_colon : (R : Rules) (done : List (List ℕ × Tree)) (k : List ℕ) (st : List Level) (c : ℕ) → is_space c ≡ true → LeadsTo R (colon done k) st c (colon done k) st
+pub space_colon : (R : Rules) (done : List (List ℕ × Tree)) (k : List ℕ) (st : List Level) (c : ℕ) → is_space c ≡ true → LeadsTo R (colon done k) st c (colon done k) st
 space_colon R done k st c e = record {
   on = λ b v h. record { value = h.value; tree = h.tree; rest = h.rest; colon = rw e at h.colon; valued = h.valued; after = h.after };
   back = λ b v h. record { value = h.value; tree = h.tree; rest = h.rest; colon = rw e h.colon; valued = h.valued; after = h.after };
 }
 
-spaces : (p : ReaderState) (w : List ℕ) → scan_of p ≡ outside → ((R : Rules) (st : List Level) (c : ℕ) → is_space c ≡ true → LeadsTo R p st c p st) → AreSpaces w → LeadsOver p w p
+pub spaces : (p : ReaderState) (w : List ℕ) → scan_of p ≡ outside → ((R : Rules) (st : List Level) (c : ℕ) → is_space c ≡ true → LeadsTo R p st c p st) → AreSpaces w → LeadsOver p w p
 spaces p [] o l h = over_none p
 spaces p (c ∷ w) o l h =
     over_then p p p (c ∷ []) w (over_byte p c p (λ R st. l R st c h.0) (subst (λ (s : Scan). scan_step s c ≡ s) (sym o) (space_stays c h.0))) (spaces p w o l h.1)
@@ -108,7 +108,7 @@ plain_byte old c p role =
     subst (λ (t : List ℕ). LeadsOver (string_in role old) (c ∷ []) (string_in role (old ++ t))) (encode_ascii c p.1)
     (over_byte (string_in role old) c (string_in role (old ++ encode_utf8 c)) (λ R st. text_whole R st role old c c p.2 l) l.scans)
 
-plain_grows : (w old : List ℕ) → ArePlain w → TextGrows old w (old ++ w)
+pub plain_grows : (w old : List ℕ) → ArePlain w → TextGrows old w (old ++ w)
 plain_grows [] old h role = subst (λ (t : List ℕ). LeadsOver (string_in role old) [] (string_in role t)) (sym (append-nil old)) (over_none (string_in role old))
 plain_grows (c ∷ w) old h role =
     subst (λ (t : List ℕ). LeadsOver (string_in role old) (c ∷ w) (string_in role t)) (append_assoc old (c ∷ []) w)

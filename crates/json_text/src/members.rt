@@ -1,5 +1,5 @@
 //! The members of an open object, and their names.
-ghost use Rattle.std.specs.Prelude.{◌≡◌, ◌<◌, ◌≤◌, ℕ, List, [], ◌++◌, ◌∷◌, drop, length, true, IfOk, MatchOption, string_bytes};
+ghost use Rattle.std.specs.Prelude.{◌≡◌, ◌<◌, ◌≤◌, ℕ, List, [], ◌++◌, ◌∷◌, drop, length, true, false, IfOk, IsTrue, MatchOption, string_bytes};
 ghost use Rattle.std.specs.BTreeSet.{contains_text};
 ghost use Rattle.json_text.specs.MemberNames.{has_name, are_distinct, pair_names};
 
@@ -48,6 +48,35 @@ impl OpenObject {
         self.members
     }
 
+    /// Whether its next member is one of the first few.
+    pub(crate) fn has_few(&self) -> bool
+        ensures { IsTrue result → length self.now.members.items < 12 }
+    {
+        self.members.len() < FEW
+    }
+
+    /// Whether one of its members has the name.
+    pub(crate) fn has(&self, name: &[u8]) -> bool
+        ensures { result ≡ has_name name.now (pair_names self.now.members.items) }
+    {
+        is_among(self.members.as_slice(), name)
+    }
+
+    /// The object with this name, which none of its few members has.
+    pub(crate) fn with_name(self, name: String) -> NamedObject
+        requires few { length self.members.items < 12 }
+        requires new { has_name (string_bytes name) (pair_names self.members.items) ≡ false }
+        ensures members { result.members.items ≡ self.members.items }
+        ensures name { result.name ≡ string_bytes name }
+    {
+        let OpenObject { members, names } = self;
+        NamedObject {
+            members,
+            names,
+            name: Chars::new(name),
+        }
+    }
+
     /// The object with this name for its next member; `None` where a member has it.
     pub(crate) fn named(
         self,
@@ -70,15 +99,10 @@ impl OpenObject {
         ensures { MatchOption result (has_name (string_bytes name) (pair_names self.members.items) ≡ true)
             (λ named. (named.members.items ≡ self.members.items) × (named.name ≡ string_bytes name)) }
     {
-        if is_among(self.members.as_slice(), name.as_bytes()) {
+        if self.has(name.as_bytes()) {
             return None;
         }
-        let OpenObject { members, names } = self;
-        Some(NamedObject {
-            members,
-            names,
-            name: Chars::new(name),
-        })
+        Some(self.with_name(name))
     }
 
     /// The object with this name, for a member after the first few.

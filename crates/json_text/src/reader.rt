@@ -17,6 +17,7 @@ use crate::members::{NamedObject, OpenObject};
 use crate::number::NumberState;
 use crate::state::{Literal, Mode, OpenLevel, State, Target};
 use crate::stretches::{is_white, take_number, take_text, white_len};
+use crate::tokens::{set, take_first_name, take_name, take_value};
 use crate::tree::{Chars, Json, Numeral};
 use gw_bytes::MOST_LEVELS;
 use std::alloc::{AllocError, Global};
@@ -41,7 +42,7 @@ pub fn read(alloc: Global, bytes: &[u8]) -> Result<Json, ReadError>
     };
     let mut offset = 0;
     while offset < bytes.len() {
-        match take(&mut state.mode, &bytes[offset..]) {
+        match take(alloc, &mut state.mode, &bytes[offset..]) {
             Ok(taken) => offset += taken,
             Err(_) => return Err(ReadError::Memory),
         }
@@ -61,12 +62,21 @@ pub fn read(alloc: Global, bytes: &[u8]) -> Result<Json, ReadError>
     }
 }
 
-/// Takes the bytes that leave the reader in its mode, all at once: whole characters of a string, a number, white space.
-/// How many these are.
-fn take(mode: &mut Mode, bytes: &[u8]) -> Result<usize, AllocError>
+/// Takes at once the bytes that change neither what is open nor what may be: whole characters of a string, a number, white space, and
+/// after it a whole string, number or name of plain characters. How many these are.
+fn take(alloc: Global, mode: &mut Mode, bytes: &[u8]) -> Result<usize, AllocError>
     ensures { IfOk result (λ taken. TakesStretch mode.old bytes.now taken mode.new) }
 {
     match mode {
+        Mode::Value => take_value(alloc, mode, bytes),
+        Mode::FirstName => take_first_name(alloc, mode, bytes),
+        Mode::Name(opened) => match take_name(alloc, opened, bytes)? {
+            Some((named, taken)) => {
+                set(mode, Mode::Colon(named));
+                Ok(taken)
+            }
+            None => Ok(white_len(bytes)),
+        },
         Mode::Str(_, text) => take_text(text, bytes),
         Mode::Number(text, number_state) => take_number(text, number_state, bytes),
         Mode::Literal(_, _) => Ok(0),

@@ -38,7 +38,7 @@ fn is_plain(byte: u8) -> bool
 }
 
 /// How many bytes at the beginning are characters of a string by themselves.
-fn plain_len(bytes: &[u8]) -> usize
+pub(crate) fn plain_len(bytes: &[u8]) -> usize
     ensures within { result ≤ length bytes.now }
     ensures plain { ArePlain (take result bytes.now) }
 {
@@ -51,7 +51,7 @@ fn plain_len(bytes: &[u8]) -> usize
 }
 
 /// Appends these bytes; `false` where they are no UTF-8, and nothing is appended.
-fn append(text: &mut String, bytes: &[u8]) -> Result<bool, AllocError>
+pub(crate) fn append(text: &mut String, bytes: &[u8]) -> Result<bool, AllocError>
     ensures { IfOk result (λ all. MatchBool all (string_bytes text.new ≡ string_bytes text.old ++ bytes.now) (string_bytes text.new ≡ string_bytes text.old)) }
 {
     match str::from_utf8(bytes) {
@@ -143,7 +143,7 @@ pub(crate) fn take_text(text: &mut String, bytes: &[u8]) -> Result<usize, AllocE
 }
 
 /// How many bytes at the beginning go on with the number, and what has then been read of it.
-fn number_stretch(number_state: NumberState, bytes: &[u8]) -> (usize, NumberState)
+pub(crate) fn number_stretch(number_state: NumberState, bytes: &[u8]) -> (usize, NumberState)
     ensures within { result.0 ≤ length bytes.now }
     ensures leads { NumberGrows number_state (take result.0 bytes.now) result.1 }
 {
