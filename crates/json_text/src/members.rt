@@ -49,11 +49,7 @@ impl OpenObject {
     }
 
     /// The object with this name for its next member; `None` where a member has it.
-    pub(crate) fn named(
-        self,
-        alloc: Global,
-        name: String,
-    ) -> Result<Option<NamedObject>, AllocError>
+    pub(crate) fn named(self, name: String) -> Result<Option<NamedObject>, AllocError>
         ensures { IfOk result (λ found. MatchOption found (has_name (string_bytes name) (pair_names self.members.items) ≡ true)
             (λ named. (named.members.items ≡ self.members.items) × (named.name ≡ string_bytes name))) }
     {
