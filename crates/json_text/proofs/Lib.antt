@@ -13,6 +13,7 @@ pub mod LoopLemmas
 pub mod NameLemmas
 pub mod NumberLemmas
 pub mod ObjectLemmas
+pub mod OrderLemmas
 pub mod PartLemmas
 pub mod ReaderLemmas
 pub mod ScanLemmas

@@ -1,6 +1,7 @@
 -- Definitions that serve private functions alone.
 pub mod CharacterLeft
 pub mod CharacterStretches
+pub mod MemberOrder
 pub mod NumberLeft
 pub mod ReaderStates
 pub mod StepErrors

@@ -101,7 +101,7 @@ fn step(alloc: Global, state: &mut State, byte: u8) -> Result<(), StepError>
         Mode::After(json) => in_after(state, json, byte),
         Mode::Literal(wanted, read) => in_literal(state, wanted, read, byte),
         Mode::Number(text, number_state) => in_number(state, text, number_state, byte),
-        Mode::Str(target, text) => in_string(alloc, state, target, text, byte),
+        Mode::Str(target, text) => in_string(state, target, text, byte),
         Mode::Character(target, text, within) => in_character(state, target, text, within, byte),
     }
 }
@@ -362,17 +362,11 @@ fn in_number(
     }
 }
 
-fn in_string(
-    alloc: Global,
-    state: &mut State,
-    target: Target,
-    text: String,
-    byte: u8,
-) -> Result<(), StepError>
+fn in_string(state: &mut State, target: Target, text: String, byte: u8) -> Result<(), StepError>
     ensures { MatchResult result (λ _. StepsOn (string_in (role_of target) (string_bytes text)) (levels state.old.stack.items) byte state.new) (Fails (string_in (role_of target) (string_bytes text)) (levels state.old.stack.items) byte) }
 {
     if byte == b'"' {
-        return closed(alloc, state, target, text);
+        return closed(state, target, text);
     }
     match character::first(byte) {
         CharacterStep::Whole(c) => {
@@ -415,7 +409,7 @@ fn in_character(
 }
 
 /// The closing quotation mark.
-fn closed(alloc: Global, state: &mut State, target: Target, text: String) -> Result<(), StepError>
+fn closed(state: &mut State, target: Target, text: String) -> Result<(), StepError>
     ensures { MatchResult result (λ _. StepsOn (string_in (role_of target) (string_bytes text)) (levels state.old.stack.items) 34 state.new) (Fails (string_in (role_of target) (string_bytes text)) (levels state.old.stack.items) 34) }
 {
     match target {
@@ -424,7 +418,7 @@ fn closed(alloc: Global, state: &mut State, target: Target, text: String) -> Res
             Ok(())
         }
         Target::Name(opened) => {
-            let found = opened.named(alloc, text)?;
+            let found = opened.named(text)?;
             match found {
                 Some(named) => {
                     state.mode = Mode::Colon(named);

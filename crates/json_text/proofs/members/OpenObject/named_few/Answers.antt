@@ -1,1 +1,0 @@
--- Proof of the contract of `OpenObject::named_few`.
