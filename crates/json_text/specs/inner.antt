@@ -4,3 +4,4 @@ pub mod CharacterStretches
 pub mod NumberLeft
 pub mod ReaderStates
 pub mod StepErrors
+pub mod StoredText

@@ -1,8 +1,9 @@
 //! The members of an open object, and their names.
-ghost use Rattle.std.specs.Prelude.{◌≡◌, ◌<◌, ◌≤◌, ℕ, List, [], ◌++◌, ◌∷◌, drop, length, true, IfOk, MatchOption, string_bytes};
+ghost use Rattle.std.specs.Prelude.{◌≡◌, ◌<◌, ◌≤◌, ℕ, List, [], ◌++◌, ◌∷◌, drop, length, true, IfOk, MatchOption};
 ghost use Rattle.std.specs.BTreeSet.{contains_text};
 ghost use Rattle.json_text.specs.MemberNames.{has_name, are_distinct, pair_names};
 
+use crate::text::Text;
 use crate::tree::{Chars, Json};
 use std::alloc::{AllocError, AllocFailed, Global};
 use std::collections::BTreeSet;
@@ -49,13 +50,9 @@ impl OpenObject {
     }
 
     /// The object with this name for its next member; `None` where a member has it.
-    pub(crate) fn named(
-        self,
-        alloc: Global,
-        name: String,
-    ) -> Result<Option<NamedObject>, AllocError>
-        ensures { IfOk result (λ found. MatchOption found (has_name (string_bytes name) (pair_names self.members.items) ≡ true)
-            (λ named. (named.members.items ≡ self.members.items) × (named.name ≡ string_bytes name))) }
+    pub(crate) fn named(self, alloc: Global, name: Text) -> Result<Option<NamedObject>, AllocError>
+        ensures { IfOk result (λ found. MatchOption found (has_name name (pair_names self.members.items) ≡ true)
+            (λ named. (named.members.items ≡ self.members.items) × (named.name ≡ name))) }
     {
         if self.members.len() < FEW {
             Ok(self.named_few(name))
@@ -65,10 +62,10 @@ impl OpenObject {
     }
 
     /// The object with this name, for one of the first few members.
-    fn named_few(self, name: String) -> Option<NamedObject>
+    fn named_few(self, name: Text) -> Option<NamedObject>
         requires { length self.members.items < 12 }
-        ensures { MatchOption result (has_name (string_bytes name) (pair_names self.members.items) ≡ true)
-            (λ named. (named.members.items ≡ self.members.items) × (named.name ≡ string_bytes name)) }
+        ensures { MatchOption result (has_name name (pair_names self.members.items) ≡ true)
+            (λ named. (named.members.items ≡ self.members.items) × (named.name ≡ name)) }
     {
         if is_among(self.members.as_slice(), name.as_bytes()) {
             return None;
@@ -77,15 +74,15 @@ impl OpenObject {
         Some(NamedObject {
             members,
             names,
-            name: Chars::new(name),
+            name: Chars::from_text(name),
         })
     }
 
     /// The object with this name, for a member after the first few.
-    fn named_later(self, alloc: Global, name: String) -> Result<Option<NamedObject>, AllocError>
+    fn named_later(self, alloc: Global, name: Text) -> Result<Option<NamedObject>, AllocError>
         requires { 12 ≤ length self.members.items }
-        ensures { IfOk result (λ found. MatchOption found (has_name (string_bytes name) (pair_names self.members.items) ≡ true)
-            (λ named. (named.members.items ≡ self.members.items) × (named.name ≡ string_bytes name))) }
+        ensures { IfOk result (λ found. MatchOption found (has_name name (pair_names self.members.items) ≡ true)
+            (λ named. (named.members.items ≡ self.members.items) × (named.name ≡ name))) }
     {
         if is_among(&self.members[..FEW], name.as_bytes()) {
             return Ok(None);
@@ -97,7 +94,7 @@ impl OpenObject {
             Ok(Some(NamedObject {
                 members,
                 names,
-                name: Chars::new(name),
+                name: Chars::from_text(name),
             }))
         } else {
             Ok(None)
