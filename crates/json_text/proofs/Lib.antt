@@ -2,6 +2,7 @@
 mod PrefixLemmas
 pub mod CanonicalLemmas
 pub mod CharacterLemmas
+pub mod ColonLemmas
 pub mod EndLemmas
 pub mod FewLemmas
 pub mod FollowLemmas

@@ -1,6 +1,6 @@
 -- Stretches of bytes that are taken at once.
-use Rattle.std.proofs.Common.{◌≡◌, ℕ, ◌+◌, ◌-◌, ◌<◌, ◌≤◌, List, [], ◌∷◌, ◌++◌, length, get_or, take, drop, Bool, true, false, refl, sym, ap, subst, ◌∙◌, arith, append_assoc, length-drop, true≢false, String, Global, Result, Ok, Err}
-use Rattle.std.specs.Prelude.{IfOk, MatchBool, string_bytes}
+use Rattle.std.proofs.Common.{◌≡◌, ℕ, ◌+◌, ◌-◌, ◌<◌, ◌≤◌, List, [], ◌∷◌, ◌++◌, length, get_or, take, drop, Bool, true, false, refl, sym, ap, subst, ◌∙◌, arith, append_assoc, length-drop, true≢false, Result, Ok, Err}
+use Rattle.std.specs.Prelude.{IfOk, MatchBool}
 use Rattle.std.specs.Char.{encode_utf8}
 use Rattle.std.proofs.lemmas.List.{append-nil, take_more, take_all}
 use Rattle.std.proofs.lemmas.Str.{encode_ascii}
@@ -70,8 +70,8 @@ pub one_more_space : (b : List ℕ) (i c : ℕ) → i < length b → c ≡ get_o
 one_more_space b i c lt e h s = subst (λ (w : List ℕ). AreSpaces w) (sym (take_more b i 0 lt)) (subst (λ (k : ℕ). AreSpaces (take i b ++ k ∷ [])) e (spaces_more (take i b) c h s))
 
 -- white space in each mode that no string, number or literal is read in
-white : (m : Mode) (w : List ℕ) → AreSpaces w → ((t : Target) (x : String Global) → m ≡ modes.Str t x → ⊥) → ((x : String Global) (p : NumberState) → m ≡ modes.Number x p → ⊥) → ((k : Literal) (n : ℕ) → m ≡ modes.Literal k n → ⊥)
-    → ((t : Target) (x : String Global) (s : CharacterState) → m ≡ modes.Character t x s → ⊥) → LeadsOver (reader_state m) w (reader_state m)
+white : (m : Mode) (w : List ℕ) → AreSpaces w → ((t : Target) (x : List ℕ) → m ≡ modes.Str t x → ⊥) → ((x : List ℕ) (p : NumberState) → m ≡ modes.Number x p → ⊥) → ((k : Literal) (n : ℕ) → m ≡ modes.Literal k n → ⊥)
+    → ((t : Target) (x : List ℕ) (s : CharacterState) → m ≡ modes.Character t x s → ⊥) → LeadsOver (reader_state m) w (reader_state m)
 white modes.Value w h s n l c = spaces value w refl (λ R st k e. space_value R st k e) h
 white modes.FirstElement w h s n l c = spaces first_element w refl (λ R st k e. space_first_element R st k e) h
 white modes.FirstName w h s n l c = spaces first_name w refl (λ R st k e. space_first_name R st k e) h
@@ -83,8 +83,8 @@ white (modes.Number x p) w h s n l c = absurd (n x p refl)
 white (modes.Str t x) w h s n l c = absurd (s t x refl)
 white (modes.Character t x q) w h s n l c = absurd (c t x q refl)
 
-pub white_taken : (m : Mode) (b : List ℕ) (k : ℕ) → k ≤ length b → AreSpaces (take k b) → ((t : Target) (x : String Global) → m ≡ modes.Str t x → ⊥) → ((x : String Global) (p : NumberState) → m ≡ modes.Number x p → ⊥) → ((k : Literal) (n : ℕ) → m ≡ modes.Literal k n → ⊥)
-    → ((t : Target) (x : String Global) (s : CharacterState) → m ≡ modes.Character t x s → ⊥) → TakesStretch m b k m
+pub white_taken : (m : Mode) (b : List ℕ) (k : ℕ) → k ≤ length b → AreSpaces (take k b) → ((t : Target) (x : List ℕ) → m ≡ modes.Str t x → ⊥) → ((x : List ℕ) (p : NumberState) → m ≡ modes.Number x p → ⊥) → ((k : Literal) (n : ℕ) → m ≡ modes.Literal k n → ⊥)
+    → ((t : Target) (x : List ℕ) (s : CharacterState) → m ≡ modes.Character t x s → ⊥) → TakesStretch m b k m
 white_taken m b k le h s n l c = record { few = le; within = λ w. w; leads = white m (take k b) h s n l c }
 
 pub none_taken : (m : Mode) (b : List ℕ) → TakesStretch m b 0 m
@@ -122,7 +122,7 @@ pub text_left : (part old new : List ℕ) (all : Bool) → all ≡ false → Mat
 text_left part old new true e f = absurd (true≢false e)
 text_left part old new false e f = subst (λ (t : List ℕ). TextGrows old [] t) (sym f) (text_none old)
 
-pub text_taken : {E : Type 0} (r : Result ℕ E) (m : Mode) (t : Target) (old new : String Global) (b : List ℕ) → m ≡ modes.Str t old → IfOk r (λ k. (k ≤ length b) × TextGrows (string_bytes old) (take k b) (string_bytes new)) → IfOk r (λ k. TakesStretch m b k (modes.Str t new))
+pub text_taken : {E : Type 0} (r : Result ℕ E) (m : Mode) (t : Target) (old new : List ℕ) (b : List ℕ) → m ≡ modes.Str t old → IfOk r (λ k. (k ≤ length b) × TextGrows old (take k b) new) → IfOk r (λ k. TakesStretch m b k (modes.Str t new))
 text_taken (Ok k) m t old new b is h = subst (λ (x : Mode). TakesStretch x b k (modes.Str t new)) (sym is) (record { few = h.0; within = λ _. tt; leads = h.1 (role_of t) })
 text_taken (Err e) m t old new b is h = tt
 
@@ -143,13 +143,13 @@ number_next p q r b i c lt e h m = subst (λ (w : List ℕ). NumberGrows p w r) 
 pub number_all : (p q : NumberState) (b : List ℕ) (i n : ℕ) → i ≡ n → NumberGrows p (take i b) q → NumberGrows p (take n b) q
 number_all p q b i n e h = subst (λ (k : ℕ). NumberGrows p (take k b) q) e h
 
-pub number_taken : {E : Type 0} (r : Result ℕ E) (m : Mode) (old new : String Global) (p q : NumberState) (b : List ℕ) → m ≡ modes.Number old p
-    → IfOk r (λ k. (k ≤ length b) × NumberGrows p (take k b) q × (string_bytes new ≡ string_bytes old ++ take k b)) → IfOk r (λ k. TakesStretch m b k (modes.Number new q))
+pub number_taken : {E : Type 0} (r : Result ℕ E) (m : Mode) (old new : List ℕ) (p q : NumberState) (b : List ℕ) → m ≡ modes.Number old p
+    → IfOk r (λ k. (k ≤ length b) × NumberGrows p (take k b) q × (new ≡ old ++ take k b)) → IfOk r (λ k. TakesStretch m b k (modes.Number new q))
 number_taken (Ok k) m old new p q b is h =
     subst (λ (x : Mode). TakesStretch x b k (modes.Number new q)) (sym is) (record {
       few = h.0;
       within = λ _. tt;
-      leads = subst (λ (t : List ℕ). LeadsOver (number_in (string_bytes old) p) (take k b) (number_in t q)) (sym h.2) (h.1 (string_bytes old));
+      leads = subst (λ (t : List ℕ). LeadsOver (number_in old p) (take k b) (number_in t q)) (sym h.2) (h.1 old);
     })
 number_taken (Err e) m old new p q b is h = tt
 

@@ -1,5 +1,5 @@
 -- Whole strings and numbers that are taken at once.
-use Rattle.std.proofs.Common.{◌≡◌, ℕ, suc, ◌+◌, ◌-◌, ◌<◌, ◌≤◌, List, [], ◌∷◌, ◌++◌, length, get_or, take, drop, Bool, true, false, true≢false, MatchBool, String, Global, string_bytes, refl, sym, ap, subst, ◌∙◌, arith, length-drop}
+use Rattle.std.proofs.Common.{◌≡◌, ℕ, suc, ◌+◌, ◌-◌, ◌<◌, ◌≤◌, List, [], ◌∷◌, ◌++◌, length, get_or, take, drop, Bool, true, false, true≢false, MatchBool, refl, sym, ap, subst, ◌∙◌, arith, length-drop}
 use Rattle.std.proofs.lemmas.List.{take_more, take_all}
 use Rattle.std.proofs.Math.Seq.{take-add}
 use Rattle.json_text.specs.Tree.{Tree, string}
@@ -136,8 +136,8 @@ first_taken (x ∷ b) c more p q lt e m g =
     let one : more + 1 ≡ suc more = omega arith in
     subst (λ (n : ℕ). LeadsOver value (take n (x ∷ b)) (number_in (take n (x ∷ b)) q)) (sym one) (value_number x p q (take more b) (subst (λ (k : ℕ). LeavesNumber IsNumberText k p) e m) g)
 
-pub number_taken : (m n : Mode) (b : List ℕ) (c more : ℕ) (p q : NumberState) (text : String Global) → m ≡ modes.Value → n ≡ modes.Number text q → 0 < length b → more ≤ length (take (length b - 1) (drop 1 b)) → c ≡ get_or b 0 0
-    → LeavesNumber IsNumberText c p → NumberGrows p (take more (take (length b - 1) (drop 1 b))) q → string_bytes text ≡ take (more + 1) b → TakesStretch m b (more + 1) n
+pub number_taken : (m n : Mode) (b : List ℕ) (c more : ℕ) (p q : NumberState) (text : List ℕ) → m ≡ modes.Value → n ≡ modes.Number text q → 0 < length b → more ≤ length (take (length b - 1) (drop 1 b)) → c ≡ get_or b 0 0
+    → LeavesNumber IsNumberText c p → NumberGrows p (take more (take (length b - 1) (drop 1 b))) q → text ≡ take (more + 1) b → TakesStretch m b (more + 1) n
 number_taken m n b c more p q text is to lt le e l g t =
     subst (λ (x : Mode). TakesStretch x b (more + 1) n) (sym is) (subst (λ (x : Mode). TakesStretch modes.Value b (more + 1) x) (sym to) (record {
       few = (let r : length (take (length b - 1) (drop 1 b)) ≡ length (drop 1 b) = ap length (rest_is b 1) in omega (arith, length-drop 1 b));

@@ -5,4 +5,5 @@ pub mod MemberOrder
 pub mod NumberLeft
 pub mod ReaderStates
 pub mod StepErrors
+pub mod StoredText
 pub mod Tokens

@@ -21,6 +21,7 @@ mod state;
 mod stretches;
 #[cfg(test)]
 mod tests;
+mod text;
 mod tokens;
 mod tree;
 mod writer;

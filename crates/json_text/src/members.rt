@@ -1,8 +1,9 @@
 //! The members of an open object, and their names.
-ghost use Rattle.std.specs.Prelude.{◌≡◌, ◌<◌, ◌≤◌, [], ◌++◌, ◌∷◌, length, true, false, IfOk, IsTrue, MatchOption, string_bytes};
+ghost use Rattle.std.specs.Prelude.{◌≡◌, ◌<◌, ◌≤◌, [], ◌++◌, ◌∷◌, length, true, false, IfOk, IsTrue, MatchOption};
 ghost use Rattle.json_text.specs.MemberNames.{has_name, are_distinct, pair_names};
 ghost use Rattle.json_text.specs.inner.MemberOrder.{names_at, IsOrderOf, IsBetween};
 
+use crate::text::Text;
 use crate::tree::{Chars, Json};
 use std::alloc::{AllocError, AllocFailed, Global};
 use std::cmp::Ordering;
@@ -63,24 +64,24 @@ impl OpenObject {
     }
 
     /// The object with this name, which none of its few members has.
-    pub(crate) fn with_name(self, name: String) -> NamedObject
+    pub(crate) fn with_name(self, name: Text) -> NamedObject
         requires few { length self.members.items < 12 }
-        requires new { has_name (string_bytes name) (pair_names self.members.items) ≡ false }
+        requires new { has_name name (pair_names self.members.items) ≡ false }
         ensures members { result.members.items ≡ self.members.items }
-        ensures name { result.name ≡ string_bytes name }
+        ensures name { result.name ≡ name }
     {
         let OpenObject { members, sorted } = self;
         NamedObject {
             members,
             sorted,
-            name: Chars::new(name),
+            name: Chars::from_text(name),
         }
     }
 
     /// The object with this name for its next member; `None` where a member has it.
-    pub(crate) fn named(self, name: String) -> Result<Option<NamedObject>, AllocError>
-        ensures { IfOk result (λ found. MatchOption found (has_name (string_bytes name) (pair_names self.members.items) ≡ true)
-            (λ named. (named.members.items ≡ self.members.items) × (named.name ≡ string_bytes name))) }
+    pub(crate) fn named(self, name: Text) -> Result<Option<NamedObject>, AllocError>
+        ensures { IfOk result (λ found. MatchOption found (has_name name (pair_names self.members.items) ≡ true)
+            (λ named. (named.members.items ≡ self.members.items) × (named.name ≡ name))) }
     {
         if self.members.len() < FEW {
             Ok(self.named_few(name))
@@ -90,10 +91,10 @@ impl OpenObject {
     }
 
     /// The object with this name, for one of the first few members.
-    fn named_few(self, name: String) -> Option<NamedObject>
+    fn named_few(self, name: Text) -> Option<NamedObject>
         requires { length self.members.items < 12 }
-        ensures { MatchOption result (has_name (string_bytes name) (pair_names self.members.items) ≡ true)
-            (λ named. (named.members.items ≡ self.members.items) × (named.name ≡ string_bytes name)) }
+        ensures { MatchOption result (has_name name (pair_names self.members.items) ≡ true)
+            (λ named. (named.members.items ≡ self.members.items) × (named.name ≡ name)) }
     {
         if self.has(name.as_bytes()) {
             return None;
@@ -102,10 +103,10 @@ impl OpenObject {
     }
 
     /// The object with this name, for a member after the first few.
-    fn named_later(self, name: String) -> Result<Option<NamedObject>, AllocError>
+    fn named_later(self, name: Text) -> Result<Option<NamedObject>, AllocError>
         requires { 12 ≤ length self.members.items }
-        ensures { IfOk result (λ found. MatchOption found (has_name (string_bytes name) (pair_names self.members.items) ≡ true)
-            (λ named. (named.members.items ≡ self.members.items) × (named.name ≡ string_bytes name))) }
+        ensures { IfOk result (λ found. MatchOption found (has_name name (pair_names self.members.items) ≡ true)
+            (λ named. (named.members.items ≡ self.members.items) × (named.name ≡ name))) }
     {
         if is_among(&self.members[..FEW], name.as_bytes()) {
             return Ok(None);
@@ -120,7 +121,7 @@ impl OpenObject {
                 Ok(Some(NamedObject {
                     members,
                     sorted,
-                    name: Chars::new(name),
+                    name: Chars::from_text(name),
                 }))
             }
             None => Ok(None),

@@ -1,5 +1,5 @@
 //! The reader: one byte after another, with a stack of its own.
-ghost use Rattle.std.specs.Prelude.{◌≡◌, ◌≢◌, ◌<◌, [], ◌∷◌, length, drop, map, false, string_bytes, IfOk, IfErr, MatchOption, MatchResult};
+ghost use Rattle.std.specs.Prelude.{◌≡◌, ◌≢◌, ◌<◌, [], ◌∷◌, length, drop, map, false, IfOk, IfErr, MatchOption, MatchResult};
 ghost use Rattle.json_text.specs.Tree.{Tree};
 ghost use Rattle.json_text.specs.ValueOf.{value_of};
 ghost use Rattle.json_text.specs.inner.NumberLeft.{LeavesNumber, EndsNumber};
@@ -17,6 +17,7 @@ use crate::members::{NamedObject, OpenObject};
 use crate::number::NumberState;
 use crate::state::{Literal, Mode, OpenLevel, State, Target};
 use crate::stretches::{is_white, take_number, take_text, white_len};
+use crate::text::Text;
 use crate::tokens::{set, take_first_name, take_name, take_value};
 use crate::tree::{Chars, Json, Numeral};
 use gw_bytes::MOST_LEVELS;
@@ -77,8 +78,8 @@ fn take(alloc: Global, mode: &mut Mode, bytes: &[u8]) -> Result<usize, AllocErro
             }
             None => Ok(white_len(bytes)),
         },
-        Mode::Str(_, text) => take_text(text, bytes),
-        Mode::Number(text, number_state) => take_number(text, number_state, bytes),
+        Mode::Str(_, text) => take_text(alloc, text, bytes),
+        Mode::Number(text, number_state) => take_number(alloc, text, number_state, bytes),
         Mode::Literal(_, _) => Ok(0),
         Mode::Character(_, _, _) => Ok(0),
         _ => Ok(white_len(bytes)),
@@ -100,9 +101,11 @@ fn step(alloc: Global, state: &mut State, byte: u8) -> Result<(), StepError>
         Mode::Colon(named) => in_colon(state, named, byte),
         Mode::After(json) => in_after(state, json, byte),
         Mode::Literal(wanted, read) => in_literal(state, wanted, read, byte),
-        Mode::Number(text, number_state) => in_number(state, text, number_state, byte),
-        Mode::Str(target, text) => in_string(state, target, text, byte),
-        Mode::Character(target, text, within) => in_character(state, target, text, within, byte),
+        Mode::Number(text, number_state) => in_number(alloc, state, text, number_state, byte),
+        Mode::Str(target, text) => in_string(alloc, state, target, text, byte),
+        Mode::Character(target, text, within) => in_character(
+            alloc, state, target, text, within, byte,
+        ),
     }
 }
 
@@ -154,7 +157,7 @@ fn in_value(alloc: Global, state: &mut State, byte: u8) -> Result<(), StepError>
             Ok(())
         }
         b'"' => {
-            state.mode = Mode::Str(Target::Value, String::new(alloc));
+            state.mode = Mode::Str(Target::Value, Text::new());
             Ok(())
         }
         _ => begin_literal(state, byte),
@@ -186,8 +189,8 @@ fn begin_number(
     requires { LeavesNumber IsNumberText byte number_state }
     ensures { MatchResult result (λ _. StepsOn value (levels state.old.stack.items) byte state.new) (Fails value (levels state.old.stack.items) byte) }
 {
-    let mut text = String::new(alloc);
-    text.push(char::from(byte))?;
+    let mut text = Text::new();
+    text.push(alloc, char::from(byte))?;
     state.mode = Mode::Number(text, number_state);
     Ok(())
 }
@@ -218,7 +221,7 @@ fn in_first_name(alloc: Global, state: &mut State, byte: u8) -> Result<(), StepE
     }
     match byte {
         b'"' => {
-            state.mode = Mode::Str(Target::Name(OpenObject::new(alloc)), String::new(alloc));
+            state.mode = Mode::Str(Target::Name(OpenObject::new(alloc)), Text::new());
             Ok(())
         }
         b'}' => {
@@ -239,7 +242,7 @@ fn in_name(alloc: Global, state: &mut State, opened: OpenObject, byte: u8) -> Re
     if byte != b'"' {
         return Err(StepError::Fault(FaultKind::NotJson));
     }
-    state.mode = Mode::Str(Target::Name(opened), String::new(alloc));
+    state.mode = Mode::Str(Target::Name(opened), Text::new());
     Ok(())
 }
 
@@ -338,17 +341,18 @@ fn in_literal(state: &mut State, wanted: Literal, read: usize, byte: u8) -> Resu
 }
 
 fn in_number(
+    alloc: Global,
     state: &mut State,
-    text: String,
+    text: Text,
     number_state: NumberState,
     byte: u8,
 ) -> Result<(), StepError>
-    ensures { MatchResult result (λ _. StepsOn (number_in (string_bytes text) number_state) (levels state.old.stack.items) byte state.new) (Fails (number_in (string_bytes text) number_state) (levels state.old.stack.items) byte) }
+    ensures { MatchResult result (λ _. StepsOn (number_in text number_state) (levels state.old.stack.items) byte state.new) (Fails (number_in text number_state) (levels state.old.stack.items) byte) }
 {
     match number_state.next(byte) {
         Some(next) => {
             let mut text = text;
-            text.push(char::from(byte))?;
+            text.push(alloc, char::from(byte))?;
             state.mode = Mode::Number(text, next);
             Ok(())
         }
@@ -362,8 +366,14 @@ fn in_number(
     }
 }
 
-fn in_string(state: &mut State, target: Target, text: String, byte: u8) -> Result<(), StepError>
-    ensures { MatchResult result (λ _. StepsOn (string_in (role_of target) (string_bytes text)) (levels state.old.stack.items) byte state.new) (Fails (string_in (role_of target) (string_bytes text)) (levels state.old.stack.items) byte) }
+fn in_string(
+    alloc: Global,
+    state: &mut State,
+    target: Target,
+    text: Text,
+    byte: u8,
+) -> Result<(), StepError>
+    ensures { MatchResult result (λ _. StepsOn (string_in (role_of target) text) (levels state.old.stack.items) byte state.new) (Fails (string_in (role_of target) text) (levels state.old.stack.items) byte) }
 {
     if byte == b'"' {
         return closed(state, target, text);
@@ -371,7 +381,7 @@ fn in_string(state: &mut State, target: Target, text: String, byte: u8) -> Resul
     match character::first(byte) {
         CharacterStep::Whole(c) => {
             let mut text = text;
-            text.push(c)?;
+            text.push(alloc, c)?;
             state.mode = Mode::Str(target, text);
             Ok(())
         }
@@ -384,19 +394,20 @@ fn in_string(state: &mut State, target: Target, text: String, byte: u8) -> Resul
 }
 
 fn in_character(
+    alloc: Global,
     state: &mut State,
     target: Target,
-    text: String,
+    text: Text,
     within: CharacterState,
     byte: u8,
 ) -> Result<(), StepError>
     requires { IsSound within }
-    ensures { MatchResult result (λ _. StepsOn (character_in (role_of target) (string_bytes text) within) (levels state.old.stack.items) byte state.new) (Fails (character_in (role_of target) (string_bytes text) within) (levels state.old.stack.items) byte) }
+    ensures { MatchResult result (λ _. StepsOn (character_in (role_of target) text within) (levels state.old.stack.items) byte state.new) (Fails (character_in (role_of target) text within) (levels state.old.stack.items) byte) }
 {
     match within.next(byte) {
         CharacterStep::Whole(c) => {
             let mut text = text;
-            text.push(c)?;
+            text.push(alloc, c)?;
             state.mode = Mode::Str(target, text);
             Ok(())
         }
@@ -409,12 +420,12 @@ fn in_character(
 }
 
 /// The closing quotation mark.
-fn closed(state: &mut State, target: Target, text: String) -> Result<(), StepError>
-    ensures { MatchResult result (λ _. StepsOn (string_in (role_of target) (string_bytes text)) (levels state.old.stack.items) 34 state.new) (Fails (string_in (role_of target) (string_bytes text)) (levels state.old.stack.items) 34) }
+fn closed(state: &mut State, target: Target, text: Text) -> Result<(), StepError>
+    ensures { MatchResult result (λ _. StepsOn (string_in (role_of target) text) (levels state.old.stack.items) 34 state.new) (Fails (string_in (role_of target) text) (levels state.old.stack.items) 34) }
 {
     match target {
         Target::Value => {
-            state.mode = Mode::After(Json::Str(Chars::new(text)));
+            state.mode = Mode::After(Json::Str(Chars::from_text(text)));
             Ok(())
         }
         Target::Name(opened) => {

@@ -6,6 +6,7 @@ ghost use Rattle.json_text.specs.inner.ReaderStates.{literal_text, literal_tree}
 use crate::character::CharacterState;
 use crate::members::{NamedObject, OpenObject};
 use crate::number::NumberState;
+use crate::text::Text;
 use crate::tree::Json;
 
 /// An open array or object, with what it has so far.
@@ -73,11 +74,11 @@ pub(crate) enum Mode {
     /// A literal, of which so many letters have been read.
     Literal(Literal, usize),
     /// A number with this text so far.
-    Number(String, NumberState),
+    Number(Text, NumberState),
     /// A string with this text so far, between two characters.
-    Str(Target, String),
+    Str(Target, Text),
     /// A string with this text so far, inside a character.
-    Character(Target, String, CharacterState),
+    Character(Target, Text, CharacterState),
 }
 
 /// The state of the reader between two bytes.

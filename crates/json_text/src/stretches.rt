@@ -1,5 +1,5 @@
 //! Stretches of bytes that are taken at once.
-ghost use Rattle.std.specs.Prelude.{◌≡◌, ◌≤◌, ◌++◌, ◌↔◌, length, take, IfOk, IfSome, IsTrue, MatchBool, string_bytes};
+ghost use Rattle.std.specs.Prelude.{◌≡◌, ◌≤◌, ◌++◌, ◌↔◌, length, take, IfOk, IfSome, IsTrue, MatchBool};
 ghost use Rattle.json_text.specs.Grammar.{is_space};
 ghost use Rattle.json_text.specs.inner.ReaderStates.{IsPlain, ArePlain, AreSpaces, TextGrows, NumberGrows};
 ghost use Rattle.json_text.specs.inner.CharacterStretches.{CharacterBegins, CharacterGrows};
@@ -7,7 +7,8 @@ ghost use Rattle.json_text.specs.inner.CharacterLeft.{IsSound};
 
 use crate::character::{self, CharacterState, CharacterStep};
 use crate::number::NumberState;
-use std::alloc::AllocError;
+use crate::text::Text;
+use std::alloc::{AllocError, Global};
 use std::str;
 
 /// White space between tokens (RFC 8259, section 2).
@@ -51,12 +52,12 @@ pub(crate) fn plain_len(bytes: &[u8]) -> usize
 }
 
 /// Appends these bytes; `false` where they are no UTF-8, and nothing is appended.
-pub(crate) fn append(text: &mut String, bytes: &[u8]) -> Result<bool, AllocError>
-    ensures { IfOk result (λ all. MatchBool all (string_bytes text.new ≡ string_bytes text.old ++ bytes.now) (string_bytes text.new ≡ string_bytes text.old)) }
+pub(crate) fn append(alloc: Global, text: &mut Text, bytes: &[u8]) -> Result<bool, AllocError>
+    ensures { IfOk result (λ all. MatchBool all (text.new ≡ text.old ++ bytes.now) (text.new ≡ text.old)) }
 {
     match str::from_utf8(bytes) {
         Ok(stretch) => {
-            text.push_str(stretch)?;
+            text.push_str(alloc, stretch)?;
             Ok(true)
         }
         Err(_) => Ok(false),
@@ -64,12 +65,17 @@ pub(crate) fn append(text: &mut String, bytes: &[u8]) -> Result<bool, AllocError
 }
 
 /// Appends so many bytes, all of which are characters by themselves; how many these are.
-fn append_plain(text: &mut String, bytes: &[u8], plain: usize) -> Result<usize, AllocError>
+fn append_plain(
+    alloc: Global,
+    text: &mut Text,
+    bytes: &[u8],
+    plain: usize,
+) -> Result<usize, AllocError>
     requires within { plain ≤ length bytes.now }
     requires plain { ArePlain (take plain bytes.now) }
-    ensures { IfOk result (λ taken. (taken ≤ length bytes.now) × TextGrows (string_bytes text.old) (take taken bytes.now) (string_bytes text.new)) }
+    ensures { IfOk result (λ taken. (taken ≤ length bytes.now) × TextGrows text.old (take taken bytes.now) text.new) }
 {
-    if append(text, &bytes[..plain])? {
+    if append(alloc, text, &bytes[..plain])? {
         Ok(plain)
     } else {
         Ok(0)
@@ -111,16 +117,16 @@ fn character_rest(begun: CharacterState, bytes: &[u8]) -> Option<(char, usize)>
 }
 
 /// Appends the plain characters that the bytes begin with, or else the one character; how many bytes these take.
-fn take_part(text: &mut String, bytes: &[u8]) -> Result<usize, AllocError>
-    ensures { IfOk result (λ taken. (taken ≤ length bytes.now) × TextGrows (string_bytes text.old) (take taken bytes.now) (string_bytes text.new)) }
+fn take_part(alloc: Global, text: &mut Text, bytes: &[u8]) -> Result<usize, AllocError>
+    ensures { IfOk result (λ taken. (taken ≤ length bytes.now) × TextGrows text.old (take taken bytes.now) text.new) }
 {
     let plain = plain_len(bytes);
     if plain > 0 {
-        return append_plain(text, bytes, plain);
+        return append_plain(alloc, text, bytes, plain);
     }
     match character_at(bytes) {
         Some((c, len)) => {
-            text.push(c)?;
+            text.push(alloc, c)?;
             Ok(len)
         }
         None => Ok(0),
@@ -128,12 +134,12 @@ fn take_part(text: &mut String, bytes: &[u8]) -> Result<usize, AllocError>
 }
 
 /// Appends the characters at the beginning of the bytes that are there in whole; how many bytes these take.
-pub(crate) fn take_text(text: &mut String, bytes: &[u8]) -> Result<usize, AllocError>
-    ensures { IfOk result (λ taken. (taken ≤ length bytes.now) × TextGrows (string_bytes text.old) (take taken bytes.now) (string_bytes text.new)) }
+pub(crate) fn take_text(alloc: Global, text: &mut Text, bytes: &[u8]) -> Result<usize, AllocError>
+    ensures { IfOk result (λ taken. (taken ≤ length bytes.now) × TextGrows text.old (take taken bytes.now) text.new) }
 {
     let mut offset = 0;
     while offset < bytes.len() {
-        let taken = take_part(text, &bytes[offset..])?;
+        let taken = take_part(alloc, text, &bytes[offset..])?;
         if taken == 0 {
             return Ok(offset);
         }
@@ -159,14 +165,15 @@ pub(crate) fn number_stretch(number_state: NumberState, bytes: &[u8]) -> (usize,
 
 /// Appends the bytes with which the number goes on; how many these are.
 pub(crate) fn take_number(
-    text: &mut String,
+    alloc: Global,
+    text: &mut Text,
     number_state: &mut NumberState,
     bytes: &[u8],
 ) -> Result<usize, AllocError>
-    ensures { IfOk result (λ taken. (taken ≤ length bytes.now) × NumberGrows number_state.old (take taken bytes.now) number_state.new × (string_bytes text.new ≡ string_bytes text.old ++ take taken bytes.now)) }
+    ensures { IfOk result (λ taken. (taken ≤ length bytes.now) × NumberGrows number_state.old (take taken bytes.now) number_state.new × (text.new ≡ text.old ++ take taken bytes.now)) }
 {
     let (len, last) = number_stretch(*number_state, bytes);
-    if append(text, &bytes[..len])? {
+    if append(alloc, text, &bytes[..len])? {
         *number_state = last;
         Ok(len)
     } else {

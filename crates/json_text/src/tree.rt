@@ -4,25 +4,34 @@ ghost use Rattle.json_text.specs.Tree.{get_of, member_names_of, member_of, boole
 ghost use Rattle.json_text.specs.Grammar.{IsNew};
 ghost use Rattle.json_text.specs.ValueOf.{value_of, members_value};
 
+use crate::text::Text;
 use std::marker::Model;
 
 /// The text of a string or of a member's name, in UTF-8, its escapes decoded.
 #[derive(Debug, Drop)]
 pub struct Chars {
-    text: String,
+    text: Text,
 }
 
 impl Model for Chars {
-    ghost use Rattle.std.specs.Prelude.{List, ℕ, string_bytes};
+    ghost use Rattle.std.specs.Prelude.{List, ℕ};
 
     ghost Value = { List ℕ };
 
-    ghost view = { λ c. string_bytes c.text };
+    ghost view = { λ c. c.text };
 }
 
 impl Chars {
     pub fn new(text: String) -> Chars
         ensures { result ≡ string_bytes text }
+    {
+        Chars {
+            text: Text::long(text),
+        }
+    }
+
+    pub(crate) fn from_text(text: Text) -> Chars
+        ensures { result ≡ text }
     {
         Chars { text }
     }
@@ -43,20 +52,20 @@ impl Chars {
 /// The text of a number, as it was read.
 #[derive(Debug, Drop)]
 pub struct Numeral {
-    text: String,
+    text: Text,
 }
 
 impl Model for Numeral {
-    ghost use Rattle.std.specs.Prelude.{List, ℕ, string_bytes};
+    ghost use Rattle.std.specs.Prelude.{List, ℕ};
 
     ghost Value = { List ℕ };
 
-    ghost view = { λ n. string_bytes n.text };
+    ghost view = { λ n. n.text };
 }
 
 impl Numeral {
-    pub(crate) fn new(text: String) -> Numeral
-        ensures { result ≡ string_bytes text }
+    pub(crate) fn new(text: Text) -> Numeral
+        ensures { result ≡ text }
     {
         Numeral { text }
     }
