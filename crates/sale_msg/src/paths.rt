@@ -122,17 +122,7 @@ pub(crate) const PRINT_OUTPUT: &str = "PrintRequest.PrintOutput";
 
 pub(crate) const PRINT_QUALIFIER: &str = "PrintRequest.PrintOutput.DocumentQualifier";
 
-// From a header on.
-
-pub(crate) const CLASS: &str = "MessageClass";
-
-pub(crate) const CATEGORY: &str = "MessageCategory";
-
-pub(crate) const TYPE: &str = "MessageType";
-
-pub(crate) const DEVICE: &str = "DeviceID";
-
-// From a header or a reference on.
+// From a reference on.
 
 pub(crate) const SERVICE: &str = "ServiceID";
 
