@@ -53,7 +53,7 @@ kind_row tree h = by (tree_at (codes "MessageHeader.MessageType") tree) h
     by (Some value) m = text_kind (string_of value) m
 
 -- a header of either envelope meets the table of a response's header
-pub header_laxer : (envelope : Envelope) (tree : Tree) → AreMet (header_rows envelope) tree → AreMet (header_rows envelopes.Response) tree
+header_laxer : (envelope : Envelope) (tree : Tree) → AreMet (header_rows envelope) tree → AreMet (header_rows envelopes.Response) tree
 header_laxer envelopes.Request tree h = (h.0, (h.1.0, (h.1.1.0, (h.1.1.1.0, (kind_row tree h.1.1.1.1.0, h.1.1.1.1.1)))))
 header_laxer envelopes.Response tree h = h
 

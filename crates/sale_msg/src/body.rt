@@ -25,7 +25,7 @@ use json_text::Json;
 use sale_values::{PaymentAsk, Period, Reference, ReversalAsk, SaleRequest};
 use std::alloc::{AllocError, Global};
 
-// The numbers of rows.
+// The numbers of the rows that are read, in the table of each category.
 
 const PAYMENT_SALE_ID: usize = 5;
 

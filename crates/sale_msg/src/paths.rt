@@ -1,5 +1,5 @@
-//! The members of a till's message by their paths, each stated once: the tables check them, the reader reads them, and faults
-//! have them.
+//! The members of a till's message by their paths, each stated once: the tables and faults have them, and the reader looks
+//! for a few by them.
 //!
 //! A path is names divided by points, from the body object on: the object in which the header and a body are. The members
 //! of an object within a body that has a table of its own have a path from that object on too.

@@ -6,7 +6,7 @@ use Rattle.std.specs.List.{list_all, slice_split}
 use Rattle.json_text.specs.Tree.{Tree}
 use Rattle.json_text.specs.ValueOf.{value_of}
 use Rattle.json_text.specs.declared.tree.Json.{Json}
-use Rattle.sale_msg.specs.Path.{is_point, tree_at, tree_under}
+use Rattle.sale_msg.specs.Path.{is_point, tree_at}
 use Rattle.sale_msg.specs.Table.{MemberRow, part_rows, rows_of}
 use Rattle.sale_msg.specs.Flaw.{AreMet}
 use Rattle.sale_msg.specs.Grammar.{parts_of}
