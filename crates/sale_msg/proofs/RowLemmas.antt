@@ -6,7 +6,7 @@ use Rattle.json_text.specs.Tree.{Tree, string_of}
 use Rattle.sale_msg.specs.Path.{tree_at}
 use Rattle.sale_msg.specs.Form.{HasForm}
 use Rattle.sale_msg.specs.Table.{MemberRow}
-use Rattle.sale_msg.specs.Flaw.{AreMet, IsFirstAmong, IsFirstFlaw, IsFlaw, IsMet, MayBeAbsent, IsThere, MayBeThere}
+use Rattle.sale_msg.specs.Flaw.{AreMet, IsFirstAmong, IsFirstFlaw, IsFlaw, IsMet, MayBeAbsent, HasFound, MayHaveFound}
 use Rattle.sale_msg.specs.inner.RowValue.{AreFound, row_value, values_at}
 use Rattle.sale_msg.specs.declared.table.Form.{Form}
 use Rattle.sale_msg.specs.declared.table.Presence.{Presence}
@@ -77,7 +77,7 @@ leads_end rows tree rest e h = let P : List MemberRow → Type 0 = λ l. AreMet 
 -- ---- what follows from rows that are met
 
 -- a member that meets its row is of its form where it is there
-pub met_may_hold : (row : MemberRow) (tree : Tree) → IsMet row tree → MayBeThere row.form (tree_at row.within tree)
+pub met_may_hold : (row : MemberRow) (tree : Tree) → IsMet row tree → MayHaveFound row.form (tree_at row.within tree)
 unfolding IsMet
 met_may_hold row tree h = by (tree_at row.within tree) h
   where
@@ -132,7 +132,7 @@ pub row_found : (table : List MemberRow) (tree : Tree) (values : List (Option Tr
 row_found table tree values number found h e = e ∙ ap (λ l. get_or l number None) h.are
 
 pub required_found : (within path : List ℕ) (form : Form) (tree : Tree) (found : Option Tree)
-    → IsMet (record { within = within; path = path; presence = Required; form = form }) tree → found ≡ tree_at within tree → IsThere form found
+    → IsMet (record { within = within; path = path; presence = Required; form = form }) tree → found ≡ tree_at within tree → HasFound form found
 unfolding IsMet
 required_found within path form tree found h e = let P : Option Tree → Type 0 = λ o. MatchOption o ⊥ (HasForm form) in subst P (sym e) h
 
@@ -147,7 +147,7 @@ required_is within path form tree h = by (tree_at within tree) refl h
     by (Some value) e k = (value, e)
 
 pub may_be_found : (within path : List ℕ) (presence : Presence) (form : Form) (tree : Tree) (found : Option Tree)
-    → IsMet (record { within = within; path = path; presence = presence; form = form }) tree → found ≡ tree_at within tree → MayBeThere form found
+    → IsMet (record { within = within; path = path; presence = presence; form = form }) tree → found ≡ tree_at within tree → MayHaveFound form found
 may_be_found within path presence form tree found h e =
     let P : Option Tree → Type 0 = λ o. MatchOption o (Unit {0}) (HasForm form) in
     subst P (sym e) (met_may_hold (record { within = within; path = path; presence = presence; form = form }) tree h)

@@ -19,12 +19,12 @@ MayBeAbsent ByHeader tree =
     ⊎ (text_at (codes "MessageHeader.MessageType") tree ≡ Some (codes "Notification"))
 
 -- Inner: a value of this form was found
-abbrev pub IsThere : Form → Option Tree → Type 0
-IsThere form found = MatchOption found ⊥ (HasForm form)
+abbrev pub HasFound : Form → Option Tree → Type 0
+HasFound form found = MatchOption found ⊥ (HasForm form)
 
 -- Inner: nothing was found, or a value of this form
-abbrev pub MayBeThere : Form → Option Tree → Type 0
-MayBeThere form found = MatchOption found (Unit {0}) (HasForm form)
+abbrev pub MayHaveFound : Form → Option Tree → Type 0
+MayHaveFound form found = MatchOption found (Unit {0}) (HasForm form)
 
 -- the member is of its form, or is absent and may be
 unfoldable pub IsMet : MemberRow → Tree → Type 0

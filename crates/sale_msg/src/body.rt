@@ -4,7 +4,7 @@ ghost use Rattle.std.specs.Option.{option_and_then};
 ghost use Rattle.json_text.specs.Tree.{Tree, string_of};
 ghost use Rattle.json_text.specs.ValueOf.{value_of};
 ghost use Rattle.sale_values.specs.Names.{period_name};
-ghost use Rattle.sale_msg.specs.Flaw.{AreMet, IsMet, IsThere, MayBeThere};
+ghost use Rattle.sale_msg.specs.Flaw.{AreMet, IsMet, HasFound, MayHaveFound};
 ghost use Rattle.sale_msg.specs.Grammar.{Asks, IsPayment, IsReversal, IsReference, IsReferenceAt};
 ghost use Rattle.sale_msg.specs.Category.{category_of};
 ghost use Rattle.sale_msg.specs.Path.{text_at};
@@ -79,9 +79,9 @@ pub(crate) fn reversal(found: &RowMembers<'_>) -> ReversalAsk
 
 /// The reference that has these members.
 fn reference(service: Option<&Json>, sale: Option<&Json>, poi: Option<&Json>) -> Reference
-    requires service { IsThere (Form.Ident 10) (member_value service) }
-    requires sale { MayBeThere (Form.Ident 40) (member_value sale) }
-    requires poi { MayBeThere (Form.Ident 40) (member_value poi) }
+    requires service { HasFound (Form.Ident 10) (member_value service) }
+    requires sale { MayHaveFound (Form.Ident 40) (member_value sale) }
+    requires poi { MayHaveFound (Form.Ident 40) (member_value poi) }
     ensures service { option_and_then string_of (member_value service.entry) ≡ Some result.service }
     ensures sale { option_and_then string_of (member_value sale.entry) ≡ result.sale }
     ensures poi { option_and_then string_of (member_value poi.entry) ≡ result.poi }

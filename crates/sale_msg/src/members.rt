@@ -7,7 +7,7 @@ ghost use Rattle.std.specs.Option.{option_and_then};
 ghost use Rattle.gw_base.specs.Amount.{minor_units};
 ghost use Rattle.json_text.specs.Tree.{boolean_of, numeral_of, string_of};
 ghost use Rattle.sale_values.specs.Names.{class_name, kind_name, period_name};
-ghost use Rattle.sale_msg.specs.Flaw.{IsThere, MayBeThere};
+ghost use Rattle.sale_msg.specs.Flaw.{HasFound, MayHaveFound};
 ghost use Rattle.sale_msg.specs.inner.RowValue.{member_value};
 ghost use Rattle.sale_msg.specs.declared.table.Form.{Form};
 
@@ -36,7 +36,7 @@ pub(crate) fn chars<'a>(member: Option<&'a Json>) -> Option<&'a Chars>
 
 /// The identifier that the member is; `None` where there is none.
 pub(crate) fn ident_or_none<const N: usize>(member: Option<&Json>) -> Option<Ident<N>>
-    requires { MayBeThere (Form.Ident N) (member_value member) }
+    requires { MayHaveFound (Form.Ident N) (member_value member) }
     ensures { option_and_then string_of (member_value member.entry) ≡ result }
 {
     match chars(member) {
@@ -47,7 +47,7 @@ pub(crate) fn ident_or_none<const N: usize>(member: Option<&Json>) -> Option<Ide
 
 /// The identifier that the member is.
 pub(crate) fn ident<const N: usize>(member: Option<&Json>) -> Ident<N>
-    requires { IsThere (Form.Ident N) (member_value member) }
+    requires { HasFound (Form.Ident N) (member_value member) }
     ensures { option_and_then string_of (member_value member.entry) ≡ Some result }
 {
     ident_or_none(member).unwrap()
@@ -55,7 +55,7 @@ pub(crate) fn ident<const N: usize>(member: Option<&Json>) -> Ident<N>
 
 /// The category's name that the member is.
 pub(crate) fn letters(member: Option<&Json>) -> Ident<40>
-    requires { IsThere Form.Letters (member_value member) }
+    requires { HasFound Form.Letters (member_value member) }
     ensures { option_and_then string_of (member_value member.entry) ≡ Some result }
 {
     let text = chars(member).unwrap();
@@ -64,7 +64,7 @@ pub(crate) fn letters(member: Option<&Json>) -> Ident<40>
 
 /// A copy of the text that the member is; `None` where there is none.
 pub(crate) fn text_or_none(alloc: Global, member: Option<&Json>) -> Result<Option<Text>, AllocError>
-    requires { MayBeThere Form.Text (member_value member) }
+    requires { MayHaveFound Form.Text (member_value member) }
     ensures { IfOk result (λ text. option_and_then string_of (member_value member.entry) ≡ text) }
 {
     match chars(member) {
@@ -82,7 +82,7 @@ pub(crate) fn copied(alloc: Global, text: &Chars) -> Result<Text, AllocError>
 
 /// The three letters that the member is.
 pub(crate) fn currency(member: Option<&Json>) -> [u8; 3]
-    requires { IsThere Form.Currency (member_value member) }
+    requires { HasFound Form.Currency (member_value member) }
     ensures { option_and_then string_of (member_value member.entry) ≡ Some result }
 {
     three_bytes(chars(member).unwrap().as_bytes())
@@ -100,7 +100,7 @@ fn three_bytes(bytes: &[u8]) -> [u8; 3]
 
 /// The minor units of the amount that the member is; `None` where there is none.
 pub(crate) fn amount_or_none(member: Option<&Json>) -> Option<u64>
-    requires { MayBeThere Form.Amount (member_value member) }
+    requires { MayHaveFound Form.Amount (member_value member) }
     ensures { option_and_then minor_units (option_and_then numeral_of (member_value member.entry)) ≡ result }
 {
     match member {
@@ -114,7 +114,7 @@ pub(crate) fn amount_or_none(member: Option<&Json>) -> Option<u64>
 
 /// The minor units of the amount that the member is.
 pub(crate) fn amount(member: Option<&Json>) -> u64
-    requires { IsThere Form.Amount (member_value member) }
+    requires { HasFound Form.Amount (member_value member) }
     ensures { option_and_then minor_units (option_and_then numeral_of (member_value member.entry)) ≡ Some result }
 {
     amount_or_none(member).unwrap()
@@ -122,7 +122,7 @@ pub(crate) fn amount(member: Option<&Json>) -> u64
 
 /// The true or false that the member is; true where there is none.
 pub(crate) fn flag_or_true(member: Option<&Json>) -> bool
-    requires { MayBeThere Form.Flag (member_value member) }
+    requires { MayHaveFound Form.Flag (member_value member) }
     ensures { unwrap_or (option_and_then boolean_of (member_value member.entry)) true ≡ result }
 {
     match member {
@@ -133,7 +133,7 @@ pub(crate) fn flag_or_true(member: Option<&Json>) -> bool
 
 /// The class that the member is.
 pub(crate) fn class(member: Option<&Json>) -> Class
-    requires { IsThere Form.Class (member_value member) }
+    requires { HasFound Form.Class (member_value member) }
     ensures { option_and_then string_of (member_value member.entry) ≡ Some (class_name result) }
 {
     let text = chars(member).unwrap();
@@ -142,7 +142,7 @@ pub(crate) fn class(member: Option<&Json>) -> Class
 
 /// The message type that the member is.
 pub(crate) fn message_type(member: Option<&Json>) -> Kind
-    requires { IsThere Form.Kind (member_value member) }
+    requires { HasFound Form.Kind (member_value member) }
     ensures { option_and_then string_of (member_value member.entry) ≡ Some (kind_name result) }
 {
     let text = chars(member).unwrap();
@@ -151,7 +151,7 @@ pub(crate) fn message_type(member: Option<&Json>) -> Kind
 
 /// The type of reconciliation that the member is.
 pub(crate) fn period(member: Option<&Json>) -> Period
-    requires { IsThere Form.Period (member_value member) }
+    requires { HasFound Form.Period (member_value member) }
     ensures { option_and_then string_of (member_value member.entry) ≡ Some (period_name result) }
 {
     let text = chars(member).unwrap();
