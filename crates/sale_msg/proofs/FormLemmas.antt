@@ -1,9 +1,10 @@
 -- Forms, by the variants of a tree.
-use Rattle.std.proofs.Common.{◌≡◌, ℕ, ◌≤◌, List, Option, Some, None, Bool, sym, subst, ◌∙◌, All, length, map, MatchOption, ◌↔◌, [], ◌∷◌, arith, IsTrue, true≢false}
+use Rattle.std.proofs.Common.{◌≡◌, ℕ, ◌≤◌, List, Option, Some, None, Bool, sym, ap, subst, ◌∙◌, All, length, map, MatchOption, ◌↔◌, [], ◌∷◌, arith, IsTrue, true≢false}
 use Rattle.std.proofs.lemmas.List.{length-map}
 use Rattle.std.proofs.lemmas.List.Elements.{All-nil, All-cons, All-head, All-tail, All-map}
-use Rattle.std.specs.Option.{is_some}
-use Rattle.gw_base.specs.Amount.{SpellsAmount}
+use Rattle.std.specs.Option.{is_some, option_and_then, IsSome}
+use Rattle.gw_base.specs.Amount.{minor_units, SpellsAmount}
+use Rattle.gw_base.proofs.AmountLemmas.{minor_units-text}
 use Rattle.json_text.specs.Tree.{Tree, array_of, numeral_of}
 use Rattle.sale_msg.specs.Form.{HasTextMember, IsAmountNumber, IsJsonObject, IsOutputList, IsTextList}
 
@@ -45,10 +46,10 @@ output_list_form f tree elements b e h =
     )
 
 -- a number that is an amount has minor units
-pub amount_has_units : (found : Option Tree) (tree : Tree) (numeral : List ℕ) → Some tree ≡ found → Some numeral ≡ numeral_of tree
-    → MatchOption found ⊥ IsAmountNumber → ((m : ℕ) → ¬ SpellsAmount numeral m) → ⊥
-amount_has_units found tree numeral e f h none =
-    let P : Option Tree → Type 0 = λ o. MatchOption o ⊥ IsAmountNumber in
-    let Q : Option (List ℕ) → Type 0 = λ o. MatchOption o ⊥ (λ text. (m : ℕ) × SpellsAmount text m) in
-    let is : (m : ℕ) × SpellsAmount numeral m = subst Q (sym f) (subst P (sym e) h) in
-    none is.0 is.1
+pub amount_has_units : (found : Option Tree) → MatchOption found ⊥ IsAmountNumber → IsSome (option_and_then minor_units (option_and_then numeral_of found))
+amount_has_units None h = absurd h
+amount_has_units (Some tree) h = by (numeral_of tree) h
+  where
+    by : (numeral : Option (List ℕ)) → MatchOption numeral ⊥ (λ text. (m : ℕ) × SpellsAmount text m) → IsSome (option_and_then minor_units numeral)
+    by None k = absurd k
+    by (Some text) k = ap is_some (minor_units-text text k.0 k.1)

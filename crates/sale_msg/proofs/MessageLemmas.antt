@@ -8,12 +8,14 @@ use Rattle.sale_values.specs.Names.{kind_name}
 use Rattle.sale_values.specs.declared.header.Header.{Header}
 use Rattle.sale_values.specs.declared.names.Kind.{Kind as KindType}
 use Rattle.sale_values.specs.declared.names.Kind.TheVariants as kinds
-use Rattle.sale_msg.specs.Category.{category_name}
+use Rattle.sale_values.specs.declared.request.SaleRequest.{SaleRequest}
+use Rattle.sale_msg.specs.Category.{category_name, category_of}
 use Rattle.sale_msg.specs.Form.{HasForm, TextHasForm}
 use Rattle.sale_msg.specs.Flaw.{AreMet, IsMet}
 use Rattle.sale_msg.specs.Path.{tree_at}
 use Rattle.sale_msg.specs.Table.{header_rows, output_rows, part_rows, member_row}
-use Rattle.sale_msg.specs.Grammar.{HasBody, IsBodyFlaw, IsSaleFault, HasHeader, IsRequestOf, fault_of, parts_of}
+use Rattle.sale_msg.specs.Grammar.{Asks, HasBody, IsBodyFlaw, IsSaleFault, HasHeader, IsRequest, IsRequestOf, fault_of, parts_of}
+use Rattle.sale_msg.specs.inner.RowValue.{AreFound, IsBodyFound}
 use Rattle.sale_msg.specs.declared.category.Category.{Category}
 use Rattle.sale_msg.specs.declared.category.Category.TheVariants as categories
 use Rattle.sale_msg.specs.declared.flaw.Flaw.{Flaw}
@@ -51,9 +53,14 @@ kind_row tree h = by (tree_at (codes "MessageHeader.MessageType") tree) h
     by (Some value) m = text_kind (string_of value) m
 
 -- a header of either envelope meets the table of a response's header
-pub header_laxer : (envelope : Envelope) (tree : Tree) → AreMet (header_rows envelope) tree → AreMet (header_rows envelopes.Response) tree
+header_laxer : (envelope : Envelope) (tree : Tree) → AreMet (header_rows envelope) tree → AreMet (header_rows envelopes.Response) tree
 header_laxer envelopes.Request tree h = (h.0, (h.1.0, (h.1.1.0, (h.1.1.1.0, (kind_row tree h.1.1.1.1.0, h.1.1.1.1.1)))))
 header_laxer envelopes.Response tree h = h
+
+-- what was found by either header's table was found by that of a response's header
+pub header_found : (envelope : Envelope) (tree : Tree) (values : List (Option Tree)) → AreFound (header_rows envelope) tree values
+    → AreFound (header_rows envelopes.Response) tree values
+header_found envelope tree values h = record { met = header_laxer envelope tree h.met; are = h.are }
 
 kind_of_name : (message_type : KindType) → (kind_name kinds.Request ≡ kind_name message_type) ⊎ (kind_name kinds.Notification ≡ kind_name message_type)
     → message_type ≢ kinds.Request → message_type ≡ kinds.Notification
@@ -79,12 +86,12 @@ kind_is_notification body header h other =
 
 -- ---- bodies
 
-pub outputs_met : (category : Category) (body : Tree) (trees : List Tree) → category ≡ categories.Display → HasBody category body
+pub outputs_met : (category : Category) (body : Tree) (trees : List Tree) → category ≡ categories.Display → All (AreMet (part_rows category)) (parts_of category body)
     → trees ≡ parts_of category body → All (AreMet output_rows) trees
 outputs_met category body trees e h f =
     let P : Category → Type 0 = λ k. All (AreMet (part_rows k)) trees in
     let Q : List Tree → Type 0 = λ l. All (AreMet (part_rows category)) l in
-    subst P e (subst Q (sym f) h.parts)
+    subst P e (subst Q (sym f) h)
 
 pub flawed : (message body : Tree) (header : Header) (category : Category) (flaw : Flaw) → IsRequestOf message body header
     → category_name category ≡ header.category → IsBodyFlaw category body flaw → IsSaleFault message (fault_of header flaw)
@@ -92,6 +99,20 @@ flawed message body header category (flaws.Missing path) r e h =
     (body, category, record { request_of = r; category_is = e; first = h })
 flawed message body header category (flaws.Wrong path) r e h =
     (body, category, record { request_of = r; category_is = e; first = h })
+
+-- the message is the request that its body asks
+pub request_is : (message body : Tree) (header : Header) (category : Category) (values : List (Option Tree)) (request : SaleRequest)
+    → IsRequestOf message body header → category_name category ≡ header.category → IsBodyFound category body values
+    → category_of request ≡ category → Asks body request → IsRequest message body header request
+request_is message body header category values request r n h e asks =
+    let P : Category → Type 0 = λ k. category_name k ≡ header.category in
+    let Q : Category → Type 0 = λ k. HasBody k body in
+    record {
+      request_of = r;
+      category = subst P (sym e) n;
+      members = subst Q (sym e) (record { members = h.found.met; parts = h.parts });
+      asks = asks;
+    }
 
 -- ---- lists in step
 

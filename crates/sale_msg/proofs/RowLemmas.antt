@@ -1,12 +1,13 @@
 -- Rows that are met, and the first that isn't.
-use Rattle.std.proofs.Common.{◌≡◌, ℕ, suc, ◌<◌, List, [], ◌∷◌, Option, Some, None, sym, ap, subst, get_or, drop, length, map, All, MatchOption, inl, inr, drop-cons}
+use Rattle.std.proofs.Common.{◌≡◌, ◌∙◌, ℕ, suc, ◌<◌, List, [], ◌∷◌, Option, Some, None, refl, sym, ap, subst, get_or, drop, length, map, All, MatchOption, inl, inr, drop-cons}
 use Rattle.std.proofs.lemmas.List.Elements.{All-nil, All-cons}
-use Rattle.json_text.specs.Tree.{Tree}
+use Rattle.std.specs.Option.{option_and_then}
+use Rattle.json_text.specs.Tree.{Tree, string_of}
 use Rattle.sale_msg.specs.Path.{tree_at}
 use Rattle.sale_msg.specs.Form.{HasForm}
 use Rattle.sale_msg.specs.Table.{MemberRow}
-use Rattle.sale_msg.specs.Flaw.{AreMet, IsFirstAmong, IsFirstFlaw, IsFlaw, IsMet, MayBeAbsent, MayHoldAt}
-use Rattle.sale_msg.specs.inner.RowValue.{row_value}
+use Rattle.sale_msg.specs.Flaw.{AreMet, IsFirstAmong, IsFirstFlaw, IsFlaw, IsMet, MayBeAbsent, HasFound, MayHaveFound}
+use Rattle.sale_msg.specs.inner.RowValue.{AreFound, row_value, values_at}
 use Rattle.sale_msg.specs.declared.table.Form.{Form}
 use Rattle.sale_msg.specs.declared.table.Presence.{Presence}
 use Rattle.sale_msg.specs.declared.table.Presence.TheVariants.{Required, Optional}
@@ -76,7 +77,7 @@ leads_end rows tree rest e h = let P : List MemberRow → Type 0 = λ l. AreMet 
 -- ---- what follows from rows that are met
 
 -- a member that meets its row is of its form where it is there
-pub met_may_hold : (row : MemberRow) (tree : Tree) → IsMet row tree → MayHoldAt row.within row.form tree
+pub met_may_hold : (row : MemberRow) (tree : Tree) → IsMet row tree → MayHaveFound row.form (tree_at row.within tree)
 unfolding IsMet
 met_may_hold row tree h = by (tree_at row.within tree) h
   where
@@ -124,12 +125,38 @@ pub each_end : (rows : List MemberRow) (rest trees : List Tree) → rest ≡ [] 
 each_end rows rest trees e h =
     let P : List Tree → Type 0 = λ l. All (AreMet rows) l in h.met (subst P (sym e) (All-nil (AreMet rows)))
 
--- ---- rows of one member by two paths
+-- ---- members that were found
 
-pub required_there : (within path : List ℕ) (form : Form) (tree : Tree)
-    → IsMet (record { within = within; path = path; presence = Required; form = form }) tree → None ≡ tree_at within tree → ⊥
+pub row_found : (table : List MemberRow) (tree : Tree) (values : List (Option Tree)) (number : ℕ) (found : Option Tree) → AreFound table tree values
+    → found ≡ get_or values number None → found ≡ get_or (values_at table tree) number None
+row_found table tree values number found h e = e ∙ ap (λ l. get_or l number None) h.are
+
+pub required_found : (within path : List ℕ) (form : Form) (tree : Tree) (found : Option Tree)
+    → IsMet (record { within = within; path = path; presence = Required; form = form }) tree → found ≡ tree_at within tree → HasFound form found
 unfolding IsMet
-required_there within path form tree h e = let P : Option Tree → Type 0 = λ o. MatchOption o ⊥ (HasForm form) in subst P (sym e) h
+required_found within path form tree found h e = let P : Option Tree → Type 0 = λ o. MatchOption o ⊥ (HasForm form) in subst P (sym e) h
+
+-- what a required member is
+pub required_is : (within path : List ℕ) (form : Form) (tree : Tree)
+    → IsMet (record { within = within; path = path; presence = Required; form = form }) tree → (value : Tree) × (tree_at within tree ≡ Some value)
+unfolding IsMet
+required_is within path form tree h = by (tree_at within tree) refl h
+  where
+    by : (found : Option Tree) → tree_at within tree ≡ found → MatchOption found ⊥ (HasForm form) → (value : Tree) × (tree_at within tree ≡ Some value)
+    by None e k = absurd k
+    by (Some value) e k = (value, e)
+
+pub may_be_found : (within path : List ℕ) (presence : Presence) (form : Form) (tree : Tree) (found : Option Tree)
+    → IsMet (record { within = within; path = path; presence = presence; form = form }) tree → found ≡ tree_at within tree → MayHaveFound form found
+may_be_found within path presence form tree found h e =
+    let P : Option Tree → Type 0 = λ o. MatchOption o (Unit {0}) (HasForm form) in
+    subst P (sym e) (met_may_hold (record { within = within; path = path; presence = presence; form = form }) tree h)
+
+-- what is read of the member that was found is so of what is at the path
+pub text_found : (found at : Option Tree) (text : Option (List ℕ)) → found ≡ at → option_and_then string_of found ≡ text → option_and_then string_of at ≡ text
+text_found found at text e h = ap (option_and_then string_of) (sym e) ∙ h
+
+-- ---- rows of one member by two paths
 
 pub required_as : (within path other reported : List ℕ) (form : Form) (tree part : Tree)
     → IsMet (record { within = within; path = path; presence = Required; form = form }) tree → tree_at within tree ≡ tree_at other part
@@ -142,11 +169,3 @@ pub optional_as : (within path other reported : List ℕ) (form : Form) (tree pa
     → IsMet (record { within = other; path = reported; presence = Optional; form = form }) part
 unfolding IsMet
 optional_as within path other reported form tree part h e = let P : Option Tree → Type 0 = λ o. MatchOption o (Unit {0}) (HasForm form) in subst P e h
-
-pub may_hold_as : (within path other reported : List ℕ) (presence : Presence) (form : Form) (tree part : Tree)
-    → IsMet (record { within = within; path = path; presence = presence; form = form }) tree → tree_at within tree ≡ tree_at other part
-    → IsMet (record { within = other; path = reported; presence = Optional; form = form }) part
-unfolding IsMet
-may_hold_as within path other reported presence form tree part h e =
-    let P : Option Tree → Type 0 = λ o. MatchOption o (Unit {0}) (HasForm form) in
-    subst P e (met_may_hold (record { within = within; path = path; presence = presence; form = form }) tree h)

@@ -1,5 +1,5 @@
 -- What is wrong with an object, by a table: its first row that isn't met.
-use Rattle.std.specs.Prelude.{◌≡◌, ℕ, List, [], ◌∷◌, Some, codes, MatchOption, ◌⊎◌}
+use Rattle.std.specs.Prelude.{◌≡◌, List, [], ◌∷◌, Option, Some, codes, MatchOption, ◌⊎◌}
 use Rattle.json_text.specs.Tree.{Tree}
 use Rattle.sale_msg.specs.Path.{text_at, tree_at}
 use Rattle.sale_msg.specs.Form.{HasForm}
@@ -18,13 +18,13 @@ MayBeAbsent ByHeader tree =
     (text_at (codes "MessageHeader.MessageClass") tree ≡ Some (codes "Device"))
     ⊎ (text_at (codes "MessageHeader.MessageType") tree ≡ Some (codes "Notification"))
 
--- Inner: a value of this form is at the path
-abbrev pub HoldsAt : List ℕ → Form → Tree → Type 0
-HoldsAt path form tree = MatchOption (tree_at path tree) ⊥ (HasForm form)
+-- Inner: a value of this form was found
+abbrev pub HasFound : Form → Option Tree → Type 0
+HasFound form found = MatchOption found ⊥ (HasForm form)
 
--- Inner: nothing is at the path, or a value of this form
-abbrev pub MayHoldAt : List ℕ → Form → Tree → Type 0
-MayHoldAt path form tree = MatchOption (tree_at path tree) (Unit {0}) (HasForm form)
+-- Inner: nothing was found, or a value of this form
+abbrev pub MayHaveFound : Form → Option Tree → Type 0
+MayHaveFound form found = MatchOption found (Unit {0}) (HasForm form)
 
 -- the member is of its form, or is absent and may be
 unfoldable pub IsMet : MemberRow → Tree → Type 0

@@ -1,4 +1,3 @@
 -- Definitions that serve private functions alone.
-pub mod HeaderMembers
 pub mod RowValue
 pub mod OptionalParts

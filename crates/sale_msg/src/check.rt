@@ -4,9 +4,9 @@ ghost use Rattle.std.specs.List.{list_all};
 ghost use Rattle.std.specs.Option.{option_and_then};
 ghost use Rattle.json_text.specs.ValueOf.{value_of};
 ghost use Rattle.sale_msg.specs.Flaw.{AreMet, IsFirstAmong, IsFirstFlaw, IsFlaw, IsMet, MayBeAbsent};
-ghost use Rattle.sale_msg.specs.Grammar.{HasBody, IsBodyFlaw};
+ghost use Rattle.sale_msg.specs.Grammar.{IsBodyFlaw};
 ghost use Rattle.sale_msg.specs.Path.{text_at, tree_at, tree_under};
-ghost use Rattle.sale_msg.specs.inner.RowValue.{HaveParents, is_path, member_value, own_names, row_value, values_at};
+ghost use Rattle.sale_msg.specs.inner.RowValue.{AreFound, HaveParents, IsBodyFound, is_path, member_value, own_names, row_value};
 
 use crate::flaw::Flaw;
 use crate::form::has_form;
@@ -21,27 +21,13 @@ use json_text::Json;
 /// The members that a table's rows name, after its object: there are at most 12 rows.
 pub(crate) type RowMembers<'a> = ArrayVec<Option<&'a Json>, 13>;
 
-/// Whether the object meets each row of the table; else the flaw of the first that it doesn't meet.
-pub(crate) fn check(tree: &Json, rows: &[MemberRow]) -> Result<(), Flaw>
-    requires paths { list_all (λ row. is_path row.path.now) rows.now ≡ true }
-    requires links { HaveParents rows.now }
-    ensures { MatchResult result (λ _. AreMet (map row_value rows.now) (value_of tree.now))
-        (IsFirstFlaw (map row_value rows.now) (value_of tree.now)) }
-{
-    match find_members(tree, rows) {
-        Ok(_) => Ok(()),
-        Err(flaw) => Err(flaw),
-    }
-}
-
 /// The table's object, and then the members that its rows name, each where there is one; else the flaw of the first row
 /// that the object doesn't meet.
 pub(crate) fn find_members<'a>(tree: &'a Json, rows: &[MemberRow]) -> Result<RowMembers<'a>, Flaw>
     requires paths { list_all (λ row. is_path row.path.now) rows.now ≡ true }
     requires links { HaveParents rows.now }
     ensures { MatchResult result
-        (λ found. AreMet (map row_value rows.now) (value_of tree.now)
-        × (map member_value found.items ≡ values_at (map row_value rows.now) (value_of tree.now)))
+        (λ found. AreFound (map row_value rows.now) (value_of tree.now) (map member_value found.items))
         (IsFirstFlaw (map row_value rows.now) (value_of tree.now)) }
 {
     let mut found = ArrayVec::new();
@@ -72,21 +58,26 @@ pub(crate) fn check_each(parts: &[Json], rows: &[MemberRow]) -> Result<(), Flaw>
         (IsFirstAmong (map row_value rows.now) (map value_of parts.now)) }
 {
     for part in parts {
-        check(part, rows)?;
+        find_members(part, rows)?;
     }
     Ok(())
 }
 
-/// Whether the body object meets the tables of the category; else its first flaw.
-pub(crate) fn check_body(category: Category, body: &Json) -> Result<(), Flaw>
-    ensures { MatchResult result (λ _. HasBody category (value_of body.now)) (IsBodyFlaw category (value_of body.now)) }
+/// The members of the body object by the category's rows, where it meets the tables of the category; else its first flaw.
+pub(crate) fn check_body<'a>(category: Category, body: &'a Json) -> Result<RowMembers<'a>, Flaw>
+    ensures { MatchResult result (λ found. IsBodyFound category (value_of body.now) (map member_value found.items))
+        (IsBodyFlaw category (value_of body.now)) }
 {
     let rows = body_table(category);
     let part_rows = part_table(category);
-    if let Err(flaw) = check(body, rows) {
-        return Err(flaw);
+    let found = match find_members(body, rows) {
+        Ok(found) => found,
+        Err(flaw) => return Err(flaw),
+    };
+    match check_each(parts(category, &found), part_rows) {
+        Ok(()) => Ok(found),
+        Err(flaw) => Err(flaw),
     }
-    check_each(parts(category, body), part_rows)
 }
 
 /// The member that the row names, where there is one and it is as the row says, or it may be absent; else the row's flaw.

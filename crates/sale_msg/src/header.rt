@@ -1,19 +1,33 @@
 //! The header of a message.
-ghost use Rattle.std.specs.Prelude.{◌≡◌, IfErr, IfOk, MatchResult};
+ghost use Rattle.std.specs.Prelude.{◌≡◌, IfErr, IfOk, MatchResult, map};
 ghost use Rattle.json_text.specs.Tree.{Tree};
 ghost use Rattle.json_text.specs.ValueOf.{value_of};
-ghost use Rattle.sale_msg.specs.Flaw.{AreMet, IsMet};
 ghost use Rattle.sale_msg.specs.Grammar.{IsHeaded, IsHeadless, IsUnderEnvelope, HeaderHolds};
 ghost use Rattle.sale_msg.specs.Table.{header_rows};
-ghost use Rattle.sale_msg.specs.inner.HeaderMembers.{IsHeader, header_member_rows};
+ghost use Rattle.sale_msg.specs.inner.RowValue.{AreFound, member_value};
 
-use crate::check::{check, reported_path};
-use crate::members::{class, ident, ident_or_none, letters, message_type};
-use crate::path::find;
+use crate::check::{RowMembers, find_members, reported_path};
+use crate::members::{class, ident, ident_or_none, letters, member, message_type};
 use crate::paths;
 use crate::table::{Envelope, header_table};
 use json_text::Json;
 use sale_values::{Header, SaleFault};
+
+// The numbers of the header's rows.
+
+const CLASS: usize = 3;
+
+const CATEGORY: usize = 4;
+
+const TYPE: usize = 5;
+
+const SERVICE: usize = 6;
+
+const DEVICE: usize = 7;
+
+const SALE: usize = 8;
+
+const POI: usize = 9;
 
 /// A header, with the object that it is in, beside the body.
 #[derive(Clone, Copy)]
@@ -45,41 +59,28 @@ fn header_under(envelope: Envelope, body: &Json) -> Result<Headed<'_>, SaleFault
     ensures { (message : Tree) → IsUnderEnvelope envelope message (value_of body.now)
         → MatchResult result (λ headed. IsHeaded message headed.envelope (value_of headed.body.now) headed.header) (IsHeadless message) }
 {
-    match check(body, header_table(envelope)) {
-        Ok(()) => Ok(Headed {
+    match find_members(body, header_table(envelope)) {
+        Ok(found) => Ok(Headed {
             envelope,
-            header: header_of(body),
+            header: header_of(&found),
             body,
         }),
         Err(flaw) => Err(SaleFault::NoHeader { path: flaw.path() }),
     }
 }
 
-/// The header of a body object that meets the table of a response's header, as one that meets that of a request's
-/// header does too.
-fn header_of(body: &Json) -> Header
-    requires { AreMet (header_rows Envelope.Response) (value_of body.now) }
-    ensures { HeaderHolds (value_of body.now) result }
-{
-    match find(body, paths::HEADER) {
-        None => unreachable!(),
-        Some(object) => header_in(object),
-    }
-}
-
-/// The header that the object is.
-#[tactic(auto, unfolding(crate::specs::Flaw::IsMet))]
-fn header_in(object: &Json) -> Header
-    requires { AreMet header_member_rows (value_of object.now) }
-    ensures { IsHeader (value_of object.now) result }
+/// The header whose members were found, by the table of a response's header, which a request's header meets too.
+fn header_of(found: &RowMembers<'_>) -> Header
+    requires { (body : Tree) × AreFound (header_rows Envelope.Response) body (map member_value found.now.items) }
+    ensures { (body : Tree) → AreFound (header_rows Envelope.Response) body (map member_value found.now.items) → HeaderHolds body result }
 {
     Header {
-        class: class(object, paths::CLASS),
-        category: letters(object, paths::CATEGORY),
-        kind: message_type(object, paths::TYPE),
-        service: ident_or_none(object, paths::SERVICE),
-        device: ident_or_none(object, paths::DEVICE),
-        sale: ident(object, paths::SALE),
-        poi: ident(object, paths::POI),
+        class: class(member(found, CLASS)),
+        category: letters(member(found, CATEGORY)),
+        kind: message_type(member(found, TYPE)),
+        service: ident_or_none(member(found, SERVICE)),
+        device: ident_or_none(member(found, DEVICE)),
+        sale: ident(member(found, SALE)),
+        poi: ident(member(found, POI)),
     }
 }

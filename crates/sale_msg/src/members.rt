@@ -1,76 +1,73 @@
 //! What the members of a checked object are.
 //!
-//! An object is checked against its table first, and what it has is read only then. So where a member is required, that
-//! it is absent or of another form can't happen here: these arms are proved to be unreachable.
-ghost use Rattle.std.specs.Prelude.{◌≡◌, ℕ, Some, true, unwrap_or, option_map, IfOk, length};
-ghost use Rattle.json_text.specs.ValueOf.{value_of};
+//! An object is checked against its table first, and the members that were found then are read. So where a member is
+//! required, that it is absent or of another form can't happen here: that is proved at each `unwrap`.
+ghost use Rattle.std.specs.Prelude.{◌≡◌, ℕ, Some, None, true, unwrap_or, option_map, IfOk, length, get_or, map};
+ghost use Rattle.std.specs.Option.{option_and_then};
+ghost use Rattle.gw_base.specs.Amount.{minor_units};
+ghost use Rattle.json_text.specs.Tree.{boolean_of, numeral_of, string_of};
 ghost use Rattle.sale_values.specs.Names.{class_name, kind_name, period_name};
-ghost use Rattle.sale_msg.specs.Flaw.{HoldsAt, MayHoldAt};
-ghost use Rattle.sale_msg.specs.Path.{amount_at, flag_at, text_at};
+ghost use Rattle.sale_msg.specs.Flaw.{HasFound, MayHaveFound};
+ghost use Rattle.sale_msg.specs.inner.RowValue.{member_value};
 ghost use Rattle.sale_msg.specs.declared.table.Form.{Form};
 
-use crate::path::find;
+use crate::check::RowMembers;
 use gw_base::{Ident, Text, minor_of};
 use json_text::{Chars, Json};
 use sale_values::{Class, Kind, Period};
 use std::alloc::{AllocError, Global};
 
-/// The text at the path.
-pub(crate) fn chars_at<'a>(tree: &'a Json, path: &str) -> Option<&'a Chars>
-    ensures { option_map (λ text. text.now) result ≡ text_at path.now (value_of tree.now) }
+/// The member that was found of the row of this number.
+pub(crate) fn member<'a>(found: &RowMembers<'a>, row: usize) -> Option<&'a Json>
+    ensures { member_value result ≡ get_or (map member_value found.now.items) row None }
 {
-    match find(tree, path) {
+    found.as_slice().get(row).copied().unwrap_or(None)
+}
+
+/// The text that the member is.
+pub(crate) fn chars<'a>(member: Option<&'a Json>) -> Option<&'a Chars>
+    ensures { option_map (λ text. text.now) result ≡ option_and_then string_of (member_value member.entry) }
+{
+    match member {
         None => None,
         Some(value) => value.as_str(),
     }
 }
 
-/// The identifier at the path; `None` where nothing is there.
-pub(crate) fn ident_or_none<const N: usize>(tree: &Json, path: &str) -> Option<Ident<N>>
-    requires { MayHoldAt path.now (Form.Ident N) (value_of tree.now) }
-    ensures { text_at path.now (value_of tree.now) ≡ result }
+/// The identifier that the member is; `None` where there is none.
+pub(crate) fn ident_or_none<const N: usize>(member: Option<&Json>) -> Option<Ident<N>>
+    requires { MayHaveFound (Form.Ident N) (member_value member) }
+    ensures { option_and_then string_of (member_value member.entry) ≡ result }
 {
-    match chars_at(tree, path) {
+    match chars(member) {
         None => None,
         Some(text) => Ident::of(text.as_bytes()),
     }
 }
 
-/// The identifier at the path.
-pub(crate) fn ident<const N: usize>(tree: &Json, path: &str) -> Ident<N>
-    requires { HoldsAt path.now (Form.Ident N) (value_of tree.now) }
-    ensures { text_at path.now (value_of tree.now) ≡ Some result }
+/// The identifier that the member is.
+pub(crate) fn ident<const N: usize>(member: Option<&Json>) -> Ident<N>
+    requires { HasFound (Form.Ident N) (member_value member) }
+    ensures { option_and_then string_of (member_value member.entry) ≡ Some result }
 {
-    match ident_or_none(tree, path) {
-        None => unreachable!(),
-        Some(ident) => ident,
-    }
+    ident_or_none(member).unwrap()
 }
 
-/// The category's name at the path.
-pub(crate) fn letters(tree: &Json, path: &str) -> Ident<40>
-    requires { HoldsAt path.now Form.Letters (value_of tree.now) }
-    ensures { text_at path.now (value_of tree.now) ≡ Some result }
+/// The category's name that the member is.
+pub(crate) fn letters(member: Option<&Json>) -> Ident<40>
+    requires { HasFound Form.Letters (member_value member) }
+    ensures { option_and_then string_of (member_value member.entry) ≡ Some result }
 {
-    match chars_at(tree, path) {
-        None => unreachable!(),
-        Some(text) => match Ident::of(text.as_bytes()) {
-            None => unreachable!(),
-            Some(ident) => ident,
-        },
-    }
+    let text = chars(member).unwrap();
+    Ident::of(text.as_bytes()).unwrap()
 }
 
-/// A copy of the text at the path; `None` where nothing is there.
-pub(crate) fn text_or_none(
-    alloc: Global,
-    tree: &Json,
-    path: &str,
-) -> Result<Option<Text>, AllocError>
-    requires { MayHoldAt path.now Form.Text (value_of tree.now) }
-    ensures { IfOk result (λ text. text_at path.now (value_of tree.now) ≡ text) }
+/// A copy of the text that the member is; `None` where there is none.
+pub(crate) fn text_or_none(alloc: Global, member: Option<&Json>) -> Result<Option<Text>, AllocError>
+    requires { MayHaveFound Form.Text (member_value member) }
+    ensures { IfOk result (λ text. option_and_then string_of (member_value member.entry) ≡ text) }
 {
-    match chars_at(tree, path) {
+    match chars(member) {
         None => Ok(None),
         Some(text) => Ok(Some(copied(alloc, text)?)),
     }
@@ -83,15 +80,12 @@ pub(crate) fn copied(alloc: Global, text: &Chars) -> Result<Text, AllocError>
     Ok(Text::new(String::from_str(alloc, text.as_str())?))
 }
 
-/// The three letters at the path.
-pub(crate) fn currency(tree: &Json, path: &str) -> [u8; 3]
-    requires { HoldsAt path.now Form.Currency (value_of tree.now) }
-    ensures { text_at path.now (value_of tree.now) ≡ Some result }
+/// The three letters that the member is.
+pub(crate) fn currency(member: Option<&Json>) -> [u8; 3]
+    requires { HasFound Form.Currency (member_value member) }
+    ensures { option_and_then string_of (member_value member.entry) ≡ Some result }
 {
-    match chars_at(tree, path) {
-        None => unreachable!(),
-        Some(text) => three_bytes(text.as_bytes()),
-    }
+    three_bytes(chars(member).unwrap().as_bytes())
 }
 
 fn three_bytes(bytes: &[u8]) -> [u8; 3]
@@ -104,12 +98,12 @@ fn three_bytes(bytes: &[u8]) -> [u8; 3]
     }
 }
 
-/// The minor units of the amount at the path; `None` where nothing is there.
-pub(crate) fn amount_or_none(tree: &Json, path: &str) -> Option<u64>
-    requires { MayHoldAt path.now Form.Amount (value_of tree.now) }
-    ensures { amount_at path.now (value_of tree.now) ≡ result }
+/// The minor units of the amount that the member is; `None` where there is none.
+pub(crate) fn amount_or_none(member: Option<&Json>) -> Option<u64>
+    requires { MayHaveFound Form.Amount (member_value member) }
+    ensures { option_and_then minor_units (option_and_then numeral_of (member_value member.entry)) ≡ result }
 {
-    match find(tree, path) {
+    match member {
         None => None,
         Some(value) => match value.as_number() {
             None => None,
@@ -118,72 +112,48 @@ pub(crate) fn amount_or_none(tree: &Json, path: &str) -> Option<u64>
     }
 }
 
-/// The minor units of the amount at the path.
-pub(crate) fn amount(tree: &Json, path: &str) -> u64
-    requires { HoldsAt path.now Form.Amount (value_of tree.now) }
-    ensures { amount_at path.now (value_of tree.now) ≡ Some result }
+/// The minor units of the amount that the member is.
+pub(crate) fn amount(member: Option<&Json>) -> u64
+    requires { HasFound Form.Amount (member_value member) }
+    ensures { option_and_then minor_units (option_and_then numeral_of (member_value member.entry)) ≡ Some result }
 {
-    match find(tree, path) {
-        None => unreachable!(),
-        Some(value) => match value.as_number() {
-            None => unreachable!(),
-            Some(numeral) => match minor_of(numeral.as_bytes()) {
-                None => unreachable!(),
-                Some(units) => units,
-            },
-        },
-    }
+    amount_or_none(member).unwrap()
 }
 
-/// True or false at the path; true where nothing is there.
-pub(crate) fn flag_or_true(tree: &Json, path: &str) -> bool
-    requires { MayHoldAt path.now Form.Flag (value_of tree.now) }
-    ensures { unwrap_or (flag_at path.now (value_of tree.now)) true ≡ result }
+/// The true or false that the member is; true where there is none.
+pub(crate) fn flag_or_true(member: Option<&Json>) -> bool
+    requires { MayHaveFound Form.Flag (member_value member) }
+    ensures { unwrap_or (option_and_then boolean_of (member_value member.entry)) true ≡ result }
 {
-    match find(tree, path) {
+    match member {
         None => true,
         Some(value) => value.as_bool().unwrap_or(true),
     }
 }
 
-/// The class at the path.
-pub(crate) fn class(tree: &Json, path: &str) -> Class
-    requires { HoldsAt path.now Form.Class (value_of tree.now) }
-    ensures { text_at path.now (value_of tree.now) ≡ Some (class_name result) }
+/// The class that the member is.
+pub(crate) fn class(member: Option<&Json>) -> Class
+    requires { HasFound Form.Class (member_value member) }
+    ensures { option_and_then string_of (member_value member.entry) ≡ Some (class_name result) }
 {
-    match chars_at(tree, path) {
-        None => unreachable!(),
-        Some(text) => match Class::from_name(text.as_bytes()) {
-            None => unreachable!(),
-            Some(class) => class,
-        },
-    }
+    let text = chars(member).unwrap();
+    Class::from_name(text.as_bytes()).unwrap()
 }
 
-/// The message type at the path.
-pub(crate) fn message_type(tree: &Json, path: &str) -> Kind
-    requires { HoldsAt path.now Form.Kind (value_of tree.now) }
-    ensures { text_at path.now (value_of tree.now) ≡ Some (kind_name result) }
+/// The message type that the member is.
+pub(crate) fn message_type(member: Option<&Json>) -> Kind
+    requires { HasFound Form.Kind (member_value member) }
+    ensures { option_and_then string_of (member_value member.entry) ≡ Some (kind_name result) }
 {
-    match chars_at(tree, path) {
-        None => unreachable!(),
-        Some(text) => match Kind::from_name(text.as_bytes()) {
-            None => unreachable!(),
-            Some(message_type) => message_type,
-        },
-    }
+    let text = chars(member).unwrap();
+    Kind::from_name(text.as_bytes()).unwrap()
 }
 
-/// The type of reconciliation at the path.
-pub(crate) fn period(tree: &Json, path: &str) -> Period
-    requires { HoldsAt path.now Form.Period (value_of tree.now) }
-    ensures { text_at path.now (value_of tree.now) ≡ Some (period_name result) }
+/// The type of reconciliation that the member is.
+pub(crate) fn period(member: Option<&Json>) -> Period
+    requires { HasFound Form.Period (member_value member) }
+    ensures { option_and_then string_of (member_value member.entry) ≡ Some (period_name result) }
 {
-    match chars_at(tree, path) {
-        None => unreachable!(),
-        Some(text) => match Period::from_name(text.as_bytes()) {
-            None => unreachable!(),
-            Some(period) => period,
-        },
-    }
+    let text = chars(member).unwrap();
+    Period::from_name(text.as_bytes()).unwrap()
 }

@@ -9,7 +9,7 @@ ghost use Rattle.sale_msg.specs.Grammar.{IsOutput, texts_of};
 ghost use Rattle.sale_msg.specs.Path.{tree_at};
 ghost use Rattle.sale_msg.specs.Table.{output_rows};
 
-use crate::members::{chars_at, copied, flag_or_true, ident};
+use crate::members::{chars, copied, flag_or_true, ident};
 use crate::path::find;
 use crate::paths;
 use json_text::Json;
@@ -35,9 +35,9 @@ fn output(alloc: Global, part: &Json) -> Result<Output, AllocError>
 {
     let texts = texts_or_none(alloc, part)?;
     Ok(Output {
-        device: ident(part, paths::OUTPUT_DEVICE),
-        qualify: ident(part, paths::OUTPUT_QUALIFY),
-        required: flag_or_true(part, paths::OUTPUT_FLAG),
+        device: ident(find(part, paths::OUTPUT_DEVICE)),
+        qualify: ident(find(part, paths::OUTPUT_QUALIFY)),
+        required: flag_or_true(find(part, paths::OUTPUT_FLAG)),
         texts,
     })
 }
@@ -62,7 +62,7 @@ fn texts(alloc: Global, elements: &[Json]) -> Result<Texts, AllocError>
 {
     let mut texts = Vec::new(alloc);
     for element in elements {
-        if let Some(text) = chars_at(element, paths::TEXT) {
+        if let Some(text) = chars(find(element, paths::TEXT)) {
             texts.push(copied(alloc, text)?)?;
         }
     }

@@ -1,5 +1,5 @@
-//! The members of a till's message by their paths, each stated once: the tables check them, the reader reads them, and faults
-//! have them.
+//! The members of a till's message by their paths, each stated once: the tables and faults have them, and the reader looks
+//! for a few by them.
 //!
 //! A path is names divided by points, from the body object on: the object in which the header and a body are. The members
 //! of an object within a body that has a table of its own have a path from that object on too.
@@ -122,17 +122,7 @@ pub(crate) const PRINT_OUTPUT: &str = "PrintRequest.PrintOutput";
 
 pub(crate) const PRINT_QUALIFIER: &str = "PrintRequest.PrintOutput.DocumentQualifier";
 
-// From a header on.
-
-pub(crate) const CLASS: &str = "MessageClass";
-
-pub(crate) const CATEGORY: &str = "MessageCategory";
-
-pub(crate) const TYPE: &str = "MessageType";
-
-pub(crate) const DEVICE: &str = "DeviceID";
-
-// From a header or a reference on.
+// From a reference on.
 
 pub(crate) const SERVICE: &str = "ServiceID";
 

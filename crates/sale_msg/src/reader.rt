@@ -70,10 +70,11 @@ fn read_body(alloc: Global, header: &Header, body: &Json) -> Result<SaleRequest,
     let Some(category) = Category::from_name(header.category.as_bytes()) else {
         return Err(MessageError::Fault(SaleFault::Unserved { header: *header }));
     };
-    if let Err(flaw) = check_body(category, body) {
-        return Err(MessageError::Fault(flaw.fault(*header)));
-    }
-    match request(alloc, category, body) {
+    let found = match check_body(category, body) {
+        Ok(found) => found,
+        Err(flaw) => return Err(MessageError::Fault(flaw.fault(*header))),
+    };
+    match request(alloc, category, &found) {
         Ok(request) => Ok(request),
         Err(_) => Err(MessageError::Memory),
     }

@@ -1,25 +1,35 @@
 //! The objects within a body that have a table of their own.
 ghost use Rattle.std.specs.Prelude.{◌≡◌, map, unwrap_or, ◌∷◌, []};
+ghost use Rattle.json_text.specs.Tree.{Tree};
 ghost use Rattle.json_text.specs.ValueOf.{value_of};
 ghost use Rattle.sale_msg.specs.Grammar.{parts_of, listed};
+ghost use Rattle.sale_msg.specs.Table.{rows_of};
+ghost use Rattle.sale_msg.specs.inner.RowValue.{AreFound, member_value};
 
-use crate::path::find;
-use crate::{Category, paths};
+use crate::Category;
+use crate::check::RowMembers;
+use crate::members::member;
 use json_text::Json;
 use std::slice;
 
+/// The number of the row of a TransactionStatus' reference.
+pub(crate) const STATUS_REFERENCE: usize = 3;
+
+/// The number of the row of a Display's outputs.
+const DISPLAY_OUTPUT: usize = 2;
+
 /// The outputs of a Display, and the reference of a TransactionStatus.
-pub(crate) fn parts(category: Category, body: &Json) -> &[Json]
-    ensures { map value_of result.now ≡ parts_of category (value_of body.now) }
+pub(crate) fn parts<'a>(category: Category, found: &RowMembers<'a>) -> &'a [Json]
+    ensures { (body : Tree) → AreFound (rows_of category) body (map member_value found.now.items) → map value_of result.now ≡ parts_of category body }
 {
     match category {
         Category::TransactionStatus => {
-            match find(body, paths::STATUS_REFERENCE) {
+            match member(found, STATUS_REFERENCE) {
                 None => &[],
                 Some(reference) => slice::from_ref(reference),
             }
         }
-        Category::Display => match find(body, paths::DISPLAY_OUTPUT) {
+        Category::Display => match member(found, DISPLAY_OUTPUT) {
             None => &[],
             Some(output) => elements_of(output),
         },

@@ -1,13 +1,16 @@
 -- Inner: the rows of the program's tables as plain data.
-use Rattle.std.specs.Prelude.{◌≡◌, ℕ, ◌+◌, ◌≤◌, ◌&&◌, nat_le, Bool, true, List, [], ◌∷◌, ◌++◌, Option, Some, option_map, map, length, get_or, bytes_eq}
+use Rattle.std.specs.Prelude.{◌≡◌, ℕ, ◌+◌, ◌≤◌, ◌&&◌, nat_le, Bool, true, List, [], ◌∷◌, ◌++◌, Option, Some, option_map, map, length, get_or, bytes_eq, All}
 use Rattle.std.specs.Borrow.{Bor}
 use Rattle.std.specs.Cmp.Lexicographic.{pointwise}
 use Rattle.std.specs.List.{list_all, slice_split}
 use Rattle.json_text.specs.Tree.{Tree}
 use Rattle.json_text.specs.ValueOf.{value_of}
 use Rattle.json_text.specs.declared.tree.Json.{Json}
-use Rattle.sale_msg.specs.Path.{is_point, tree_at, tree_under}
-use Rattle.sale_msg.specs.Table.{MemberRow}
+use Rattle.sale_msg.specs.Path.{is_point, tree_at}
+use Rattle.sale_msg.specs.Table.{MemberRow, part_rows, rows_of}
+use Rattle.sale_msg.specs.Flaw.{AreMet}
+use Rattle.sale_msg.specs.Grammar.{parts_of}
+use Rattle.sale_msg.specs.declared.category.Category.{Category}
 use Rattle.sale_msg.specs.declared.table.MemberRow.{MemberRow as ProgramRow}
 
 -- the row as plain data
@@ -46,6 +49,16 @@ member_value member = option_map (λ v. value_of v.now) member
 -- the table's object, and then what is at the path of each row
 abbrev pub values_at : List MemberRow → Tree → List (Option Tree)
 values_at table tree = Some tree ∷ map (λ row. tree_at row.within tree) table
+
+-- these were found in an object that meets each row of the table
+pub record AreFound (table : List MemberRow) (tree : Tree) (values : List (Option Tree)) : Type 0 where
+  pub met : AreMet table tree
+  pub are : values ≡ values_at table tree
+
+-- these were found in a body object that holds each member of this category's tables
+pub record IsBodyFound (category : Category) (body : Tree) (values : List (Option Tree)) : Type 0 where
+  pub found : AreFound (rows_of category) body values
+  pub parts : All (AreMet (part_rows category)) (parts_of category body)
 
 -- the program's rows are this table, its members can be looked for by them, and their paths fit a fault
 pub record IsTableOf (rows : List ProgramRow) (table : List MemberRow) : Type 0 where

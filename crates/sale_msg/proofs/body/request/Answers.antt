@@ -10,4 +10,5 @@ use Rattle.sale_msg.proofs.body.request.Goals as goal
 pub outputs-requires : goal.outputs-requires
 outputs-requires c =
     each_back (AreMet output_rows) value_of c.parts.result.now
-    (outputs_met c.args.category (value_of c.args.body.now) (map value_of c.parts.result.now) c.in-Display.is c.requires c.parts.ensures)
+    (outputs_met c.args.category c.requires.0 (map value_of c.parts.result.now) c.in-Display.is c.requires.1.parts
+    (c.parts.ensures c.requires.0 c.requires.1.found))

@@ -14,14 +14,14 @@ pub loop-part-preserved : goal.loop-part-preserved
 loop-part-preserved c =
     rw add-one
     (each_next (map row_value c.args.rows.now) value_of c.args.parts.now (map value_of c.args.parts.now) c.loop-part.part-index c.part-item.result c.loop-part-test.true c.part-item.is
-    c.in_ok-check.ensures c.loop-part.invariant)
+    c.in_ok-find_members.ensures.met c.loop-part.invariant)
 
-pub returns-in_err-check : goal.returns-in_err-check
-returns-in_err-check c =
+pub returns-in_err-find_members : goal.returns-in_err-find_members
+returns-in_err-find_members c =
     let p = err_from_is_err_and c.from_residual.result c.from_residual.ensures.1 in
     rw (p.1, p.2)
-    (each_flaw (map row_value c.args.rows.now) value_of c.args.parts.now (map value_of c.args.parts.now) c.loop-part.part-index c.part-item.result c.in_err-check.field-0.0
-    c.loop-part-test.true c.part-item.is c.in_err-check.ensures c.loop-part.invariant)
+    (each_flaw (map row_value c.args.rows.now) value_of c.args.parts.now (map value_of c.args.parts.now) c.loop-part.part-index c.part-item.result c.in_err-find_members.field-0.0
+    c.loop-part-test.true c.part-item.is c.in_err-find_members.ensures c.loop-part.invariant)
 
 pub returns : goal.returns
 returns c =

@@ -43,8 +43,8 @@ returns-in_err-member c =
     c.loop-row-test.true c.in_err-member.ensures c.loop-row.invariant.leads)
 
 pub returns : goal.returns
-returns c = (
-  leads_end (map row_value c.args.rows.now) (value_of c.args.tree.now) (map row_value (drop c.loop-row.row-index c.args.rows.now))
-      (ap (map row_value) (drop_all c.loop-row.row-index c.args.rows.now c.loop-row-test.false)) c.loop-row.invariant.leads,
-  values_end (map member_value c.loop-row.found.items) c.args.rows.now c.loop-row.row-index (value_of c.args.tree.now) c.loop-row-test.false c.loop-row.invariant.found,
-)
+returns c = record {
+  met = leads_end (map row_value c.args.rows.now) (value_of c.args.tree.now) (map row_value (drop c.loop-row.row-index c.args.rows.now))
+      (ap (map row_value) (drop_all c.loop-row.row-index c.args.rows.now c.loop-row-test.false)) c.loop-row.invariant.leads;
+  are = values_end (map member_value c.loop-row.found.items) c.args.rows.now c.loop-row.row-index (value_of c.args.tree.now) c.loop-row-test.false c.loop-row.invariant.found;
+}

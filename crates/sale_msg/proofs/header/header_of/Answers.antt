@@ -1,54 +1,43 @@
 -- Proof of the contract of `header_of`.
-use Rattle.std.proofs.Common.{◌∙◌, codes, sym, refl}
-use Rattle.json_text.specs.ValueOf.{value_of}
-use Rattle.sale_msg.specs.declared.table.Form.TheVariants.{Object}
-use Rattle.sale_msg.specs.declared.table.Presence.TheVariants.{ByHeader}
-use Rattle.sale_msg.proofs.PathLemmas.{text_within, value_at_within}
-use Rattle.sale_msg.proofs.RowLemmas.{may_hold_as, optional_as, required_as, required_there}
+use Rattle.std.proofs.Common.{arith}
+use Rattle.sale_msg.specs.Table.{header_rows}
+use Rattle.sale_msg.specs.declared.table.Envelope.TheVariants as envelopes
+use Rattle.sale_msg.specs.declared.table.Presence.TheVariants.{Optional, ByHeader}
+use Rattle.sale_msg.proofs.RowLemmas.{may_be_found, required_found, row_found}
 use Rattle.sale_msg.proofs.header.header_of.Goals as goal
 
-pub unreachable-requires : goal.unreachable-requires
-unreachable-requires c =
-    required_there (codes "MessageHeader") (codes "MessageHeader") Object (value_of c.args.body.now) c.requires.0 c.in-None.ensures
+pub class-requires : goal.class-requires
+class-requires c =
+    required_found _ _ _ c.requires.0 _ c.requires.1.met.1.1.0 (row_found (header_rows envelopes.Response) c.requires.0 _ 3 _ c.requires.1 c.member.ensures)
 
-pub header_in-requires : goal.header_in-requires
-header_in-requires c =
-    let body = value_of c.args.body.now in
-    let object = value_of c.in-Some.object.now in
-    let there = sym c.in-Some.ensures in (
-      required_as _ _ _ _ _ body object c.requires.1.1.0 (value_at_within (codes "MessageHeader.MessageClass") (codes "MessageHeader") (codes "MessageClass") body object refl there),
-      (
-        required_as _ _ _ _ _ body object c.requires.1.1.1.0 (value_at_within (codes "MessageHeader.MessageCategory") (codes "MessageHeader") (codes "MessageCategory") body object refl there),
-        (
-          required_as _ _ _ _ _ body object c.requires.1.1.1.1.0 (value_at_within (codes "MessageHeader.MessageType") (codes "MessageHeader") (codes "MessageType") body object refl there),
-          (
-            may_hold_as _ _ _ _ ByHeader _ body object c.requires.1.1.1.1.1.0 (value_at_within (codes "MessageHeader.ServiceID") (codes "MessageHeader") (codes "ServiceID") body object refl there),
-            (
-              optional_as _ _ _ _ _ body object c.requires.1.1.1.1.1.1.0 (value_at_within (codes "MessageHeader.DeviceID") (codes "MessageHeader") (codes "DeviceID") body object refl there),
-              (
-                required_as _ _ _ _ _ body object c.requires.1.1.1.1.1.1.1.0 (value_at_within (codes "MessageHeader.SaleID") (codes "MessageHeader") (codes "SaleID") body object refl there),
-                (
-                  required_as _ _ _ _ _ body object c.requires.1.1.1.1.1.1.1.1.0 (value_at_within (codes "MessageHeader.POIID") (codes "MessageHeader") (codes "POIID") body object refl there),
-                  tt,
-                ),
-              ),
-            ),
-          ),
-        ),
-      ),
-    )
+pub letters-requires : goal.letters-requires
+letters-requires c =
+    required_found _ _ _ c.requires.0 _ c.requires.1.met.1.1.1.0 (row_found (header_rows envelopes.Response) c.requires.0 _ 4 _ c.requires.1 c.member-2.ensures)
 
-pub returns : goal.returns
-returns c =
-    let body = value_of c.args.body.now in
-    let object = value_of c.in-Some.object.now in
-    let there = sym c.in-Some.ensures in
-    record {
-      class = text_within (codes "MessageHeader.MessageClass") (codes "MessageHeader") (codes "MessageClass") body object refl there ∙ c.header_in.ensures.class;
-      category = text_within (codes "MessageHeader.MessageCategory") (codes "MessageHeader") (codes "MessageCategory") body object refl there ∙ c.header_in.ensures.category;
-      message_type = text_within (codes "MessageHeader.MessageType") (codes "MessageHeader") (codes "MessageType") body object refl there ∙ c.header_in.ensures.message_type;
-      service = text_within (codes "MessageHeader.ServiceID") (codes "MessageHeader") (codes "ServiceID") body object refl there ∙ c.header_in.ensures.service;
-      device = text_within (codes "MessageHeader.DeviceID") (codes "MessageHeader") (codes "DeviceID") body object refl there ∙ c.header_in.ensures.device;
-      sale = text_within (codes "MessageHeader.SaleID") (codes "MessageHeader") (codes "SaleID") body object refl there ∙ c.header_in.ensures.sale;
-      poi = text_within (codes "MessageHeader.POIID") (codes "MessageHeader") (codes "POIID") body object refl there ∙ c.header_in.ensures.poi;
-    }
+pub message_type-requires : goal.message_type-requires
+message_type-requires c =
+    required_found _ _ _ c.requires.0 _ c.requires.1.met.1.1.1.1.0 (row_found (header_rows envelopes.Response) c.requires.0 _ 5 _ c.requires.1 c.member-3.ensures)
+
+pub ident_or_none-requires : goal.ident_or_none-requires
+ident_or_none-requires c = (
+  omega arith,
+  may_be_found _ _ ByHeader _ c.requires.0 _ c.requires.1.met.1.1.1.1.1.0 (row_found (header_rows envelopes.Response) c.requires.0 _ 6 _ c.requires.1 c.member-4.ensures),
+)
+
+pub ident_or_none-requires-2 : goal.ident_or_none-requires-2
+ident_or_none-requires-2 c = (
+  omega arith,
+  may_be_found _ _ Optional _ c.requires.0 _ c.requires.1.met.1.1.1.1.1.1.0 (row_found (header_rows envelopes.Response) c.requires.0 _ 7 _ c.requires.1 c.member-5.ensures),
+)
+
+pub ident-requires : goal.ident-requires
+ident-requires c = (
+  omega arith,
+  required_found _ _ _ c.requires.0 _ c.requires.1.met.1.1.1.1.1.1.1.0 (row_found (header_rows envelopes.Response) c.requires.0 _ 8 _ c.requires.1 c.member-6.ensures),
+)
+
+pub ident-requires-2 : goal.ident-requires-2
+ident-requires-2 c = (
+  omega arith,
+  required_found _ _ _ c.requires.0 _ c.requires.1.met.1.1.1.1.1.1.1.1.0 (row_found (header_rows envelopes.Response) c.requires.0 _ 9 _ c.requires.1 c.member-7.ensures),
+)
