@@ -1,165 +1,12 @@
 //! Openings of the journal over the site in memory: files that others wrote, each call on the disk that fails, and each stop of the power.
 //!
-//! A row is the lines of a script, and those of what its runs give, after `> `: the log, and the statuses of the runs. A file
-//! is on the disk before the first run where the row begins with `file`. Its words are bytes in hexadecimal, `xN` for N zeros,
-//! and `T1` or `T2` for a slot with an open Intent of that terminal. With `stop N` the power fails after N calls.
-ghost use Rattle.std.specs.Prelude.{◌≡◌, [], IfOk};
-ghost use Rattle.sim_site.specs.Sites.{log_of};
-
-use crate::tables::{halves, push_form};
-use gw_run::{run, write_log};
-use gw_site::MemSink;
+//! `gateway_play` says how a row is written.
+use gateway_play::{check_file_row, check_runs, push_run, site_of};
+use row_texts::{halves, push_form};
 use sim_script::ImageKind;
-use sim_site::SimSite;
-use std::alloc::{AllocError, Global};
+use std::alloc::Global;
 use std::process::Abort;
-use std::str;
 use std::test::Fail;
-
-/// The fields of an open Intent of a terminal, each in hexadecimal and with its size.
-const INTENT: &str =
-    "a5 1;01 1;01 1;025331 41;0254% 41;0131 11;0141 81;0132 36;000000001099 6;0978 2;000000 3;ffffffff 4;00 8;00 20";
-
-/// Appends so many zeros.
-fn push_zeros(bytes: &mut Vec<u8>, count: usize) -> Result<(), AllocError> {
-    for _ in 0..count {
-        bytes.push(0)?;
-    }
-    Ok(())
-}
-
-/// Appends a field: its bytes, and zeros up to its size.
-fn push_field(alloc: Global, file: &mut Vec<u8>, field: &str) -> Result<(), Fail> {
-    let (digits, size) = halves(field);
-    let bytes = hex::decode(alloc, digits)?;
-    file.extend_from_slice(&bytes)?;
-    push_zeros(file, size.parse::<usize>()?.saturating_sub(bytes.len()))?;
-    Ok(())
-}
-
-/// Appends a slot with an open Intent of the terminal whose name ends in this digit.
-fn push_intent(alloc: Global, file: &mut Vec<u8>, digit: &str) -> Result<(), Fail> {
-    let mut fields = String::new(alloc);
-    push_form(&mut fields, INTENT, &[digit])?;
-    for field in fields.split(';') {
-        push_field(alloc, file, field)?;
-    }
-    Ok(())
-}
-
-/// Appends what a word of a file says.
-fn push_word(alloc: Global, file: &mut Vec<u8>, word: &str) -> Result<(), Fail> {
-    match word {
-        "T1" => push_intent(alloc, file, "31"),
-        "T2" => push_intent(alloc, file, "32"),
-        _ => match word.strip_prefix("x") {
-            Some(count) => {
-                push_zeros(file, count.parse::<usize>()?)?;
-                Ok(())
-            }
-            None => {
-                file.extend_from_slice(&hex::decode(alloc, word)?)?;
-                Ok(())
-            }
-        },
-    }
-}
-
-/// The file of these words.
-fn file_of(alloc: Global, words: &str) -> Result<Vec<u8>, Fail> {
-    let mut file = Vec::new(alloc);
-    for word in words.split_whitespace() {
-        push_word(alloc, &mut file, word)?;
-    }
-    Ok(file)
-}
-
-/// A site that plays this script, with an empty log.
-fn new_site(alloc: Global, script: &str) -> Result<SimSite, Fail>
-    ensures { IfOk result (λ site. log_of site ≡ []) }
-{
-    match SimSite::from_script(alloc, script.as_bytes()) {
-        Ok(site) => Ok(site),
-        Err(_) => Err(Fail::from("no script")),
-    }
-}
-
-/// A site that plays this script, and holds the file of these words where there are any.
-pub(crate) fn site_of(alloc: Global, script: &str, words: &str) -> Result<SimSite, Fail> {
-    let mut site = new_site(alloc, script)?;
-    if !words.is_empty() {
-        site.holding(alloc, &file_of(alloc, words)?)?;
-    }
-    Ok(site)
-}
-
-/// Appends the status of a run over the site.
-fn push_run(alloc: Global, site: &mut SimSite, statuses: &mut String) -> Result<(), Fail> {
-    let setup = site.setup(alloc)?;
-    let status = run(alloc, &setup, site, u64::MAX);
-    statuses.push_str(&format!(in alloc; " {status}")?)?;
-    Ok(())
-}
-
-/// Runs until the power no longer fails. The statuses of the runs; no row has more than three.
-fn run_all(alloc: Global, site: &mut SimSite) -> Result<String, Fail> {
-    let mut statuses = String::new(alloc);
-    push_run(alloc, site, &mut statuses)?;
-    for _ in 0..2 {
-        if site.crashed() {
-            site.restart(alloc)?;
-            push_run(alloc, site, &mut statuses)?;
-        }
-    }
-    Ok(statuses)
-}
-
-/// The runs over a site leave this log, and end with these statuses.
-fn check_runs(
-    rt: &impl Abort,
-    alloc: Global,
-    site: &mut SimSite,
-    row: &str,
-    log: &str,
-    statuses: &str,
-) -> Result<(), Fail> {
-    let ended = run_all(alloc, site)?;
-    let mut out = MemSink::new(alloc, None, 0);
-    match write_log(alloc, site.log().as_slice(), &mut out) {
-        Ok(()) => {}
-        Err(_) => return Err(Fail::from("the log isn't written")),
-    }
-    assert_eq!(rt; str::from_utf8(out.bytes().as_slice())?, log, "of {row}");
-    assert_eq!(rt; ended.as_str(), statuses, "of {row}");
-    Ok(())
-}
-
-/// Plays a row.
-pub(crate) fn check_row(rt: &impl Abort, alloc: Global, row: &str) -> Result<(), Fail> {
-    let mut script = String::new(alloc);
-    let mut log = String::new(alloc);
-    let mut words = String::new(alloc);
-    let mut statuses = String::new(alloc);
-    let mut calls = None;
-    for line in row.split('\n') {
-        if let Some(count) = line.strip_prefix("stop ") {
-            calls = Some(count.parse::<u64>()?);
-        } else if let Some(file) = line.strip_prefix("file ") {
-            words.push_str(file)?;
-        } else if let Some(given) = line.strip_prefix("> statuses") {
-            statuses.push_str(given)?;
-        } else if let Some(logged) = line.strip_prefix("> ") {
-            push_form(&mut log, "%\n", &[logged])?;
-        } else {
-            push_form(&mut script, "%\n", &[line])?;
-        }
-    }
-    let mut site = site_of(alloc, &script, &words)?;
-    if let Some(calls) = calls {
-        site.stop_after(calls, ImageKind::Old);
-    }
-    check_runs(rt, alloc, &mut site, row, &log, &statuses)
-}
 
 /// Openings: of no file, of files that others wrote, and with looks that fail at a first and at a second one.
 const OPENINGS: &str = "\
@@ -365,7 +212,7 @@ tick
 #[test]
 fn openings(rt: HostRuntime) -> Result<(), Fail> {
     for row in OPENINGS.split("\n\n") {
-        check_row(&rt, rt.alloc(), row)?;
+        check_file_row(rt.alloc(), row)?;
     }
     Ok(())
 }
@@ -377,13 +224,7 @@ const BEGINS: &str = "start\nsynced\nwrote 0 00\nsynced\nat 0\nstop\n";
 const READS: &str = "start\nsynced\nat 0\nstop\n";
 
 /// The power fails after so many calls and leaves a file of this length; then all goes well.
-fn check_stop(
-    rt: &impl Abort,
-    alloc: Global,
-    row: &str,
-    image: ImageKind,
-    length: &str,
-) -> Result<(), Fail> {
+fn check_stop(alloc: Global, row: &str, image: ImageKind, length: &str) -> Result<(), Fail> {
     let (file, rest) = row.split_once(" | ").ok_or("no file")?;
     let (calls, rest) = rest.split_once(" | ").ok_or("no calls")?;
     let (status, rest) = rest.split_once(" | ").ok_or("no status")?;
@@ -401,7 +242,7 @@ fn check_stop(
     let words = if file == "-" { "" } else { file };
     let mut site = site_of(alloc, "", words)?;
     site.stop_after(calls.parse::<u64>()?, image);
-    check_runs(rt, alloc, &mut site, row, &log, &statuses)
+    check_runs(alloc, &mut site, row, &log, &statuses)
 }
 
 /// The file, after how many calls the power fails, the status of the run in which it does, the log up to there, and how long the
@@ -422,13 +263,13 @@ T1 00 | 1 | 74 | power 257,start | 257 257 257
 T1 00 | 2 | 74 | power 257,start,synced | 257 257 257";
 
 /// The power fails after the calls of a row, in each way.
-fn check_stops(rt: &impl Abort, alloc: Global, row: &str) -> Result<(), Fail> {
+fn check_stops(alloc: Global, row: &str) -> Result<(), Fail> {
     let (_, lengths) = row.rsplit_once("| ").ok_or("no lengths")?;
     let (old, rest) = halves(lengths);
     let (new, junk) = halves(rest);
-    check_stop(rt, alloc, row, ImageKind::Old, old)?;
-    check_stop(rt, alloc, row, ImageKind::New, new)?;
-    check_stop(rt, alloc, row, ImageKind::Junk(0xA5), junk)
+    check_stop(alloc, row, ImageKind::Old, old)?;
+    check_stop(alloc, row, ImageKind::New, new)?;
+    check_stop(alloc, row, ImageKind::Junk(0xA5), junk)
 }
 
 /// Files, and after how many calls the power doesn't fail any more before the script's end.
@@ -448,7 +289,7 @@ fn check_whole(rt: &impl Abort, alloc: Global, words: &str, calls: u64) -> Resul
 #[test]
 fn every_stop_of_an_opening(rt: HostRuntime) -> Result<(), Fail> {
     for row in STOPS.split('\n') {
-        check_stops(&rt, rt.alloc(), row)?;
+        check_stops(rt.alloc(), row)?;
     }
     for (words, calls) in WHOLE {
         check_whole(&rt, rt.alloc(), words, calls)?;

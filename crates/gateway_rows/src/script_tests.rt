@@ -1,8 +1,8 @@
 //! Rows of scripts: what each line does, and which lines are refused.
-use crate::replay::{check, compare, ended};
-use crate::tables::{check_rows, halves, push_form};
+use gateway_play::{check, check_rows, compare, ended};
 use gw_base::Bytes;
 use gw_site::{MemSink, MemSource};
+use row_texts::{halves, push_form};
 use std::alloc::{AllocError, Global};
 use std::process::Abort;
 use std::test::Fail;
@@ -58,16 +58,16 @@ const TURNS: [(&str, &str); 11] = [
 #[test]
 fn lines_and_their_turns(rt: HostRuntime) -> Result<(), Fail> {
     for (script, output) in TURNS {
-        check(&rt, rt.alloc(), script, output, 0)?;
+        check(rt.alloc(), script, output, 0)?;
     }
     Ok(())
 }
 
 /// A script is refused, and this line is reported.
-fn check_refused(rt: &impl Abort, alloc: Global, script: &str, line: &str) -> Result<(), Fail> {
+fn check_refused(alloc: Global, script: &str, line: &str) -> Result<(), Fail> {
     let mut output = String::new(alloc);
     push_form(&mut output, "script %\nstatus 65\n", &[line])?;
-    check(rt, alloc, script, &output, 65)
+    check(alloc, script, &output, 65)
 }
 
 /// Lines of another form.
@@ -134,26 +134,26 @@ const WRONG_PAIRS: &str = "\
 2 terminal T1 EUR 123456 186 131;terminal T1 EUR 123456 186 131";
 
 /// A line as the third of a script is of another form.
-fn check_wrong(rt: &impl Abort, alloc: Global, line: &str) -> Result<(), Fail> {
+fn check_wrong(alloc: Global, line: &str) -> Result<(), Fail> {
     let mut script = String::new(alloc);
     push_form(&mut script, "\n# line 3\n%\n", &[line])?;
-    check_refused(rt, alloc, &script, "3")
+    check_refused(alloc, &script, "3")
 }
 
 /// A script is refused: a row is the number of the line that is reported, and the lines, divided by `;`.
-fn check_lines(rt: &impl Abort, alloc: Global, row: &str) -> Result<(), Fail> {
+fn check_lines(alloc: Global, row: &str) -> Result<(), Fail> {
     let (number, lines) = halves(row);
     let mut script = String::new(alloc);
     for line in lines.split(';') {
         push_form(&mut script, "%\n", &[line])?;
     }
-    check_refused(rt, alloc, &script, number)
+    check_refused(alloc, &script, number)
 }
 
 /// Scripts are refused, one of each row.
-fn check_table(rt: &impl Abort, alloc: Global, table: &str) -> Result<(), Fail> {
+fn check_table(alloc: Global, table: &str) -> Result<(), Fail> {
     for row in table.split('\n') {
-        check_lines(rt, alloc, row)?;
+        check_lines(alloc, row)?;
     }
     Ok(())
 }
@@ -161,9 +161,9 @@ fn check_table(rt: &impl Abort, alloc: Global, table: &str) -> Result<(), Fail> 
 #[test]
 fn lines_of_another_form(rt: HostRuntime) -> Result<(), Fail> {
     for line in WRONG.split('\n') {
-        check_wrong(&rt, rt.alloc(), line)?;
+        check_wrong(rt.alloc(), line)?;
     }
-    check_table(&rt, rt.alloc(), WRONG_PAIRS)
+    check_table(rt.alloc(), WRONG_PAIRS)
 }
 
 #[test]
@@ -171,15 +171,10 @@ fn a_comment_that_is_no_text(rt: HostRuntime) -> Result<(), Fail> {
     let mut input = MemSource::new(Bytes::copied(rt.alloc(), b"tick\n# \xff\n")?, None);
     let mut out = MemSink::new(rt.alloc(), None, 0);
     let status = ended(rt.alloc(), "replay", &mut input, &mut out)?;
-    compare(
-        &rt,
-        "a comment",
-        (status, &out),
-        (65, "script 2\nstatus 65\n"),
-    )
+    compare("a comment", (status, &out), (65, "script 2\nstatus 65\n"))
 }
 
-/// Lines of a terminal and failing calls, in the form that `tables` says.
+/// Lines of a terminal and failing calls, in the form that `row_texts` says.
 const TERMINAL: &str = "\
 # Nothing comes of a terminal that the setup lacks.
 name A
@@ -285,7 +280,7 @@ tick
 
 #[test]
 fn lines_of_a_terminal_and_failing_calls(rt: HostRuntime) -> Result<(), Fail> {
-    check_rows(&rt, rt.alloc(), "> start", TERMINAL)
+    check_rows(rt.alloc(), "> start", TERMINAL)
 }
 
 /// A line with so many times a text gets 0, and one with one more 65.
@@ -509,7 +504,7 @@ tick
 > status 74";
 
 /// Plays a row of such scripts, whose last line is its status.
-fn check_failing(rt: &impl Abort, alloc: Global, row: &str) -> Result<(), Fail> {
+fn check_failing(alloc: Global, row: &str) -> Result<(), Fail> {
     let mut script = String::new(alloc);
     let mut output = String::new(alloc);
     for line in row.split('\n') {
@@ -519,13 +514,13 @@ fn check_failing(rt: &impl Abort, alloc: Global, row: &str) -> Result<(), Fail> 
         }
     }
     let (_, status) = row.rsplit_once(' ').ok_or("no status")?;
-    check(rt, alloc, &script, &output, status.parse::<u8>()?)
+    check(alloc, &script, &output, status.parse::<u8>()?)
 }
 
 #[test]
 fn disks_and_power_that_fail(rt: HostRuntime) -> Result<(), Fail> {
     for row in FAILING.split("\n\n") {
-        check_failing(&rt, rt.alloc(), row)?;
+        check_failing(rt.alloc(), row)?;
     }
     Ok(())
 }

@@ -1,6 +1,5 @@
 //! The mode `serve` over the site in memory: configurations, words, journals that others wrote, and streams that fail.
-use crate::opening_tests::site_of;
-use crate::replay::{compare, words_of};
+use gateway_play::{compare, site_of, words_of};
 use gw_base::Bytes;
 use gw_run::{top, write_log};
 use gw_site::{MemSink, MemSource, NoSite, Site};
@@ -37,7 +36,6 @@ const OPENED_LOG: &str = "start\nsynced\nwrote 0 00\nsynced\n";
 
 /// The top call with these words over a site, with this configuration, ends with this status and writes this.
 fn check_over<S: Site>(
-    rt: &impl Abort,
     alloc: Global,
     words: &str,
     site: &mut S,
@@ -48,7 +46,7 @@ fn check_over<S: Site>(
     let mut input = MemSource::new(Bytes::copied(alloc, document.as_bytes())?, None);
     let mut out = MemSink::new(alloc, None, 0);
     let status = top(alloc, &line, site, &mut input, &mut out);
-    compare(rt, words, (status, &out), wanted)
+    compare(words, (status, &out), wanted)
 }
 
 /// The log of a site is this.
@@ -74,7 +72,7 @@ fn check_served(
     let (script, file) = held;
     let (status, output, log) = wanted;
     let mut site = site_of(alloc, script, file)?;
-    check_over(rt, alloc, words, &mut site, document, (status, output))?;
+    check_over(alloc, words, &mut site, document, (status, output))?;
     check_log(rt, alloc, &site, log)
 }
 
@@ -166,7 +164,6 @@ fn journals_that_are_refused(rt: HostRuntime) -> Result<(), Fail> {
 fn a_site_that_fails(rt: HostRuntime) -> Result<(), Fail> {
     let alloc = rt.alloc();
     check_over(
-        &rt,
         alloc,
         "serve",
         &mut NoSite::new(),
@@ -239,11 +236,11 @@ fn a_read_or_a_write_fails_in_serve(rt: HostRuntime) -> Result<(), Fail> {
     let mut input = MemSource::new(Bytes::copied(alloc, USUAL.as_bytes())?, Some(1));
     let mut out = MemSink::new(alloc, None, 0);
     let status = top(alloc, &words, &mut site, &mut input, &mut out);
-    compare(&rt, "a read", (status, &out), (66, "input\nstatus 66\n"))?;
+    compare("a read", (status, &out), (66, "input\nstatus 66\n"))?;
     check_log(&rt, alloc, &site, "")?;
     let mut input = MemSource::new(Bytes::copied(alloc, USUAL.as_bytes())?, None);
     let mut out = MemSink::new(alloc, Some(0), 3);
     let status = top(alloc, &words, &mut site, &mut input, &mut out);
-    compare(&rt, "a write", (status, &out), (73, "sta"))?;
+    compare("a write", (status, &out), (73, "sta"))?;
     check_log(&rt, alloc, &site, OPENED_LOG)
 }

@@ -1,6 +1,6 @@
 //! Scripts with more than one terminal.
-use crate::replay::{check, replayed};
-use crate::tables::push_form;
+use gateway_play::{check, replayed};
+use row_texts::push_form;
 use std::alloc::{AllocError, Global};
 use std::str;
 use std::test::Fail;
@@ -81,12 +81,6 @@ fn terminals(alloc: Global, count: u32) -> Result<String, AllocError> {
 fn at_most_32_terminals(rt: HostRuntime) -> Result<(), Fail> {
     let alloc = rt.alloc();
     let log = "start\nsynced\nwrote 0 00\nsynced\nat 0\nstop\nstatus 0\n";
-    check(&rt, alloc, &terminals(alloc, 32)?, log, 0)?;
-    check(
-        &rt,
-        alloc,
-        &terminals(alloc, 33)?,
-        "script 33\nstatus 65\n",
-        65,
-    )
+    check(alloc, &terminals(alloc, 32)?, log, 0)?;
+    check(alloc, &terminals(alloc, 33)?, "script 33\nstatus 65\n", 65)
 }

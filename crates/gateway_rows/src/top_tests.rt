@@ -1,5 +1,5 @@
 //! Rows of the top call, and streams that fail.
-use crate::replay::{check, compare, ended};
+use gateway_play::{check, compare, ended};
 use gw_base::Bytes;
 use gw_site::{MemSink, MemSource, Source};
 use std::alloc::Global;
@@ -29,10 +29,9 @@ const REJECT_OUTPUT: &str = "start\nsynced\nwrote 0 00\nsynced\nat 0\nopen 1\nat
 
 #[test]
 fn rows(rt: HostRuntime) -> Result<(), Fail> {
-    check(&rt, rt.alloc(), STATUS_SCRIPT, STATUS_OUTPUT, 0)?;
-    check(&rt, rt.alloc(), "open 1\nsay 1 {}\n", REJECT_OUTPUT, 0)?;
+    check(rt.alloc(), STATUS_SCRIPT, STATUS_OUTPUT, 0)?;
+    check(rt.alloc(), "open 1\nsay 1 {}\n", REJECT_OUTPUT, 0)?;
     check(
-        &rt,
         rt.alloc(),
         "open 1\nsya 1 {}\n",
         "script 2\nstatus 65\n",
@@ -66,7 +65,7 @@ fn check_words(rt: &impl Abort, alloc: Global, words: &str) -> Result<(), Fail> 
     let mut input = MemSource::new(Bytes::copied(alloc, b"open 1\n")?, Some(0));
     let mut out = MemSink::new(alloc, None, 0);
     let status = ended(alloc, words, &mut input, &mut out)?;
-    compare(rt, words, (status, &out), (64, "words\nstatus 64\n"))?;
+    compare(words, (status, &out), (64, "words\nstatus 64\n"))?;
     assert!(rt;
         input.read(&mut [0; 4096]).is_err(),
         "the first read, of {words}"
@@ -83,25 +82,25 @@ fn refused_words_read_nothing(rt: HostRuntime) -> Result<(), Fail> {
 }
 
 /// A replay of so many bytes that are no script writes this.
-fn check_length(rt: &impl Abort, alloc: Global, length: usize, output: &str) -> Result<(), Fail> {
+fn check_length(alloc: Global, length: usize, output: &str) -> Result<(), Fail> {
     let mut input = MemSource::new(Bytes::new(vec![in alloc; b'x'; length]?), None);
     let mut out = MemSink::new(alloc, None, 0);
     let status = ended(alloc, "replay", &mut input, &mut out)?;
-    compare(rt, output, (status, &out), (65, output))
+    compare(output, (status, &out), (65, output))
 }
 
 #[test]
 fn the_longest_script(rt: HostRuntime) -> Result<(), Fail> {
-    check_length(&rt, rt.alloc(), 4_194_304, "script 1\nstatus 65\n")?;
-    check_length(&rt, rt.alloc(), 4_194_305, "script long\nstatus 65\n")
+    check_length(rt.alloc(), 4_194_304, "script 1\nstatus 65\n")?;
+    check_length(rt.alloc(), 4_194_305, "script long\nstatus 65\n")
 }
 
 /// A replay of this script, of which this read fails.
-fn check_read(rt: &impl Abort, alloc: Global, script: &str, read: u64) -> Result<(), Fail> {
+fn check_read(alloc: Global, script: &str, read: u64) -> Result<(), Fail> {
     let mut input = MemSource::new(Bytes::copied(alloc, script.as_bytes())?, Some(read));
     let mut out = MemSink::new(alloc, None, 0);
     let status = ended(alloc, "replay", &mut input, &mut out)?;
-    compare(rt, script, (status, &out), (66, "input\nstatus 66\n"))
+    compare(script, (status, &out), (66, "input\nstatus 66\n"))
 }
 
 /// A replay of this script, of which this write takes so many bytes and fails, writes a prefix of this.
@@ -125,8 +124,8 @@ fn check_write(
 
 #[test]
 fn a_read_or_a_write_fails(rt: HostRuntime) -> Result<(), Fail> {
-    check_read(&rt, rt.alloc(), STATUS_SCRIPT, 0)?;
-    check_read(&rt, rt.alloc(), STATUS_SCRIPT, 1)?;
+    check_read(rt.alloc(), STATUS_SCRIPT, 0)?;
+    check_read(rt.alloc(), STATUS_SCRIPT, 1)?;
     check_write(&rt, rt.alloc(), STATUS_SCRIPT, STATUS_OUTPUT, 0, 0)?;
     check_write(&rt, rt.alloc(), STATUS_SCRIPT, STATUS_OUTPUT, 0, 9)?;
     check_write(&rt, rt.alloc(), STATUS_SCRIPT, STATUS_OUTPUT, 1, 0)?;

@@ -1,4 +1,4 @@
-//! Rows of a registration, in the form that `tables` says.
+//! Rows of a registration, in the form that `row_texts` says.
 
 /// What may come while the terminal registers.
 pub(super) const REGISTRATION: &str = "\

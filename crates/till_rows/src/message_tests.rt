@@ -1,5 +1,5 @@
-//! Rows of messages, in the form that `tables` says: what a till gets for each, by a gateway without terminals.
-use crate::tables::{check_row, check_rows};
+//! Rows of messages, in the form that `row_texts` says: what a till gets for each, by a gateway without terminals.
+use gateway_play::{check_row, check_rows};
 use std::test::Fail;
 
 /// A till is there.
@@ -43,7 +43,7 @@ ask Print {}
 
 #[test]
 fn requests(rt: HostRuntime) -> Result<(), Fail> {
-    check_rows(&rt, rt.alloc(), OPENED, REQUESTS)
+    check_rows(rt.alloc(), OPENED, REQUESTS)
 }
 
 /// Payments, of amounts that may be and of others.
@@ -74,7 +74,7 @@ ask Payment {"SaleData":{"SaleTransactionID":{"TransactionID":"27908","TimeStamp
 
 #[test]
 fn amounts(rt: HostRuntime) -> Result<(), Fail> {
-    check_rows(&rt, rt.alloc(), OPENED, AMOUNTS)
+    check_rows(rt.alloc(), OPENED, AMOUNTS)
 }
 
 /// Messages that are rejected, or get nothing.
@@ -104,13 +104,12 @@ say 1 {"SaleToPOIRequest":{"MessageHeader":{"MessageClass":"Event","MessageCateg
 
 #[test]
 fn rejects_and_silence(rt: HostRuntime) -> Result<(), Fail> {
-    check_rows(&rt, rt.alloc(), OPENED, REJECTS)
+    check_rows(rt.alloc(), OPENED, REJECTS)
 }
 
 #[test]
 fn a_name_is_in_a_reject(rt: HostRuntime) -> Result<(), Fail> {
     check_row(
-        &rt,
         rt.alloc(),
         "# named\nname G~1\n> start\nopen 1",
         "say 1 x\n> reject 0 G~1 json NotJson 0",
@@ -120,7 +119,6 @@ fn a_name_is_in_a_reject(rt: HostRuntime) -> Result<(), Fail> {
 #[test]
 fn a_frame_cut_after_each_byte(rt: HostRuntime) -> Result<(), Fail> {
     check_row(
-        &rt,
         rt.alloc(),
         OPENED,
         "till 1 00\ntill 1 00\ntill 1 00\ntill 1 02\ntill 1 7b\ntill 1 7d\n> reject 0 GATEWAY header SaleToPOIRequest",
@@ -145,7 +143,7 @@ till 1 0000000322ff22
 
 #[test]
 fn chunks(rt: HostRuntime) -> Result<(), Fail> {
-    check_rows(&rt, rt.alloc(), OPENED, CHUNKS)
+    check_rows(rt.alloc(), OPENED, CHUNKS)
 }
 
 #[test]
@@ -155,5 +153,5 @@ fn one_till_too_many(rt: HostRuntime) -> Result<(), Fail> {
         write!(row, "\nopen {till}")?;
     }
     row.push_str("\n> till 65 cut")?;
-    check_row(&rt, rt.alloc(), "> start", &row)
+    check_row(rt.alloc(), "> start", &row)
 }

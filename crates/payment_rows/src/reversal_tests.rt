@@ -1,8 +1,7 @@
-//! Rows of reversals of a payment that was approved, in the form that `tables` and `payment_lines` say.
-use crate::opening_tests;
-use crate::tables::{check_rows, check_to_end, push_form};
+//! Rows of reversals of a payment that was approved, in the form that `row_texts` says.
+use gateway_play::{check_after, check_file_row, check_rows, check_to_end};
+use row_texts::push_form;
 use std::alloc::{AllocError, Global};
-use std::process::Abort;
 use std::test::Fail;
 
 /// The terminal is ready, at 2025-03-07T10:11:04Z.
@@ -57,16 +56,6 @@ fn joined(alloc: Global, parts: &[&str]) -> Result<String, AllocError> {
         text.push_str(part)?;
     }
     Ok(text)
-}
-
-/// Plays the rows of a table after these beginnings.
-fn check_after(
-    rt: &impl Abort,
-    alloc: Global,
-    beginnings: &[&str],
-    table: &str,
-) -> Result<(), Fail> {
-    check_rows(rt, alloc, &joined(alloc, beginnings)?, table)
 }
 
 /// Why a reversal isn't begun, and what is asked where it is.
@@ -618,19 +607,14 @@ reverse 1 2 000123-0017-0
 
 #[test]
 fn reversal_steps(rt: HostRuntime) -> Result<(), Fail> {
-    check_after(&rt, rt.alloc(), &[READY], PARTLY_PAID)?;
-    check_after(&rt, rt.alloc(), &[READY, PAID], STEPS)
+    check_after(rt.alloc(), &[READY], PARTLY_PAID)?;
+    check_after(rt.alloc(), &[READY, PAID], STEPS)
 }
 
 #[test]
 fn reversal_ends(rt: HostRuntime) -> Result<(), Fail> {
-    check_after(&rt, rt.alloc(), &[READY, PAID, REVERSING], ENDS)?;
-    check_after(
-        &rt,
-        rt.alloc(),
-        &[READY, PAID, REVERSING, REPORTING],
-        REPORTS,
-    )
+    check_after(rt.alloc(), &[READY, PAID, REVERSING], ENDS)?;
+    check_after(rt.alloc(), &[READY, PAID, REVERSING, REPORTING], REPORTS)
 }
 
 /// There is no room for a reversal and its end.
@@ -674,12 +658,12 @@ pt 0 846c00040f0127
 
 #[test]
 fn slots_and_disks_of_reversals(rt: HostRuntime) -> Result<(), Fail> {
-    check_after(&rt, rt.alloc(), &["slots 2\n", READY, PAID], NONE_FITS)?;
-    check_after(&rt, rt.alloc(), &["slots 3\n", READY, PAID], NONE_FITS)?;
-    check_after(&rt, rt.alloc(), &["slots 4\n", READY, PAID], ONE_FITS)?;
+    check_after(rt.alloc(), &["slots 2\n", READY, PAID], NONE_FITS)?;
+    check_after(rt.alloc(), &["slots 3\n", READY, PAID], NONE_FITS)?;
+    check_after(rt.alloc(), &["slots 4\n", READY, PAID], ONE_FITS)?;
     let beginning = joined(rt.alloc(), &[READY, PAID])?;
-    check_to_end(&rt, rt.alloc(), &beginning, INTENT_FAILS, (DISK, 74))?;
-    check_to_end(&rt, rt.alloc(), &beginning, OUTCOME_FAILS, (DISK, 74))
+    check_to_end(rt.alloc(), &beginning, INTENT_FAILS, (DISK, 74))?;
+    check_to_end(rt.alloc(), &beginning, OUTCOME_FAILS, (DISK, 74))
 }
 
 /// What the till asks for over a journal that is there.
@@ -694,7 +678,7 @@ const REFUSED: &str =
     \"MessageType\":\"Response\",\"ServiceID\":\"2\",\"SaleID\":\"S1\",\"POIID\":\"T1\"},\"ReversalResponse\":\
     {\"Response\":{\"Result\":\"Failure\",\"ErrorCondition\":\"%\"}}}}";
 
-/// A row of `opening_tests`: the words of the file, the TransactionID with the message, the file's length, the message and the reply.
+/// A row over a file: the words of the file, the TransactionID with the message, the file's length, the message and the reply.
 const OVER_A_JOURNAL: &str = "\
 file %
 terminal T1 EUR 123456 186 131
@@ -714,7 +698,7 @@ say 1 %
 > stop
 > statuses 0";
 
-/// Journals, in the words of `opening_tests`, their lengths, the TransactionID of what is to be reversed, and why it isn't: a payment of
+/// Journals, in the words that `row_texts` has for a file, their lengths, the TransactionID of what is to be reversed, and why it isn't: a payment of
 /// another terminal; one that is settled, and one that only another terminal's settlement follows; one with the greatest trace number.
 const JOURNALS: [(&str, &str, &str, &str); 4] = [
     (
@@ -745,7 +729,6 @@ const JOURNALS: [(&str, &str, &str, &str); 4] = [
 
 /// A reversal of what this TransactionID names, over a journal of these words and this length, is refused for this reason.
 fn check_over(
-    rt: &impl Abort,
     alloc: Global,
     journal: (&str, &str),
     transaction: &str,
@@ -759,13 +742,13 @@ fn check_over(
     let mut row = String::new(alloc);
     let parts = [words, &message, length, &message, &reply];
     push_form(&mut row, OVER_A_JOURNAL, &parts)?;
-    opening_tests::check_row(rt, alloc, &row)
+    check_file_row(alloc, &row)
 }
 
 #[test]
 fn reversals_over_journals(rt: HostRuntime) -> Result<(), Fail> {
     for (words, length, transaction, condition) in JOURNALS {
-        check_over(&rt, rt.alloc(), (words, length), transaction, condition)?;
+        check_over(rt.alloc(), (words, length), transaction, condition)?;
     }
     Ok(())
 }

@@ -1,4 +1,4 @@
-//! Rows of an enquiry, in the form that `tables` says.
+//! Rows of an enquiry, in the form that `row_texts` says.
 
 /// What may come while it is enquired.
 pub(super) const ENQUIRY: &str = "\

@@ -1,5 +1,5 @@
-//! Rows of Aborts, in the form that `tables` and `payment_lines` say: which are rejected, what is stopped, and the late Ack or Nack of a stop.
-use crate::tables::check_after;
+//! Rows of Aborts, in the form that `row_texts` says: which are rejected, what is stopped, and the late Ack or Nack of a stop.
+use gateway_play::check_after;
 use std::test::Fail;
 
 /// The terminal is ready, at 2025-03-07T10:11:04Z.
@@ -663,14 +663,13 @@ pt 0 846c00
 
 #[test]
 fn aborts_that_are_rejected(rt: HostRuntime) -> Result<(), Fail> {
-    check_after(&rt, rt.alloc(), &[READY], REJECTS)
+    check_after(rt.alloc(), &[READY], REJECTS)
 }
 
 #[test]
 fn stops(rt: HostRuntime) -> Result<(), Fail> {
-    check_after(&rt, rt.alloc(), &[READY, PAYING], STOPS)?;
+    check_after(rt.alloc(), &[READY, PAYING], STOPS)?;
     check_after(
-        &rt,
         rt.alloc(),
         &[READY, PAYING, PAID, REVERSING],
         REVERSAL_STOPS,
@@ -679,6 +678,6 @@ fn stops(rt: HostRuntime) -> Result<(), Fail> {
 
 #[test]
 fn late_acks_and_nacks_of_stops(rt: HostRuntime) -> Result<(), Fail> {
-    check_after(&rt, rt.alloc(), &[READY, PAYING, AWAITED], LATE)?;
-    check_after(&rt, rt.alloc(), &[READY], STRAY)
+    check_after(rt.alloc(), &[READY, PAYING, AWAITED], LATE)?;
+    check_after(rt.alloc(), &[READY], STRAY)
 }

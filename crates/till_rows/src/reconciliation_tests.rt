@@ -1,9 +1,8 @@
-//! Rows of reconciliations of the till's own, in the form that `tables` and `payment_lines` say: what is kept and counted, and what is
+//! Rows of reconciliations of the till's own, in the form that `row_texts` says: what is kept and counted, and what is
 //! repeated, settled and refused after them.
-use crate::opening_tests;
-use crate::tables::{check_after, check_row, push_form};
+use gateway_play::{check_after, check_file_row, check_row};
+use row_texts::push_form;
 use std::alloc::Global;
-use std::process::Abort;
 use std::test::Fail;
 
 /// The terminal is ready, at 2025-03-07T10:11:04Z.
@@ -368,11 +367,10 @@ reconcile 1 3 SaleReconciliation
 
 #[test]
 fn settlements(rt: HostRuntime) -> Result<(), Fail> {
-    check_after(&rt, rt.alloc(), &[READY], FIRST)?;
-    check_after(&rt, rt.alloc(), &[READY, PAYING, PAID], AFTER_A_PAYMENT)?;
-    check_after(&rt, rt.alloc(), &[READY, PAYING], BESIDE_A_PAYMENT)?;
+    check_after(rt.alloc(), &[READY], FIRST)?;
+    check_after(rt.alloc(), &[READY, PAYING, PAID], AFTER_A_PAYMENT)?;
+    check_after(rt.alloc(), &[READY, PAYING], BESIDE_A_PAYMENT)?;
     check_after(
-        &rt,
         rt.alloc(),
         &[READY, PAYING, PAID, REVERSING],
         BESIDE_A_REVERSAL,
@@ -403,7 +401,7 @@ const IN_FRANCS: &str = r#"reconcile 1 1 SaleReconciliation
 
 #[test]
 fn a_settlement_in_francs(rt: HostRuntime) -> Result<(), Fail> {
-    check_row(&rt, rt.alloc(), READY_IN_FRANCS, IN_FRANCS)
+    check_row(rt.alloc(), READY_IN_FRANCS, IN_FRANCS)
 }
 
 /// Two slots are free.
@@ -529,9 +527,9 @@ pt 0 800000040f102700040000000010990b000123870017060f00
 
 #[test]
 fn room_for_settlements(rt: HostRuntime) -> Result<(), Fail> {
-    check_after(&rt, rt.alloc(), &["slots 2\n", READY], TWO_FREE)?;
-    check_after(&rt, rt.alloc(), &["slots 3\n", READY], THREE_FREE)?;
-    check_after(&rt, rt.alloc(), &["slots 4\n", READY], FOUR_FREE)
+    check_after(rt.alloc(), &["slots 2\n", READY], TWO_FREE)?;
+    check_after(rt.alloc(), &["slots 3\n", READY], THREE_FREE)?;
+    check_after(rt.alloc(), &["slots 4\n", READY], FOUR_FREE)
 }
 
 /// The question what became of the reconciliation 9.
@@ -551,7 +549,7 @@ const REPEATED: &str =
     \"PaymentCurrency\":\"%\",\"PaymentTotals\":[{\"TransactionType\":\"Debit\",\"TransactionCount\":%,\"TransactionAmount\":%},\
     {\"TransactionType\":\"ReverseDebit\",\"TransactionCount\":0,\"TransactionAmount\":0.00}]}]}}}}}}";
 
-/// A row of `opening_tests`: the words of the file, the message, the file's length, the message again, and its reply.
+/// A row over a file: the words of the file, the message, the file's length, the message again, and its reply.
 const OVER_A_JOURNAL: &str = "\
 file %
 terminal T1 EUR 123456 186 131
@@ -571,7 +569,7 @@ say 1 %
 > stop
 > statuses 0";
 
-/// A journal in the words of `opening_tests`, in which the reconciliation 9 is settled, and what is repeated of that.
+/// A journal in the words that `row_texts` has for a file, in which the reconciliation 9 is settled, and what is repeated of that.
 struct Journal {
     words: &'static str,
     length: &'static str,
@@ -617,7 +615,7 @@ const JOURNALS: [Journal; 5] = [
 ];
 
 /// The reconciliation of a journal is repeated.
-fn check_over(rt: &impl Abort, alloc: Global, journal: &Journal) -> Result<(), Fail> {
+fn check_over(alloc: Global, journal: &Journal) -> Result<(), Fail> {
     let mut message = String::new(alloc);
     push_form(&mut message, ASKED, &[journal.reference])?;
     let mut reply = String::new(alloc);
@@ -625,13 +623,13 @@ fn check_over(rt: &impl Abort, alloc: Global, journal: &Journal) -> Result<(), F
     let mut row = String::new(alloc);
     let parts = [journal.words, &message, journal.length, &message, &reply];
     push_form(&mut row, OVER_A_JOURNAL, &parts)?;
-    opening_tests::check_row(rt, alloc, &row)
+    check_file_row(alloc, &row)
 }
 
 #[test]
 fn totals_over_journals(rt: HostRuntime) -> Result<(), Fail> {
     for journal in &JOURNALS {
-        check_over(&rt, rt.alloc(), journal)?;
+        check_over(rt.alloc(), journal)?;
     }
     Ok(())
 }

@@ -1,5 +1,6 @@
-//! Rows of Logins and Logouts, in the form that `tables` and `payment_lines` say: who is logged out, and what a till gets then.
-use crate::tables::{check_row, check_rows, push_form};
+//! Rows of Logins and Logouts, in the form that `row_texts` says: who is logged out, and what a till gets then.
+use gateway_play::{check_row, check_rows};
+use row_texts::push_form;
 use std::test::Fail;
 
 /// The terminal is ready, at 2025-03-07T10:11:04Z.
@@ -168,8 +169,8 @@ status 1 3 2
 
 #[test]
 fn logins_and_logouts(rt: HostRuntime) -> Result<(), Fail> {
-    check_rows(&rt, rt.alloc(), READY, SESSIONS)?;
-    check_rows(&rt, rt.alloc(), READY, LOGGED_OUT)
+    check_rows(rt.alloc(), READY, SESSIONS)?;
+    check_rows(rt.alloc(), READY, LOGGED_OUT)
 }
 
 /// A Logout of this SaleID, and this again as it succeeds.
@@ -207,5 +208,5 @@ fn as_many_logouts_as_may_be(rt: HostRuntime) -> Result<(), Fail> {
         push_form(&mut row, LOGOUT, &[&sale, &sale])?;
     }
     row.push_str(ONE_MORE)?;
-    check_row(&rt, rt.alloc(), READY, &row)
+    check_row(rt.alloc(), READY, &row)
 }

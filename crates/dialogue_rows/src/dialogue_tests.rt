@@ -5,8 +5,8 @@ mod payment_rows;
 mod registration_rows;
 mod report_rows;
 
-use crate::tables::check_rows;
 use enquiry_rows::ENQUIRY;
+use gateway_play::check_rows;
 use payment_rows::PAYMENT;
 use registration_rows::REGISTRATION;
 use report_rows::REPORTS;
@@ -170,25 +170,25 @@ diagnosis
 
 #[test]
 fn registration(rt: HostRuntime) -> Result<(), Fail> {
-    check_rows(&rt, rt.alloc(), REGISTERING, REGISTRATION)
+    check_rows(rt.alloc(), REGISTERING, REGISTRATION)
 }
 
 #[test]
 fn enquiry(rt: HostRuntime) -> Result<(), Fail> {
-    check_rows(&rt, rt.alloc(), ENQUIRING, ENQUIRY)
+    check_rows(rt.alloc(), ENQUIRING, ENQUIRY)
 }
 
 #[test]
 fn ready(rt: HostRuntime) -> Result<(), Fail> {
-    check_rows(&rt, rt.alloc(), IS_READY, READY)
+    check_rows(rt.alloc(), IS_READY, READY)
 }
 
 #[test]
 fn payment(rt: HostRuntime) -> Result<(), Fail> {
-    check_rows(&rt, rt.alloc(), PAYING, PAYMENT)
+    check_rows(rt.alloc(), PAYING, PAYMENT)
 }
 
 #[test]
 fn reports(rt: HostRuntime) -> Result<(), Fail> {
-    check_rows(&rt, rt.alloc(), REPORTING, REPORTS)
+    check_rows(rt.alloc(), REPORTING, REPORTS)
 }

@@ -1,14 +1,13 @@
-//! Scripts that are replayed: by what a row is compared with what it gives.
+//! Scripts that are replayed by the top call, and what they give compared with what is wanted.
 use gw_base::{Bytes, Text};
 use gw_run::top;
 use gw_site::{MemSink, MemSource, NoSite};
 use std::alloc::{AllocError, Global};
-use std::process::Abort;
 use std::str;
 use std::test::Fail;
 
 /// The words of a line.
-pub(crate) fn words_of(alloc: Global, line: &str) -> Result<Vec<Text>, AllocError> {
+pub fn words_of(alloc: Global, line: &str) -> Result<Vec<Text>, AllocError> {
     let mut words = Vec::new(alloc);
     for word in line.split_whitespace() {
         words.push(Text::new(String::from_str(alloc, word)?))?;
@@ -17,7 +16,7 @@ pub(crate) fn words_of(alloc: Global, line: &str) -> Result<Vec<Text>, AllocErro
 }
 
 /// The status of the top call with the words of a line.
-pub(crate) fn ended(
+pub fn ended(
     alloc: Global,
     line: &str,
     input: &mut MemSource,
@@ -27,36 +26,44 @@ pub(crate) fn ended(
     Ok(top(alloc, &words, &mut NoSite::new(), input, out))
 }
 
+/// A text is this one; else the failure names the row and the first line that is another.
+pub fn check_text(row: &str, found: &str, wanted: &str) -> Result<(), Fail> {
+    if found == wanted {
+        return Ok(());
+    }
+    let mut lines = found.split('\n');
+    for line in wanted.split('\n') {
+        let other = lines.next().unwrap_or("nothing");
+        if other != line {
+            return Err(Fail::new(format_args!("{other} in place of {line}, of {row}")));
+        }
+    }
+    Err(Fail::new(format_args!("more lines than are wanted, of {row}")))
+}
+
 /// A call has ended with this status, and has written this.
-pub(crate) fn compare(
-    rt: &impl Abort,
-    row: &str,
-    ended: (u8, &MemSink),
-    wanted: (u8, &str),
-) -> Result<(), Fail> {
+pub fn compare(row: &str, ended: (u8, &MemSink), wanted: (u8, &str)) -> Result<(), Fail> {
     let (status, out) = ended;
     let (wanted_status, output) = wanted;
-    assert_eq!(rt; str::from_utf8(out.bytes().as_slice())?, output, "of {row}");
-    assert_eq!(rt; status, wanted_status, "of {row}");
+    check_text(row, str::from_utf8(out.bytes().as_slice())?, output)?;
+    if status != wanted_status {
+        return Err(Fail::new(format_args!(
+            "status {status} in place of {wanted_status}, of {row}"
+        )));
+    }
     Ok(())
 }
 
 /// A replay of this script ends with this status, and has written this.
-pub(crate) fn check(
-    rt: &impl Abort,
-    alloc: Global,
-    script: &str,
-    output: &str,
-    status: u8,
-) -> Result<(), Fail> {
+pub fn check(alloc: Global, script: &str, output: &str, status: u8) -> Result<(), Fail> {
     let mut input = MemSource::new(Bytes::copied(alloc, script.as_bytes())?, None);
     let mut out = MemSink::new(alloc, None, 0);
     let ended = ended(alloc, "replay", &mut input, &mut out)?;
-    compare(rt, script, (ended, &out), (status, output))
+    compare(script, (ended, &out), (status, output))
 }
 
 /// What a replay of this script has written, which ends with status 0.
-pub(crate) fn replayed(alloc: Global, script: &str) -> Result<MemSink, Fail> {
+pub fn replayed(alloc: Global, script: &str) -> Result<MemSink, Fail> {
     let mut input = MemSource::new(Bytes::copied(alloc, script.as_bytes())?, None);
     let mut out = MemSink::new(alloc, None, 0);
     match ended(alloc, "replay", &mut input, &mut out)? {

@@ -1,4 +1,4 @@
-//! Rows of what a terminal reports while a payment is open, in the form that `tables` and `payment_lines` say.
+//! Rows of what a terminal reports while a payment is open, in the form that `row_texts` says.
 
 /// A payment with the trace number 123 has ended, a second one of 5.00 is open, and the terminal, to which it was sent, has begun to report.
 pub(super) const REPORTS: &str = "\

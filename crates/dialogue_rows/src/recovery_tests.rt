@@ -2,13 +2,12 @@
 //! file, the terminal plays on, and what tills get in the end agrees with its book.
 //!
 //! The terminal is a played one. A script is played from its start, again and again, each time with what the terminal has sent at the log of
-//! the time before. No line of a script is taken before the first poll of a run, so the power fails in no opening here; `opening_tests` has
+//! the time before. No line of a script is taken before the first poll of a run, so the power fails in no opening here; `gateway_rows` has
 //! those.
-use crate::payment_lines::push_paid;
-use crate::replay::replayed;
-use crate::tables::{halves, push_form, push_played};
+use gateway_play::replayed;
 use gw_base::{Currency, Ident, Pt, Text};
 use pt_core::{Play, Plays, Terminal};
+use row_texts::{halves, push_form, push_paid, push_played};
 use std::alloc::{AllocError, Global};
 use std::process::Abort;
 use std::str;

@@ -1,7 +1,6 @@
-//! Rows of payments at a terminal that is ready, in the form that `tables` and `payment_lines` say.
-use crate::tables::{check_row, check_rows, check_to_end};
+//! Rows of payments at a terminal that is ready, in the form that `row_texts` says.
+use gateway_play::{check_row, check_rows, check_to_end};
 use std::alloc::Global;
-use std::process::Abort;
 use std::test::Fail;
 
 /// The terminal is ready, at 2025-03-07T10:11:04Z.
@@ -87,13 +86,13 @@ fn a_usual_payment(rt: HostRuntime) -> Result<(), Fail> {
     let mut row = String::from_str(rt.alloc(), "say 1 ")?;
     row.push_str(USUAL)?;
     row.push_str(USUAL_ENDS)?;
-    check_row(&rt, rt.alloc(), READY, &row)?;
+    check_row(rt.alloc(), READY, &row)?;
     let mut bytes = String::from_str(rt.alloc(), "till 1 00\ntill 1 00\ntill 1 01\ntill 1 ed")?;
     for byte in USUAL.bytes() {
         write!(bytes, "\ntill 1 {byte:02x}")?;
     }
     bytes.push_str(SINGLE_BYTES_END)?;
-    check_row(&rt, rt.alloc(), READY, &bytes)
+    check_row(rt.alloc(), READY, &bytes)
 }
 
 /// Payments: how they are asked for, what else the till may ask meanwhile, and how they end.
@@ -387,14 +386,14 @@ pay 2 1 10.99
 
 #[test]
 fn payments(rt: HostRuntime) -> Result<(), Fail> {
-    check_rows(&rt, rt.alloc(), READY, PAYMENTS)
+    check_rows(rt.alloc(), READY, PAYMENTS)
 }
 
 /// Plays a row in which these lines are the first of the setup.
-fn check_with(rt: &impl Abort, alloc: Global, setup: &str, row: &str) -> Result<(), Fail> {
+fn check_with(alloc: Global, setup: &str, row: &str) -> Result<(), Fail> {
     let mut beginning = String::from_str(alloc, setup)?;
     beginning.push_str(READY)?;
-    check_row(rt, alloc, &beginning, row)
+    check_row(alloc, &beginning, row)
 }
 
 /// There is room for one payment, and for its end.
@@ -430,9 +429,9 @@ status 1 3 2
 
 #[test]
 fn slots_and_waiting(rt: HostRuntime) -> Result<(), Fail> {
-    check_with(&rt, rt.alloc(), "slots 2\n", ONE_FITS)?;
-    check_with(&rt, rt.alloc(), "slots 3\n", ONE_FITS)?;
-    check_with(&rt, rt.alloc(), "wait 30\nline 0\n", NONE_WAITS)
+    check_with(rt.alloc(), "slots 2\n", ONE_FITS)?;
+    check_with(rt.alloc(), "slots 3\n", ONE_FITS)?;
+    check_with(rt.alloc(), "wait 30\nline 0\n", NONE_WAITS)
 }
 
 /// How a run ends whose disk failed.
@@ -457,8 +456,8 @@ pt 0 061e016c040f0127
 
 #[test]
 fn disks_that_fail(rt: HostRuntime) -> Result<(), Fail> {
-    check_to_end(&rt, rt.alloc(), READY, INTENT_FAILS, (DISK, 74))?;
-    check_to_end(&rt, rt.alloc(), READY, OUTCOME_FAILS, (DISK, 74))
+    check_to_end(rt.alloc(), READY, INTENT_FAILS, (DISK, 74))?;
+    check_to_end(rt.alloc(), READY, OUTCOME_FAILS, (DISK, 74))
 }
 
 /// One till too many, and a payment of the last that is connected.
@@ -482,5 +481,5 @@ fn a_payment_among_many_tills(rt: HostRuntime) -> Result<(), Fail> {
         write!(row, "\nopen {till}")?;
     }
     row.push_str(LAST_PAYS)?;
-    check_row(&rt, rt.alloc(), READY, &row)
+    check_row(rt.alloc(), READY, &row)
 }

@@ -293,7 +293,7 @@ pub(crate) fn push_asked(text: &mut String, word: &str, words: &str) -> Result<(
 }
 
 /// Appends a line of the log as its word says.
-pub(crate) fn push_paid(alloc: Global, log: &mut String, line: &str) -> Result<(), Fail> {
+pub fn push_paid(alloc: Global, log: &mut String, line: &str) -> Result<(), Fail> {
     let (word, rest) = halves(line);
     match word {
         "first" => {

@@ -1,4 +1,4 @@
-//! Rows of a payment, in the form that `tables` and `payment_lines` say.
+//! Rows of a payment, in the form that `row_texts` says.
 
 /// What may come while it is served.
 pub(super) const PAYMENT: &str = "\

@@ -1,4 +1,4 @@
-//! Tables of rows, as texts, and how they are played.
+//! Tables of rows, as texts.
 //!
 //! Rows are divided by an empty line. A line that begins with `> ` is one of the log, in which each line that polls has its moment
 //! and its event besides. The others are the script's; one after `~ ` brings no event. Messages between till S1 and
@@ -12,9 +12,7 @@
 //! `payment_lines` has those of payments, reversals, reconciliations and aborts, and `display_lines` those of displays and device requests.
 use crate::display_lines::push_display;
 use crate::payment_lines::{push_asked, push_paid};
-use crate::replay::check;
 use std::alloc::{AllocError, Global};
-use std::process::Abort;
 use std::test::Fail;
 
 /// A request: its category, this again, and its body.
@@ -40,12 +38,12 @@ const REJECT: &str =
     \"EventNotification\":{\"TimeStamp\":\"1970-01-01T00:00:00Z\",\"EventToNotify\":\"Reject\",\"EventDetails\":\"%\"}}}\n";
 
 /// A line up to its first space, and what comes after that.
-pub(crate) fn halves(line: &str) -> (&str, &str) {
+pub fn halves(line: &str) -> (&str, &str) {
     line.split_once(' ').unwrap_or((line, ""))
 }
 
 /// Appends a form, in which these texts take the places of its `%`.
-pub(crate) fn push_form(text: &mut String, form: &str, values: &[&str]) -> Result<(), AllocError> {
+pub fn push_form(text: &mut String, form: &str, values: &[&str]) -> Result<(), AllocError> {
     let mut parts = form.split('%');
     text.push_str(parts.next().unwrap_or(""))?;
     for (number, part) in parts.enumerate() {
@@ -56,7 +54,7 @@ pub(crate) fn push_form(text: &mut String, form: &str, values: &[&str]) -> Resul
 }
 
 /// Appends a text so many times.
-pub(crate) fn push_times(text: &mut String, count: usize, part: &str) -> Result<(), AllocError> {
+pub fn push_times(text: &mut String, count: usize, part: &str) -> Result<(), AllocError> {
     for _ in 0..count {
         text.push_str(part)?;
     }
@@ -94,7 +92,7 @@ fn push_message(text: &mut String, line: &str) -> Result<(), AllocError> {
 }
 
 /// Appends a line of a row to the script.
-pub(crate) fn push_played(script: &mut String, line: &str) -> Result<(), AllocError> {
+pub fn push_played(script: &mut String, line: &str) -> Result<(), AllocError> {
     match asking_till(line) {
         Some(till) => {
             push_form(script, "say % ", &[till])?;
@@ -190,7 +188,7 @@ fn push_line(
 }
 
 /// Appends the lines of a row to the script and to the log, from this moment on, and leaves the moment at its end.
-fn push_row(
+pub fn push_row(
     alloc: Global,
     script: &mut String,
     log: &mut String,
@@ -201,61 +199,4 @@ fn push_row(
         push_line(alloc, script, log, now, line)?;
     }
     Ok(())
-}
-
-/// Plays a row, before which these lines come, from the moment 0 on: after it the output has these lines, in which the moment takes
-/// the place of `%`, and this is the status.
-pub(crate) fn check_to_end(
-    rt: &impl Abort,
-    alloc: Global,
-    beginning: &str,
-    row: &str,
-    end: (&str, u8),
-) -> Result<(), Fail> {
-    let mut script = String::new(alloc);
-    let mut output = String::new(alloc);
-    let mut now = String::from_str(alloc, "0")?;
-    let (last_lines, status) = end;
-    push_row(alloc, &mut script, &mut output, &mut now, beginning)?;
-    push_row(alloc, &mut script, &mut output, &mut now, row)?;
-    push_form(&mut output, last_lines, &[&now])?;
-    check(rt, alloc, &script, &output, status)
-}
-
-/// Plays a row to the script's end, before which these lines come.
-pub(crate) fn check_row(
-    rt: &impl Abort,
-    alloc: Global,
-    beginning: &str,
-    row: &str,
-) -> Result<(), Fail> {
-    check_to_end(rt, alloc, beginning, row, ("at %\nstop\nstatus 0\n", 0))
-}
-
-/// Plays the rows of a table, before each of which these lines come.
-pub(crate) fn check_rows(
-    rt: &impl Abort,
-    alloc: Global,
-    beginning: &str,
-    table: &str,
-) -> Result<(), Fail> {
-    for row in table.split("\n\n") {
-        assert!(rt; !row.is_empty(), "a row is empty");
-        check_row(rt, alloc, beginning, row)?;
-    }
-    Ok(())
-}
-
-/// Plays the rows of a table after these beginnings.
-pub(crate) fn check_after(
-    rt: &impl Abort,
-    alloc: Global,
-    beginnings: &[&str],
-    table: &str,
-) -> Result<(), Fail> {
-    let mut beginning = String::new(alloc);
-    for part in beginnings {
-        beginning.push_str(part)?;
-    }
-    check_rows(rt, alloc, &beginning, table)
 }

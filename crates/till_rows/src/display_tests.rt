@@ -1,6 +1,7 @@
-//! Rows of Displays on the terminal, in the form that `tables` and `display_lines` say: what is shown, what each output gets, and which are
+//! Rows of Displays on the terminal, in the form that `row_texts` says: what is shown, what each output gets, and which are
 //! refused.
-use crate::tables::{check_after, check_row, check_rows, push_times};
+use gateway_play::{check_after, check_row, check_rows};
+use row_texts::push_times;
 use std::test::Fail;
 
 /// The terminal is ready, at 2025-03-07T10:11:04Z.
@@ -148,7 +149,7 @@ pt 0 800000
 
 #[test]
 fn outputs(rt: HostRuntime) -> Result<(), Fail> {
-    check_rows(&rt, rt.alloc(), READY, OUTPUTS)
+    check_rows(rt.alloc(), READY, OUTPUTS)
 }
 
 /// An output that isn't for the customer's display, and its result.
@@ -177,7 +178,7 @@ fn as_many_outputs_as_may_be(rt: HostRuntime) -> Result<(), Fail> {
     row.push_str(
         "> reply Device Display {\"OutputResult\":[{\"Device\":\"CustomerDisplay\",\"InfoQualify\":\"Display\",\"Response\":{\"Result\":\"Failure\",\"ErrorCondition\":\"MessageFormat\",\"AdditionalResponse\":\"DisplayRequest.DisplayOutput\"}}]}",
     )?;
-    check_row(&rt, rt.alloc(), READY, &row)
+    check_row(rt.alloc(), READY, &row)
 }
 
 /// Displays that aren't begun.
@@ -308,8 +309,8 @@ display 1 3 Hallo
 
 #[test]
 fn refusals(rt: HostRuntime) -> Result<(), Fail> {
-    check_rows(&rt, rt.alloc(), READY, REFUSED)?;
-    check_after(&rt, rt.alloc(), &[READY, PAYING], SET_ASIDE)
+    check_rows(rt.alloc(), READY, REFUSED)?;
+    check_after(rt.alloc(), &[READY, PAYING], SET_ASIDE)
 }
 
 /// What may come while the terminal is asked to show a text.
@@ -545,6 +546,6 @@ status 1 4 3
 
 #[test]
 fn ends_of_displays(rt: HostRuntime) -> Result<(), Fail> {
-    check_after(&rt, rt.alloc(), &[READY, SHOWING], ENDS)?;
-    check_after(&rt, rt.alloc(), &[READY, PAYING, AWAITED], LATE)
+    check_after(rt.alloc(), &[READY, SHOWING], ENDS)?;
+    check_after(rt.alloc(), &[READY, PAYING, AWAITED], LATE)
 }

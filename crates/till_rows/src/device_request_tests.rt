@@ -1,6 +1,7 @@
-//! Rows of device requests, in the form that `tables`, `payment_lines` and `display_lines` say: what a terminal shows and prints at the till
+//! Rows of device requests, in the form that `row_texts` says: what a terminal shows and prints at the till
 //! of what it serves, and which number each has.
-use crate::tables::{check_after, check_row, check_rows, push_times};
+use gateway_play::{check_after, check_row, check_rows};
+use row_texts::push_times;
 use std::test::Fail;
 
 /// The terminal is ready, at 2025-03-07T10:11:04Z.
@@ -162,7 +163,7 @@ pt 0 04ff010b
 
 #[test]
 fn messages(rt: HostRuntime) -> Result<(), Fail> {
-    check_after(&rt, rt.alloc(), &[READY, PAYING, BEGUN], MESSAGES)
+    check_after(rt.alloc(), &[READY, PAYING, BEGUN], MESSAGES)
 }
 
 /// Whose they are, and how they are numbered, from a payment on that is begun.
@@ -449,9 +450,9 @@ pt 0 80000004ff010b
 
 #[test]
 fn whose_they_are(rt: HostRuntime) -> Result<(), Fail> {
-    check_after(&rt, rt.alloc(), &[READY, PAYING, BEGUN], TILLS)?;
-    check_after(&rt, rt.alloc(), &[READY, PAYING], UNASKED)?;
-    check_rows(&rt, rt.alloc(), READY, OTHERS)
+    check_after(rt.alloc(), &[READY, PAYING, BEGUN], TILLS)?;
+    check_after(rt.alloc(), &[READY, PAYING], UNASKED)?;
+    check_rows(rt.alloc(), READY, OTHERS)
 }
 
 /// The beginning of a row, up to the block or the line.
@@ -475,7 +476,7 @@ fn as_many_lines_as_may_be(rt: HostRuntime) -> Result<(), Fail> {
     row.push_str(PRINTED)?;
     push_times(&mut row, 399, "{\"Text\":\"A\"},")?;
     row.push_str("{\"Text\":\"A\"}]")?;
-    check_row(&rt, rt.alloc(), READY, &row)?;
+    check_row(rt.alloc(), READY, &row)?;
     let mut one_more = String::from_str(rt.alloc(), ASKED)?;
     one_more.push_str("06d3ffbb04068204b7258204b3")?;
     push_times(&mut one_more, 400, "070141")?;
@@ -483,7 +484,7 @@ fn as_many_lines_as_may_be(rt: HostRuntime) -> Result<(), Fail> {
     one_more.push_str(PRINTED)?;
     push_times(&mut one_more, 399, "{\"Text\":\"A\"},")?;
     one_more.push_str("{\"Text\":\"A\"}]")?;
-    check_row(&rt, rt.alloc(), READY, &one_more)
+    check_row(rt.alloc(), READY, &one_more)
 }
 
 #[test]
@@ -500,5 +501,5 @@ fn as_long_a_line_as_may_be(rt: HostRuntime) -> Result<(), Fail> {
     push_times(&mut row, 7999, "A")?;
     push_times(&mut row, 4000, "\\\"")?;
     row.push_str("\"}]")?;
-    check_row(&rt, rt.alloc(), READY, &row)
+    check_row(rt.alloc(), READY, &row)
 }

@@ -1,9 +1,9 @@
-//! Rows of ends of day, in the form that `tables` and `payment_lines` say: how one ends, what its key means while it is served, and what an
+//! Rows of ends of day, in the form that `row_texts` says: how one ends, what its key means while it is served, and what an
 //! Abort, a till that is gone and a failure do to it.
 mod ending_rows;
 
-use crate::tables::{check_after, check_rows};
 use ending_rows::ENDS;
+use gateway_play::{check_after, check_rows};
 use std::test::Fail;
 
 /// The terminal is ready, at 2025-03-07T10:11:04Z.
@@ -52,7 +52,7 @@ reconcile 1 1 AcquirerReconciliation
 
 #[test]
 fn ends_of_day(rt: HostRuntime) -> Result<(), Fail> {
-    check_after(&rt, rt.alloc(), &[READY, SETTLING], ENDS)
+    check_after(rt.alloc(), &[READY, SETTLING], ENDS)
 }
 
 /// Ends of day after a payment.
@@ -193,7 +193,7 @@ reconcile 1 2 PreviousReconciliation
 
 #[test]
 fn keys_of_ends_of_day(rt: HostRuntime) -> Result<(), Fail> {
-    check_after(&rt, rt.alloc(), &[READY, PAYING, PAID], KEYS)
+    check_after(rt.alloc(), &[READY, PAYING, PAID], KEYS)
 }
 
 /// Aborts while the terminal is asked for an end of day.
@@ -428,8 +428,8 @@ pt 0 846c00
 
 #[test]
 fn stops_of_ends_of_day(rt: HostRuntime) -> Result<(), Fail> {
-    check_after(&rt, rt.alloc(), &[READY, SETTLING], STOPS)?;
-    check_after(&rt, rt.alloc(), &[READY, PAYING, AWAITED], LATE)
+    check_after(rt.alloc(), &[READY, SETTLING], STOPS)?;
+    check_after(rt.alloc(), &[READY, PAYING, AWAITED], LATE)
 }
 
 /// Its till is gone, its reply can't be sent, or the power fails.
@@ -664,7 +664,7 @@ chunk 1 reconcile 1 1 SaleReconciliation & reconcile 1 2 SaleReconciliation
 
 #[test]
 fn failures_in_ends_of_day(rt: HostRuntime) -> Result<(), Fail> {
-    check_after(&rt, rt.alloc(), &[READY, SETTLING], FAILURES)?;
-    check_rows(&rt, rt.alloc(), READY, UNSENT)?;
-    check_rows(&rt, rt.alloc(), READY, CHUNKS)
+    check_after(rt.alloc(), &[READY, SETTLING], FAILURES)?;
+    check_rows(rt.alloc(), READY, UNSENT)?;
+    check_rows(rt.alloc(), READY, CHUNKS)
 }

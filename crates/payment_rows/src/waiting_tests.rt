@@ -1,5 +1,5 @@
-//! Rows of requests that wait, in the form that `tables` and `payment_lines` say: who is begun when, what takes one out, and what its key gets.
-use crate::tables::check_after;
+//! Rows of requests that wait, in the form that `row_texts` says: who is begun when, what takes one out, and what its key gets.
+use gateway_play::check_after;
 use std::test::Fail;
 
 /// Three requests may wait.
@@ -369,24 +369,19 @@ pt 0 061e016c
 
 #[test]
 fn turns(rt: HostRuntime) -> Result<(), Fail> {
-    check_after(&rt, rt.alloc(), &[THREE, READY, PAYING], TURNS)?;
-    check_after(&rt, rt.alloc(), &[THREE, READY, PAYING, PAID], REFUSED)
+    check_after(rt.alloc(), &[THREE, READY, PAYING], TURNS)?;
+    check_after(rt.alloc(), &[THREE, READY, PAYING, PAID], REFUSED)
 }
 
 #[test]
 fn keys_of_what_waits(rt: HostRuntime) -> Result<(), Fail> {
-    check_after(&rt, rt.alloc(), &[ONE, READY, PAYING, WAITING], KEYS)?;
-    check_after(&rt, rt.alloc(), &[FOUR, ONE, READY, PAYING], SLOTS)
+    check_after(rt.alloc(), &[ONE, READY, PAYING, WAITING], KEYS)?;
+    check_after(rt.alloc(), &[FOUR, ONE, READY, PAYING], SLOTS)
 }
 
 #[test]
 fn what_is_taken_out(rt: HostRuntime) -> Result<(), Fail> {
-    check_after(&rt, rt.alloc(), &[ONE, READY, PAYING, WAITING], TAKEN)?;
-    check_after(&rt, rt.alloc(), &[SIXTY, THREE, READY, PAYING], OVERDUE)?;
-    check_after(
-        &rt,
-        rt.alloc(),
-        &[TEN, ONE, READY, PAYING, WAITING],
-        TEN_SECONDS,
-    )
+    check_after(rt.alloc(), &[ONE, READY, PAYING, WAITING], TAKEN)?;
+    check_after(rt.alloc(), &[SIXTY, THREE, READY, PAYING], OVERDUE)?;
+    check_after(rt.alloc(), &[TEN, ONE, READY, PAYING, WAITING], TEN_SECONDS)
 }
