@@ -1,9 +1,9 @@
 -- Definitions that serve private functions alone.
 pub mod CharacterLeft
 pub mod CharacterStretches
+pub mod Content
 pub mod MemberOrder
 pub mod NumberLeft
 pub mod ReaderStates
 pub mod StepErrors
-pub mod StoredText
 pub mod Tokens

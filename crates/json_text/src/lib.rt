@@ -12,6 +12,7 @@
 #![tactic(auto)]
 
 mod character;
+mod content;
 mod fault;
 mod laws;
 mod members;
@@ -21,7 +22,6 @@ mod state;
 mod stretches;
 #[cfg(test)]
 mod tests;
-mod text;
 mod tokens;
 mod tree;
 mod writer;

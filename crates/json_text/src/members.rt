@@ -3,7 +3,7 @@ ghost use Rattle.std.specs.Prelude.{◌≡◌, ◌<◌, ◌≤◌, [], ◌++◌,
 ghost use Rattle.json_text.specs.MemberNames.{has_name, are_distinct, pair_names};
 ghost use Rattle.json_text.specs.inner.MemberOrder.{names_at, IsOrderOf, IsBetween};
 
-use crate::text::Text;
+use crate::content::Content;
 use crate::tree::{Chars, Json};
 use std::alloc::{AllocError, AllocFailed, Global};
 use std::cmp::Ordering;
@@ -64,7 +64,7 @@ impl OpenObject {
     }
 
     /// The object with this name, which none of its few members has.
-    pub(crate) fn with_name(self, name: Text) -> NamedObject
+    pub(crate) fn with_name(self, name: Content) -> NamedObject
         requires few { length self.members.items < 12 }
         requires new { has_name name (pair_names self.members.items) ≡ false }
         ensures members { result.members.items ≡ self.members.items }
@@ -79,7 +79,7 @@ impl OpenObject {
     }
 
     /// The object with this name for its next member; `None` where a member has it.
-    pub(crate) fn named(self, name: Text) -> Result<Option<NamedObject>, AllocError>
+    pub(crate) fn named(self, name: Content) -> Result<Option<NamedObject>, AllocError>
         ensures { IfOk result (λ found. MatchOption found (has_name name (pair_names self.members.items) ≡ true)
             (λ named. (named.members.items ≡ self.members.items) × (named.name ≡ name))) }
     {
@@ -91,7 +91,7 @@ impl OpenObject {
     }
 
     /// The object with this name, for one of the first few members.
-    fn named_few(self, name: Text) -> Option<NamedObject>
+    fn named_few(self, name: Content) -> Option<NamedObject>
         requires { length self.members.items < 12 }
         ensures { MatchOption result (has_name name (pair_names self.members.items) ≡ true)
             (λ named. (named.members.items ≡ self.members.items) × (named.name ≡ name)) }
@@ -103,7 +103,7 @@ impl OpenObject {
     }
 
     /// The object with this name, for a member after the first few.
-    fn named_later(self, name: Text) -> Result<Option<NamedObject>, AllocError>
+    fn named_later(self, name: Content) -> Result<Option<NamedObject>, AllocError>
         requires { 12 ≤ length self.members.items }
         ensures { IfOk result (λ found. MatchOption found (has_name name (pair_names self.members.items) ≡ true)
             (λ named. (named.members.items ≡ self.members.items) × (named.name ≡ name))) }

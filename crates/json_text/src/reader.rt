@@ -12,12 +12,12 @@ ghost use Rattle.json_text.specs.inner.StepErrors.{Fails, IsKindAt, IsNoMark};
 ghost use Rattle.json_text.specs.Fault.{RefusesText};
 
 use crate::character::{self, CharacterState, CharacterStep};
+use crate::content::Content;
 use crate::fault::{FaultKind, JsonFault, ReadError, StepError};
 use crate::members::{NamedObject, OpenObject};
 use crate::number::NumberState;
 use crate::state::{Literal, Mode, OpenLevel, State, Target};
 use crate::stretches::{is_white, take_number, take_text, white_len};
-use crate::text::Text;
 use crate::tokens::{set, take_first_name, take_name, take_value};
 use crate::tree::{Chars, Json, Numeral};
 use gw_bytes::MOST_LEVELS;
@@ -157,7 +157,7 @@ fn in_value(alloc: Global, state: &mut State, byte: u8) -> Result<(), StepError>
             Ok(())
         }
         b'"' => {
-            state.mode = Mode::Str(Target::Value, Text::new());
+            state.mode = Mode::Str(Target::Value, Content::new());
             Ok(())
         }
         _ => begin_literal(state, byte),
@@ -189,7 +189,7 @@ fn begin_number(
     requires { LeavesNumber IsNumberText byte number_state }
     ensures { MatchResult result (λ _. StepsOn value (levels state.old.stack.items) byte state.new) (Fails value (levels state.old.stack.items) byte) }
 {
-    let mut text = Text::new();
+    let mut text = Content::new();
     text.push(alloc, char::from(byte))?;
     state.mode = Mode::Number(text, number_state);
     Ok(())
@@ -221,7 +221,7 @@ fn in_first_name(alloc: Global, state: &mut State, byte: u8) -> Result<(), StepE
     }
     match byte {
         b'"' => {
-            state.mode = Mode::Str(Target::Name(OpenObject::new(alloc)), Text::new());
+            state.mode = Mode::Str(Target::Name(OpenObject::new(alloc)), Content::new());
             Ok(())
         }
         b'}' => {
@@ -242,7 +242,7 @@ fn in_name(alloc: Global, state: &mut State, opened: OpenObject, byte: u8) -> Re
     if byte != b'"' {
         return Err(StepError::Fault(FaultKind::NotJson));
     }
-    state.mode = Mode::Str(Target::Name(opened), Text::new());
+    state.mode = Mode::Str(Target::Name(opened), Content::new());
     Ok(())
 }
 
@@ -343,7 +343,7 @@ fn in_literal(state: &mut State, wanted: Literal, read: usize, byte: u8) -> Resu
 fn in_number(
     alloc: Global,
     state: &mut State,
-    text: Text,
+    text: Content,
     number_state: NumberState,
     byte: u8,
 ) -> Result<(), StepError>
@@ -370,7 +370,7 @@ fn in_string(
     alloc: Global,
     state: &mut State,
     target: Target,
-    text: Text,
+    text: Content,
     byte: u8,
 ) -> Result<(), StepError>
     ensures { MatchResult result (λ _. StepsOn (string_in (role_of target) text) (levels state.old.stack.items) byte state.new) (Fails (string_in (role_of target) text) (levels state.old.stack.items) byte) }
@@ -397,7 +397,7 @@ fn in_character(
     alloc: Global,
     state: &mut State,
     target: Target,
-    text: Text,
+    text: Content,
     within: CharacterState,
     byte: u8,
 ) -> Result<(), StepError>
@@ -420,7 +420,7 @@ fn in_character(
 }
 
 /// The closing quotation mark.
-fn closed(state: &mut State, target: Target, text: Text) -> Result<(), StepError>
+fn closed(state: &mut State, target: Target, text: Content) -> Result<(), StepError>
     ensures { MatchResult result (λ _. StepsOn (string_in (role_of target) text) (levels state.old.stack.items) 34 state.new) (Fails (string_in (role_of target) text) (levels state.old.stack.items) 34) }
 {
     match target {

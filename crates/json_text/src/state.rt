@@ -4,9 +4,9 @@ ghost use Rattle.json_text.specs.ValueOf.{value_of};
 ghost use Rattle.json_text.specs.inner.ReaderStates.{literal_text, literal_tree};
 
 use crate::character::CharacterState;
+use crate::content::Content;
 use crate::members::{NamedObject, OpenObject};
 use crate::number::NumberState;
-use crate::text::Text;
 use crate::tree::Json;
 
 /// An open array or object, with what it has so far.
@@ -74,11 +74,11 @@ pub(crate) enum Mode {
     /// A literal, of which so many letters have been read.
     Literal(Literal, usize),
     /// A number with this text so far.
-    Number(Text, NumberState),
+    Number(Content, NumberState),
     /// A string with this text so far, between two characters.
-    Str(Target, Text),
+    Str(Target, Content),
     /// A string with this text so far, inside a character.
-    Character(Target, Text, CharacterState),
+    Character(Target, Content, CharacterState),
 }
 
 /// The state of the reader between two bytes.

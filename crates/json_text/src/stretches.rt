@@ -6,8 +6,8 @@ ghost use Rattle.json_text.specs.inner.CharacterStretches.{CharacterBegins, Char
 ghost use Rattle.json_text.specs.inner.CharacterLeft.{IsSound};
 
 use crate::character::{self, CharacterState, CharacterStep};
+use crate::content::Content;
 use crate::number::NumberState;
-use crate::text::Text;
 use std::alloc::{AllocError, Global};
 use std::str;
 
@@ -52,7 +52,7 @@ pub(crate) fn plain_len(bytes: &[u8]) -> usize
 }
 
 /// Appends these bytes; `false` where they are no UTF-8, and nothing is appended.
-pub(crate) fn append(alloc: Global, text: &mut Text, bytes: &[u8]) -> Result<bool, AllocError>
+pub(crate) fn append(alloc: Global, text: &mut Content, bytes: &[u8]) -> Result<bool, AllocError>
     ensures { IfOk result (λ all. MatchBool all (text.new ≡ text.old ++ bytes.now) (text.new ≡ text.old)) }
 {
     match str::from_utf8(bytes) {
@@ -67,7 +67,7 @@ pub(crate) fn append(alloc: Global, text: &mut Text, bytes: &[u8]) -> Result<boo
 /// Appends so many bytes, all of which are characters by themselves; how many these are.
 fn append_plain(
     alloc: Global,
-    text: &mut Text,
+    text: &mut Content,
     bytes: &[u8],
     plain: usize,
 ) -> Result<usize, AllocError>
@@ -117,7 +117,7 @@ fn character_rest(begun: CharacterState, bytes: &[u8]) -> Option<(char, usize)>
 }
 
 /// Appends the plain characters that the bytes begin with, or else the one character; how many bytes these take.
-fn take_part(alloc: Global, text: &mut Text, bytes: &[u8]) -> Result<usize, AllocError>
+fn take_part(alloc: Global, text: &mut Content, bytes: &[u8]) -> Result<usize, AllocError>
     ensures { IfOk result (λ taken. (taken ≤ length bytes.now) × TextGrows text.old (take taken bytes.now) text.new) }
 {
     let plain = plain_len(bytes);
@@ -134,7 +134,11 @@ fn take_part(alloc: Global, text: &mut Text, bytes: &[u8]) -> Result<usize, Allo
 }
 
 /// Appends the characters at the beginning of the bytes that are there in whole; how many bytes these take.
-pub(crate) fn take_text(alloc: Global, text: &mut Text, bytes: &[u8]) -> Result<usize, AllocError>
+pub(crate) fn take_text(
+    alloc: Global,
+    text: &mut Content,
+    bytes: &[u8],
+) -> Result<usize, AllocError>
     ensures { IfOk result (λ taken. (taken ≤ length bytes.now) × TextGrows text.old (take taken bytes.now) text.new) }
 {
     let mut offset = 0;
@@ -166,7 +170,7 @@ pub(crate) fn number_stretch(number_state: NumberState, bytes: &[u8]) -> (usize,
 /// Appends the bytes with which the number goes on; how many these are.
 pub(crate) fn take_number(
     alloc: Global,
-    text: &mut Text,
+    text: &mut Content,
     number_state: &mut NumberState,
     bytes: &[u8],
 ) -> Result<usize, AllocError>

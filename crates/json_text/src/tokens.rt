@@ -3,11 +3,11 @@ ghost use Rattle.std.specs.Prelude.{◌≡◌, ◌≢◌, ◌<◌, length, true,
 ghost use Rattle.json_text.specs.inner.ReaderStates.{TakesStretch};
 ghost use Rattle.json_text.specs.inner.Tokens.{IsPlainString, NamesMember};
 
+use crate::content::Content;
 use crate::members::{NamedObject, OpenObject};
 use crate::number::NumberState;
 use crate::state::Mode;
 use crate::stretches::{append, number_stretch, plain_len, white_len};
-use crate::text::Text;
 use crate::tree::{Chars, Json};
 use std::alloc::{AllocError, Global};
 use std::mem;
@@ -46,7 +46,7 @@ fn take_string(
     requires string { IsPlainString bytes.now plain }
     ensures { IfOk result (λ taken. TakesStretch mode.old bytes.now taken mode.new) }
 {
-    let mut text = Text::new();
+    let mut text = Content::new();
     if append(alloc, &mut text, &bytes[1..plain + 1])? {
         set(mode, Mode::After(Json::Str(Chars::from_text(text))));
         Ok(plain + 2)
@@ -67,7 +67,7 @@ fn take_first_number(alloc: Global, mode: &mut Mode, bytes: &[u8]) -> Result<usi
         None => Ok(0),
         Some(first) => {
             let (more, last) = number_stretch(first, &bytes[1..]);
-            let mut text = Text::new();
+            let mut text = Content::new();
             if append(alloc, &mut text, &bytes[..more + 1])? {
                 set(mode, Mode::Number(text, last));
                 Ok(more + 1)
@@ -120,7 +120,7 @@ pub(crate) fn take_name(
             if opened.has(name) {
                 return Ok(None);
             }
-            let mut text = Text::new();
+            let mut text = Content::new();
             if append(alloc, &mut text, name)? {
                 let named = mem::replace(opened, OpenObject::new(alloc)).with_name(text);
                 Ok(Some((named, white + plain + 2)))

@@ -4,13 +4,13 @@ ghost use Rattle.json_text.specs.Tree.{get_of, member_names_of, member_of, boole
 ghost use Rattle.json_text.specs.Grammar.{IsNew};
 ghost use Rattle.json_text.specs.ValueOf.{value_of, members_value};
 
-use crate::text::Text;
+use crate::content::Content;
 use std::marker::Model;
 
 /// The text of a string or of a member's name, in UTF-8, its escapes decoded.
 #[derive(Debug, Drop)]
 pub struct Chars {
-    text: Text,
+    text: Content,
 }
 
 impl Model for Chars {
@@ -26,11 +26,11 @@ impl Chars {
         ensures { result ≡ string_bytes text }
     {
         Chars {
-            text: Text::long(text),
+            text: Content::allocated(text),
         }
     }
 
-    pub(crate) fn from_text(text: Text) -> Chars
+    pub(crate) fn from_text(text: Content) -> Chars
         ensures { result ≡ text }
     {
         Chars { text }
@@ -52,7 +52,7 @@ impl Chars {
 /// The text of a number, as it was read.
 #[derive(Debug, Drop)]
 pub struct Numeral {
-    text: Text,
+    text: Content,
 }
 
 impl Model for Numeral {
@@ -64,7 +64,7 @@ impl Model for Numeral {
 }
 
 impl Numeral {
-    pub(crate) fn new(text: Text) -> Numeral
+    pub(crate) fn new(text: Content) -> Numeral
         ensures { result ≡ text }
     {
         Numeral { text }

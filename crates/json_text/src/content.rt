@@ -1,4 +1,4 @@
-//! A text that needs memory of the allocator only where it is of more than 16 bytes.
+//! The content of a string, a name or a number, in the value itself or in memory of the allocator.
 ghost use Rattle.std.specs.Prelude.{◌≡◌, ◌++◌, [], IfOk, if◌then◌else◌, is_ok, string_bytes};
 ghost use Rattle.std.specs.Char.{encode_utf8};
 
@@ -6,9 +6,9 @@ use arrayvec::ArrayString;
 use std::alloc::{AllocError, Global};
 use std::marker::Model;
 
-/// A text. A contract sees it as its bytes.
+/// A text, which needs no memory of the allocator up to 16 bytes. A contract sees its bytes.
 #[derive(Debug, Drop)]
-pub(crate) struct Text {
+pub(crate) struct Content {
     storage: Storage,
 }
 
@@ -16,47 +16,38 @@ pub(crate) struct Text {
 #[derive(Debug, Drop)]
 enum Storage {
     /// In the value itself.
-    Short(ArrayString<16>),
-    Long(String),
+    Inline(ArrayString<16>),
+    Allocated(String),
 }
 
-impl Model for Text {
+impl Model for Content {
     ghost use Rattle.std.specs.Prelude.{List, ℕ};
 
     ghost Value = { List ℕ };
 
-    ghost use Rattle.json_text.specs.inner.StoredText.{stored_bytes};
+    ghost use Rattle.json_text.specs.inner.Content.{stored_bytes};
 
     ghost view = { λ t. stored_bytes t.storage };
 }
 
-impl Text {
+impl Content {
     /// A text without bytes.
     #[inline(always)]
-    pub(crate) fn new() -> Text
+    pub(crate) fn new() -> Content
         ensures bytes { result ≡ [] }
     {
-        Text {
-            storage: Storage::Short(ArrayString::new()),
+        Content {
+            storage: Storage::Inline(ArrayString::new()),
         }
     }
 
     /// The text, in memory of the allocator.
-    pub(crate) fn long(text: String) -> Text
+    pub(crate) fn allocated(text: String) -> Content
         ensures { result ≡ string_bytes text }
     {
-        Text {
-            storage: Storage::Long(text),
+        Content {
+            storage: Storage::Allocated(text),
         }
-    }
-
-    /// A copy.
-    pub(crate) fn copied(alloc: Global, text: &str) -> Result<Text, AllocError>
-        ensures { IfOk result (λ copy. copy ≡ text.now) }
-    {
-        let mut copy = Text::new();
-        copy.push_str(alloc, text)?;
-        Ok(copy)
     }
 
     /// Appends the character.
@@ -88,14 +79,14 @@ impl Text {
         ensures value { result.now ≡ self.now }
     {
         match &self.storage {
-            Storage::Short(text) => text.as_str(),
-            Storage::Long(text) => text.as_str(),
+            Storage::Inline(text) => text.as_str(),
+            Storage::Allocated(text) => text.as_str(),
         }
     }
 }
 
 impl Storage {
-    ghost use Rattle.json_text.specs.inner.StoredText.{stored_bytes};
+    ghost use Rattle.json_text.specs.inner.Content.{stored_bytes};
 
     /// Appends the bytes, which go with those before into memory of the allocator where they don't fit.
     #[inline(always)]
@@ -103,16 +94,16 @@ impl Storage {
         ensures bytes { stored_bytes self.new ≡ (if is_ok result then stored_bytes self.old ++ more.now else stored_bytes self.old) }
     {
         match self {
-            Storage::Short(text) => {
+            Storage::Inline(text) => {
                 if more.len() <= text.remaining_capacity() {
                     text.push_str(more);
                     return Ok(());
                 }
                 let both = joined(alloc, text.as_str(), more)?;
-                *self = Storage::Long(both);
+                *self = Storage::Allocated(both);
                 Ok(())
             }
-            Storage::Long(text) => text.push_str(more),
+            Storage::Allocated(text) => text.push_str(more),
         }
     }
 }
