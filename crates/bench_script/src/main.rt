@@ -7,8 +7,7 @@
 #![tactic(auto)]
 
 use anyhow::{Context, anyhow, bail};
-use gw_base::Bytes;
-use gw_site::{Failed, Site, Turn, What};
+use gw_site::{Failed, SharedBytes, Site, Turn, What};
 use sim_script::ScriptFault;
 use sim_site::SimSite;
 use std::alloc::{AllocError, Global};
@@ -100,7 +99,7 @@ fn play(alloc: Global, site: &mut SimSite) -> anyhow::Result<u64> {
 
 /// How many bytes a turn has.
 fn bytes_of(turn: &Turn) -> u64 {
-    let bytes: &Bytes = match turn {
+    let bytes: &SharedBytes = match turn {
         Turn::HeardTill { bytes, .. } => bytes,
         Turn::SentTill { bytes, .. } => bytes,
         _ => return 0,

@@ -8,8 +8,7 @@ ghost use Rattle.gw_site.specs.declared.turn.Turn.TheVariants.{SentTill, SentPt}
 ghost use Rattle.gw_script.specs.LogText.{is_space_or_visible, is_printable_frame, till_bytes_text, taken, log_text, turn_text};
 ghost use Rattle.gw_run.specs.LogWritten.{Adds, LogWritten};
 
-use gw_base::Bytes;
-use gw_site::{Failed, Sink, Turn};
+use gw_site::{Failed, SharedBytes, Sink, Turn};
 use sale_frame::framed_payload;
 use std::alloc::{AllocError, Global};
 use std::str;
@@ -111,7 +110,7 @@ fn push_sent_till(
     alloc: Global,
     lines: &mut String,
     till: u64,
-    bytes: &Bytes,
+    bytes: &SharedBytes,
     ok: bool,
 ) -> Result<(), AllocError>
     ensures { OnOk result (string_bytes lines.new ≡ string_bytes lines.old ++ turn_text (SentTill till bytes.now ok)) }
@@ -129,7 +128,7 @@ fn push_sent_pt(
     alloc: Global,
     lines: &mut String,
     pt: u16,
-    bytes: &Bytes,
+    bytes: &SharedBytes,
     ok: bool,
 ) -> Result<(), AllocError>
     ensures { OnOk result (string_bytes lines.new ≡ string_bytes lines.old ++ turn_text (SentPt pt bytes.now ok)) }

@@ -6,6 +6,7 @@ ghost use Rattle.gw_site.specs.Laws.{StableIsImage, FileIsImage, JunkIsImage};
 
 mod memory;
 mod no_site;
+mod on_heap;
 mod site;
 mod standard;
 mod streams;
@@ -13,6 +14,7 @@ mod turn;
 
 pub use memory::{MemSink, MemSource};
 pub use no_site::NoSite;
+pub use on_heap::{BoxedSetup, SharedBytes};
 pub use site::{Failed, Polled, Site, What};
 pub use standard::{StdSink, StdSource};
 pub use streams::{Sink, Source};

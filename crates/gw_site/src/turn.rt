@@ -1,7 +1,7 @@
 //! The entries of a site's log.
 ghost use Rattle.std.specs.Prelude.{◌≡◌, ◌++◌, [], ◌∷◌, OnErr, OnOk};
 
-use gw_base::{Bytes, Setup};
+use crate::on_heap::{BoxedSetup, SharedBytes};
 use std::alloc::AllocError;
 use std::marker::Model;
 
@@ -9,32 +9,67 @@ use std::marker::Model;
 #[derive(Debug, Drop)]
 pub enum Turn {
     /// A run begins with this setup.
-    Start(Setup),
+    Start(BoxedSetup),
     OpenFailed,
     /// The site was polled; the turn of what it brought, if it brought anything, comes next.
-    Polled { now: i64 },
-    Opened { till: u64 },
-    HeardTill { till: u64, bytes: Bytes },
+    Polled {
+        now: i64,
+    },
+    Opened {
+        till: u64,
+    },
+    HeardTill {
+        till: u64,
+        bytes: SharedBytes,
+    },
     /// The till closed its connection.
-    Closed { till: u64 },
-    HeardPt { pt: u16, bytes: Bytes },
+    Closed {
+        till: u64,
+    },
+    HeardPt {
+        pt: u16,
+        bytes: SharedBytes,
+    },
     /// The terminal's connection is lost.
-    Lost { pt: u16 },
+    Lost {
+        pt: u16,
+    },
     /// The run is to end.
     Stopped,
-    Linked { pt: u16 },
-    LinkFailed { pt: u16 },
+    Linked {
+        pt: u16,
+    },
+    LinkFailed {
+        pt: u16,
+    },
     /// Where `ok` is false, only these bytes were taken of those that were to be sent.
-    SentTill { till: u64, bytes: Bytes, ok: bool },
+    SentTill {
+        till: u64,
+        bytes: SharedBytes,
+        ok: bool,
+    },
     /// Where `ok` is false, only these bytes were taken of those that were to be sent.
-    SentPt { pt: u16, bytes: Bytes, ok: bool },
-    CutTill { till: u64 },
-    CutPt { pt: u16 },
-    Wrote { pos: u64, bytes: Bytes },
+    SentPt {
+        pt: u16,
+        bytes: SharedBytes,
+        ok: bool,
+    },
+    CutTill {
+        till: u64,
+    },
+    CutPt {
+        pt: u16,
+    },
+    Wrote {
+        pos: u64,
+        bytes: SharedBytes,
+    },
     Synced,
     DiskFailed,
     /// The power failed and left this file.
-    Crash { file: Bytes },
+    Crash {
+        file: SharedBytes,
+    },
 }
 
 /// The turns of a log, oldest first. A contract sees a list.

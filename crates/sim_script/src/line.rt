@@ -3,6 +3,7 @@ ghost use Rattle.std.specs.Prelude.{length};
 ghost use Rattle.gw_site.specs.Turns.{IsCount};
 
 use gw_base::{Bytes, Ident, Pt, Pts, Setup, Text};
+use gw_site::SharedBytes;
 use std::alloc::{AllocError, Global};
 
 /// A script: what its setup lines give, and the lines that are played.
@@ -95,19 +96,27 @@ pub enum ImageKind {
 /// What comes at once: 1 to 4,096 bytes.
 #[derive(Debug, Drop)]
 pub struct Chunk {
-    bytes: Bytes,
+    bytes: SharedBytes,
     pub ghost within: { IsCount (length bytes) },
 }
 
 impl Chunk {
-    ghost use Rattle.std.specs.Prelude.{◌≡◌};
+    ghost use Rattle.std.specs.Prelude.{◌≡◌, IfOk};
 
     /// A chunk of these bytes.
-    pub(crate) fn new(bytes: Bytes) -> Chunk
+    pub(crate) fn new(alloc: Global, bytes: Bytes) -> Result<Chunk, AllocError>
         requires { IsCount (length bytes) }
-        ensures { result.bytes ≡ bytes }
+        ensures { IfOk result (λ chunk. chunk.bytes ≡ bytes) }
     {
-        Chunk { bytes }
+        let bytes = SharedBytes::new(alloc, bytes)?;
+        Ok(Chunk { bytes })
+    }
+
+    /// The bytes, which one more holds.
+    pub fn share(&self) -> Result<SharedBytes, AllocError>
+        ensures { IfOk result (λ shared. shared ≡ self.now.bytes) }
+    {
+        self.bytes.share()
     }
 
     /// The bytes.

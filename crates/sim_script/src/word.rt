@@ -160,7 +160,7 @@ pub(crate) fn chunk(alloc: Global, text: &str) -> Result<Option<Chunk>, AllocErr
 {
     match decoded(alloc, text)? {
         Some(bytes) if (1..=LONGEST_CHUNK).contains(&bytes.as_slice().len()) => {
-            Ok(Some(Chunk::new(bytes)))
+            Ok(Some(Chunk::new(alloc, bytes)?))
         }
         _ => Ok(None),
     }
@@ -185,5 +185,6 @@ pub(crate) fn said(alloc: Global, text: &str) -> Result<Option<Chunk>, AllocErro
     if text.is_empty() || text.len() > SAID_LIMIT {
         return Ok(None);
     }
-    Ok(Some(Chunk::new(framed(alloc, text.as_bytes())?)))
+    let bytes = framed(alloc, text.as_bytes())?;
+    Ok(Some(Chunk::new(alloc, bytes)?))
 }

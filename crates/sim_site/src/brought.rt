@@ -2,14 +2,12 @@
 ghost use Rattle.std.specs.Prelude.{◌≡◌, ◌≤◌, length, take, option_map, IfOk};
 ghost use Rattle.std.specs.Option.{option_copied};
 ghost use Rattle.sim_script.specs.Values.{script_event_value, script_line_value};
-ghost use Rattle.gw_site.specs.Turns.{IsCount};
 ghost use Rattle.gw_script.specs.site.ScriptLine.{FromTill, FromPt};
 ghost use Rattle.sim_site.specs.Broughts.{HasDueTurn, HasEventTurn};
 
-use gw_base::Bytes;
 use gw_site::{Turn, What};
-use sim_script::{ScriptEvent, ScriptLine};
-use std::alloc::{AllocError, Global};
+use sim_script::{Chunk, ScriptEvent, ScriptLine};
+use std::alloc::AllocError;
 
 /// What a poll brings, and the turn of it where it has one.
 #[derive(Drop)]
@@ -28,49 +26,38 @@ fn fill(buf: &mut [u8; 4096], bytes: &[u8])
 }
 
 /// What a till says, and its bytes in the buffer.
-fn heard_till(
-    alloc: Global,
-    till: u64,
-    bytes: &[u8],
-    buf: &mut [u8; 4096],
-) -> Result<Brought, AllocError>
-    requires { IsCount (length bytes.now) }
-    ensures brought { IfOk result (λ brought. HasEventTurn brought (FromTill till bytes.now) buf.new) }
+fn heard_till(till: u64, chunk: &Chunk, buf: &mut [u8; 4096]) -> Result<Brought, AllocError>
+    ensures brought { IfOk result (λ brought. HasEventTurn brought (FromTill till chunk.now.bytes) buf.new) }
     ensures buf { length buf.new ≡ 4096 }
 {
-    let copy = Bytes::copied(alloc, bytes)?;
+    let shared = chunk.share()?;
+    let bytes = chunk.as_slice();
     fill(buf, bytes);
     Ok(Brought {
         what: What::TillBytes(till, bytes.len()),
-        turn: Some(Turn::HeardTill { till, bytes: copy }),
+        turn: Some(Turn::HeardTill {
+            till,
+            bytes: shared,
+        }),
     })
 }
 
 /// What a terminal says, and its bytes in the buffer.
-fn heard_pt(
-    alloc: Global,
-    pt: u16,
-    bytes: &[u8],
-    buf: &mut [u8; 4096],
-) -> Result<Brought, AllocError>
-    requires { IsCount (length bytes.now) }
-    ensures brought { IfOk result (λ brought. HasEventTurn brought (FromPt pt bytes.now) buf.new) }
+fn heard_pt(pt: u16, chunk: &Chunk, buf: &mut [u8; 4096]) -> Result<Brought, AllocError>
+    ensures brought { IfOk result (λ brought. HasEventTurn brought (FromPt pt chunk.now.bytes) buf.new) }
     ensures buf { length buf.new ≡ 4096 }
 {
-    let copy = Bytes::copied(alloc, bytes)?;
+    let shared = chunk.share()?;
+    let bytes = chunk.as_slice();
     fill(buf, bytes);
     Ok(Brought {
         what: What::PtBytes(pt, bytes.len()),
-        turn: Some(Turn::HeardPt { pt, bytes: copy }),
+        turn: Some(Turn::HeardPt { pt, bytes: shared }),
     })
 }
 
 /// What a poll brings that has met this event.
-fn bring_event(
-    alloc: Global,
-    event: &ScriptEvent,
-    buf: &mut [u8; 4096],
-) -> Result<Brought, AllocError>
+fn bring_event(event: &ScriptEvent, buf: &mut [u8; 4096]) -> Result<Brought, AllocError>
     ensures brought { IfOk result (λ brought. HasEventTurn brought (script_event_value event.now) buf.new) }
     ensures buf { length buf.new ≡ 4096 }
 {
@@ -83,8 +70,8 @@ fn bring_event(
             what: What::TillClosed(*till),
             turn: Some(Turn::Closed { till: *till }),
         }),
-        ScriptEvent::FromTill(till, chunk) => heard_till(alloc, *till, chunk.as_slice(), buf),
-        ScriptEvent::FromPt(pt, chunk) => heard_pt(alloc, *pt, chunk.as_slice(), buf),
+        ScriptEvent::FromTill(till, chunk) => heard_till(*till, chunk, buf),
+        ScriptEvent::FromPt(pt, chunk) => heard_pt(*pt, chunk, buf),
         ScriptEvent::Lose(pt) => Ok(Brought {
             what: What::PtClosed(*pt),
             turn: Some(Turn::Lost { pt: *pt }),
@@ -97,16 +84,12 @@ fn bring_event(
 }
 
 /// What a poll brings that ends at this line, or after the last one.
-pub(crate) fn bring(
-    alloc: Global,
-    line: Option<&ScriptLine>,
-    buf: &mut [u8; 4096],
-) -> Result<Brought, AllocError>
+pub(crate) fn bring(line: Option<&ScriptLine>, buf: &mut [u8; 4096]) -> Result<Brought, AllocError>
     ensures brought { IfOk result (λ brought. HasDueTurn brought (option_map script_line_value (option_copied line.entry)) buf.new) }
     ensures buf { length buf.new ≡ 4096 }
 {
     match line {
-        Some(ScriptLine::Poll(event)) => bring_event(alloc, event, buf),
+        Some(ScriptLine::Poll(event)) => bring_event(event, buf),
         // No poll that brings something ends at another line.
         Some(_) => Ok(Brought {
             what: What::Nothing,

@@ -22,7 +22,7 @@ use crate::hazard::{is_failing, takes_most};
 use crate::place::Place;
 use crate::polled::polled;
 use gw_base::{Bytes, Setup};
-use gw_site::{Turn, Turns, What};
+use gw_site::{BoxedSetup, SharedBytes, Turn, Turns, What};
 use sim_script::{ImageKind, Script};
 use std::alloc::{AllocError, Global};
 use std::snapshot::Snapshot;
@@ -55,15 +55,8 @@ fn no_turns(alloc: Global) -> Turns
     Turns::new(Vec::new(alloc))
 }
 
-/// A copy of a setup.
-fn copied(setup: &Setup) -> Result<Setup, AllocError>
-    ensures { IfOk result (λ copy. copy ≡ setup.now) }
-{
-    setup.clone()
-}
-
 /// The turn of an opening.
-fn open_turn(fails: bool, setup: Setup) -> Turn
+fn open_turn(fails: bool, setup: BoxedSetup) -> Turn
     ensures { result ∷ [] ≡ (if fails then OpenFailed ∷ [] else Start setup ∷ []) }
 {
     if fails {
@@ -107,7 +100,12 @@ fn push_poll(log: &mut Turns, now: i64, event: Option<Turn>) -> Result<(), Alloc
 }
 
 /// Appends the turn of a write, and that of its failure.
-fn push_write(log: &mut Turns, offset: u64, bytes: Bytes, fails: bool) -> Result<(), AllocError>
+fn push_write(
+    log: &mut Turns,
+    offset: u64,
+    bytes: SharedBytes,
+    fails: bool,
+) -> Result<(), AllocError>
     ensures ok { OnOk result (log.new ≡ log.old ++ (if fails then Wrote offset bytes ∷ DiskFailed ∷ [] else Wrote offset bytes ∷ [])) }
     ensures err { OnErr result ((log.new ≡ log.old) ⊎ (log.new ≡ log.old ++ Wrote offset bytes ∷ [])) }
 {
@@ -231,7 +229,7 @@ impl Played {
         ensures same { IsSameScript self.old self.new }
     {
         let image = self.disk.image(alloc, kind)?;
-        let file = Bytes::copied(alloc, &image)?;
+        let file = SharedBytes::copied(alloc, &image)?;
         let disk = Disk::holding(alloc, image)?;
         self.log.push(Turn::Crash { file })?;
         self.place.restart();
@@ -250,7 +248,7 @@ impl Played {
         ensures short { self.new.short ≡ self.old.short }
         ensures script { self.new.script ≡ self.old.script }
     {
-        let copy = Bytes::copied(alloc, file)?;
+        let copy = SharedBytes::copied(alloc, file)?;
         let disk = Disk::of(alloc, file)?;
         self.log.push(Turn::Crash { file: copy })?;
         self.scripted = false;
@@ -260,7 +258,7 @@ impl Played {
     }
 
     /// The site is opened. True where this fails.
-    pub(crate) fn open(&mut self, setup: &Setup) -> Result<bool, AllocError>
+    pub(crate) fn open(&mut self, alloc: Global, setup: &Setup) -> Result<bool, AllocError>
         requires { IsLit self.old }
         ensures made { OnOk result (IsCallMade self.old self.new (OpenCall setup.now)) }
         ensures fails { IfOk result (λ fails. fails ≡ self.old.place.hazard.open) }
@@ -269,7 +267,7 @@ impl Played {
     {
         self.short = true;
         let fails = self.place.hazard.open;
-        let copy = copied(setup)?;
+        let copy = BoxedSetup::copied(alloc, setup)?;
         self.log.push(open_turn(fails, copy))?;
         self.place.open();
         self.connections.clear();
@@ -278,7 +276,7 @@ impl Played {
     }
 
     /// The site is polled. What this brings, with its bytes in the buffer; the stop where the power fails.
-    pub(crate) fn poll(&mut self, alloc: Global, buf: &mut [u8; 4096]) -> Result<What, AllocError>
+    pub(crate) fn poll(&mut self, buf: &mut [u8; 4096]) -> Result<What, AllocError>
         requires { IsLit self.old }
         ensures made { OnOk result (IsCallMade self.old self.new PollCall) }
         ensures polled { IfOk result (λ what. IsPollMade self.old self.new what buf.new) }
@@ -291,7 +289,6 @@ impl Played {
     {
         self.short = true;
         let brought = polled(
-            alloc,
             &mut self.place,
             &self.script.lines,
             &mut self.connections,
@@ -321,7 +318,7 @@ impl Played {
     {
         self.short = true;
         let most = takes_most(&self.place.hazard.tills, till);
-        let sent = Bytes::copied(alloc, taken(bytes, most))?;
+        let sent = SharedBytes::copied(alloc, taken(bytes, most))?;
         self.log.push(Turn::SentTill {
             till,
             bytes: sent,
@@ -347,7 +344,7 @@ impl Played {
     {
         self.short = true;
         let most = takes_most(&self.place.hazard.pts, u64::from(pt));
-        let sent = Bytes::copied(alloc, taken(bytes, most))?;
+        let sent = SharedBytes::copied(alloc, taken(bytes, most))?;
         self.log.push(Turn::SentPt {
             pt,
             bytes: sent,
@@ -453,7 +450,7 @@ impl Played {
     {
         self.short = true;
         let fails = self.place.hazard.write;
-        let copy = Bytes::copied(alloc, bytes)?;
+        let copy = SharedBytes::copied(alloc, bytes)?;
         self.disk.write(offset as usize, bytes)?;
         push_write(&mut self.log, offset, copy, fails)?;
         self.place.write();

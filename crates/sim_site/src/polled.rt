@@ -7,12 +7,11 @@ use crate::connections::Connections;
 use crate::place::Place;
 use crate::sought::sought;
 use sim_script::ScriptLine;
-use std::alloc::{AllocError, Global};
+use std::alloc::AllocError;
 
 /// The script is played up to the line at which the poll ends, and the connections follow what it brings. Nothing where the
 /// power fails at that line.
 pub(crate) fn polled(
-    alloc: Global,
     place: &mut Place,
     lines: &[ScriptLine],
     connections: &mut Connections,
@@ -26,7 +25,7 @@ pub(crate) fn polled(
     if place.off.is_some() {
         return Ok(None);
     }
-    let brought = bring(alloc, line, buf)?;
+    let brought = bring(line, buf)?;
     connections.follow(brought.what)?;
     Ok(Some(brought))
 }

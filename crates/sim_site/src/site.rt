@@ -71,9 +71,14 @@ impl SimSite {
         ensures line { (line : ℕ) → IsScriptFault bytes.now (ScriptFault.Line line)
             → IsErrOf result (ScriptFault.Line line) ⊎ IsErrOf result ScriptFault.Memory }
     {
+        // The text comes first: its copy is given back before the lines are there.
+        let text = text_of(alloc, bytes);
         match read_script(alloc, bytes) {
-            Ok(script) => match SimSite::of(alloc, bytes, script) {
-                Ok(site) => Ok(site),
+            Ok(script) => match text {
+                Ok(text) => match SimSite::of(alloc, text, script) {
+                    Ok(site) => Ok(site),
+                    Err(_) => Err(ScriptFault::Memory),
+                },
                 Err(_) => Err(ScriptFault::Memory),
             },
             Err(fault) => Err(fault),
@@ -81,14 +86,13 @@ impl SimSite {
     }
 
     /// A site that plays the script that was read.
-    fn of(alloc: Global, bytes: &[u8], script: Script) -> Result<SimSite, AllocError>
-        requires { script_of bytes.now ≡ Ok (whole_script_value script) }
-        ensures site { IfOk result (λ site. sim_observed site ≡ record { log = Some []; faults = 0; dark = false; origin = bytes.now; plan = Some (site_turns (played_script site).lines) }) }
+    fn of(alloc: Global, text: Snapshot<Bytes>, script: Script) -> Result<SimSite, AllocError>
+        requires { script_of text.value ≡ Ok (whole_script_value script) }
+        ensures site { IfOk result (λ site. sim_observed site ≡ record { log = Some []; faults = 0; dark = false; origin = text.value; plan = Some (site_turns (played_script site).lines) }) }
         ensures log { IfOk result (λ site. log_of site ≡ []) }
-        ensures script { IfOk result (λ site. script_of bytes.now ≡ Ok (played_script site)) }
+        ensures script { IfOk result (λ site. script_of text.value ≡ Ok (played_script site)) }
         ensures place { IfOk result (λ site. place_of site ≡ begins (played_script site).lines) }
     {
-        let text = text_of(alloc, bytes)?;
         let played = Played::new(alloc, text, script)?;
         Ok(SimSite {
             alloc,
@@ -249,7 +253,7 @@ impl Site for SimSite {
         if self.played.is_dark() {
             return Err(self.fail());
         }
-        let made = self.played.open(setup);
+        let made = self.played.open(self.alloc, setup);
         self.report(made)
     }
 
@@ -269,7 +273,7 @@ impl Site for SimSite {
         if self.played.is_dark() {
             return self.stopped();
         }
-        match self.played.poll(self.alloc, buf) {
+        match self.played.poll(buf) {
             Ok(what) => Polled {
                 now: self.played.place.moment,
                 what,
