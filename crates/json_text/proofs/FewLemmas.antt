@@ -22,10 +22,10 @@ pub order_few : {A : Type 0} (indices : List ℕ) (ms : List (List ℕ × A)) (k
 order_few indices ms k lt o = order_same indices (pair_names ms) k o (no_names ms lt ∙ sym (no_names_named ms k lt))
 
 -- and each one after them
-pub order_later : {A : Type 0} (indices new : List ℕ) (ms : List (List ℕ × A)) (q k : List ℕ) (at n : ℕ) → n ≡ length ms → new ≡ insert indices at n → k ≡ q → 12 ≤ length ms → IsOrderOf indices (pair_names ms) → IsBetween (names_at indices (pair_names ms)) q at at → IsOrderOf new (pair_names ms ++ k ∷ [])
-order_later indices new ms q k at n len e is le o b =
+pub order_later : {A : Type 0} (indices new : List ℕ) (ms : List (List ℕ × A)) (q k : List ℕ) (rank n : ℕ) → n ≡ length ms → new ≡ insert indices rank n → k ≡ q → 12 ≤ length ms → IsOrderOf indices (pair_names ms) → IsBetween (names_at indices (pair_names ms)) q rank rank → IsOrderOf new (pair_names ms ++ k ∷ [])
+order_later indices new ms q k rank n len e is le o b =
     let names = pair_names ms in
-    subst (λ is. IsOrderOf is (names ++ k ∷ [])) (sym e) (order_inserted indices names k at n (len ∙ sym (length-names ms)) o (subst (λ l. IsBetween (names_at indices names) l at at) (sym is) b) (omega (arith, length-names ms)))
+    subst (λ is. IsOrderOf is (names ++ k ∷ [])) (sym e) (order_inserted indices names k rank n (len ∙ sym (length-names ms)) o (subst (λ l. IsBetween (names_at indices names) l rank rank) (sym is) b) (omega (arith, length-names ms)))
 
 pub order_pushed : {A : Type 0} (indices : List ℕ) (ms new : List (List ℕ × A)) (k : List ℕ) (x : A) → new ≡ ms ++ (k, x) ∷ [] → IsOrderOf indices (pair_names ms ++ k ∷ []) → IsOrderOf indices (pair_names new)
 order_pushed indices ms new k x e o = subst (λ ns. IsOrderOf indices ns) (sym (ap (λ (l : List (List ℕ × _)). pair_names l) e ∙ names_append ms k x)) o
@@ -50,10 +50,10 @@ repeats_first q ms b e is = among_first q ms b e ∙ ap (λ (x : Bool). x || has
 pub repeats_later : {A : Type 0} (indices : List ℕ) (q : List ℕ) (ms : List (List ℕ × A)) (b : Bool) → b ≡ has_name q (pair_names (take 12 ms)) → IsOrderOf indices (pair_names ms) → has_name q (names_at indices (pair_names ms)) ≡ true → has_name q (pair_names ms) ≡ true
 repeats_later indices q ms b e o is = among_first q ms b e ∙ ap (λ (x : Bool). b || x) (sym (o.known q) ∙ is) ∙ or_last b
 
-pub new_later : {A : Type 0} (indices : List ℕ) (q k : List ℕ) (ms : List (List ℕ × A)) (b : Bool) (at : ℕ) → k ≡ q → are_distinct (pair_names ms) ≡ true → b ≡ has_name q (pair_names (take 12 ms)) → b ≡ false → IsOrderOf indices (pair_names ms) → IsBetween (names_at indices (pair_names ms)) q at at → are_distinct (pair_names ms ++ k ∷ []) ≡ true
-new_later indices q k ms b at is d e apart o gap =
+pub new_later : {A : Type 0} (indices : List ℕ) (q k : List ℕ) (ms : List (List ℕ × A)) (b : Bool) (rank : ℕ) → k ≡ q → are_distinct (pair_names ms) ≡ true → b ≡ has_name q (pair_names (take 12 ms)) → b ≡ false → IsOrderOf indices (pair_names ms) → IsBetween (names_at indices (pair_names ms)) q rank rank → are_distinct (pair_names ms ++ k ∷ []) ≡ true
+new_later indices q k ms b rank is d e apart o gap =
     distinct_append (pair_names ms) k d (ap (λ (l : List ℕ). has_name l (pair_names ms)) is ∙ among_first q ms b e ∙ ap (λ (x : Bool). x || has_name q (drop 12 (pair_names ms))) apart
-    ∙ sym (o.known q) ∙ absent (names_at indices (pair_names ms)) q at gap)
+    ∙ sym (o.known q) ∙ absent (names_at indices (pair_names ms)) q rank gap)
 
 -- what a search says of a name and members, by what these are
 pub same_among : {A : Type 0} (q name : List ℕ) (ms first : List (List ℕ × A)) (b : Bool) → name ≡ q → first ≡ ms → b ≡ has_name name (pair_names first) → b ≡ has_name q (pair_names ms)

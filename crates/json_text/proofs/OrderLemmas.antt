@@ -72,8 +72,8 @@ has_none k [] h = refl
 has_none k (n ∷ ns) h = ap₂ (λ a b. a || b) (h 0 (omega arith)) (has_none k ns (λ i lt. h (suc i) (omega arith)))
 
 -- where the name belongs none of them has it
-pub absent : (ns : List (List ℕ)) (k : List ℕ) (at : ℕ) → IsBetween ns k at at → has_name k ns ≡ false
-absent ns k at b = has_none k ns (λ i lt. bytes_eq_sym k (get_or ns i []) ∙ sym (is_eq-slice_cmp (get_or ns i []) k) ∙ elim (cases_lt i at) [
+pub absent : (ns : List (List ℕ)) (k : List ℕ) (rank : ℕ) → IsBetween ns k rank rank → has_name k ns ≡ false
+absent ns k rank b = has_none k ns (λ i lt. bytes_eq_sym k (get_or ns i []) ∙ sym (is_eq-slice_cmp (get_or ns i []) k) ∙ elim (cases_lt i rank) [
   | inl under ↦ ap is_eq (b.below i under)
   | inr over ↦ ap is_eq (b.above i over lt)
 ])
@@ -84,33 +84,33 @@ names_more : (indices : List ℕ) (names : List (List ℕ)) (k : List ℕ) → (
 names_more [] names k h = refl
 names_more (p ∷ ps) names k h = ap₂ (λ x xs. x ∷ xs) (get_or_append_left names (k ∷ []) [] p (h 0 (omega arith))) (names_more ps names k (λ i lt. h (suc i) (omega arith)))
 
-names_insert : (indices : List ℕ) (names : List (List ℕ)) (at p : ℕ) → names_at (insert indices at p) names ≡ insert (names_at indices names) at (get_or names p [])
-names_insert indices names at p =
+names_insert : (indices : List ℕ) (names : List (List ℕ)) (rank p : ℕ) → names_at (insert indices rank p) names ≡ insert (names_at indices names) rank (get_or names p [])
+names_insert indices names rank p =
     let f : ℕ → List ℕ = λ i. get_or names i [] in
-    map-append f (take at indices) (p ∷ drop at indices) ∙ ap₂ (λ xs ys. xs ++ f p ∷ ys) (sym (take-map f at indices)) (sym (drop-map f at indices))
+    map-append f (take rank indices) (p ∷ drop rank indices) ∙ ap₂ (λ xs ys. xs ++ f p ∷ ys) (sym (take-map f rank indices)) (sym (drop-map f rank indices))
 
-has_name_insert : (q : List ℕ) (ns : List (List ℕ)) (at : ℕ) (k : List ℕ) → has_name q (insert ns at k) ≡ (bytes_eq q k || has_name q ns)
-has_name_insert q ns at k = has_name_between q (take at ns) (drop at ns) k ∙ ap (λ (l : List (List ℕ)). bytes_eq q k || has_name q l) (take-append-drop at ns)
+has_name_insert : (q : List ℕ) (ns : List (List ℕ)) (rank : ℕ) (k : List ℕ) → has_name q (insert ns rank k) ≡ (bytes_eq q k || has_name q ns)
+has_name_insert q ns rank k = has_name_between q (take rank ns) (drop rank ns) k ∙ ap (λ (l : List (List ℕ)). bytes_eq q k || has_name q l) (take-append-drop rank ns)
 
-ascending_insert : (ns : List (List ℕ)) (k : List ℕ) (at : ℕ) → AreAscending ns → IsBetween ns k at at → AreAscending (insert ns at k)
-ascending_insert ns k at up b i j lt in_range = by (cases_order i at) (cases_order j at)
+ascending_insert : (ns : List (List ℕ)) (k : List ℕ) (rank : ℕ) → AreAscending ns → IsBetween ns k rank rank → AreAscending (insert ns rank k)
+ascending_insert ns k rank up b i j lt in_range = by (cases_order i rank) (cases_order j rank)
   where
     new : List (List ℕ)
-    new = insert ns at k
+    new = insert ns rank k
 
-    low : (i : ℕ) → i < at → get_or new i [] ≡ get_or ns i []
-    low i h = get_or-insert_below ns at k [] i h b.inside
+    low : (i : ℕ) → i < rank → get_or new i [] ≡ get_or ns i []
+    low i h = get_or-insert_below ns rank k [] i h b.inside
 
-    here : (i : ℕ) → i ≡ at → get_or new i [] ≡ k
-    here i h = ap (λ j. get_or new j []) h ∙ get_or-insert_at ns at k [] b.inside
+    here : (i : ℕ) → i ≡ rank → get_or new i [] ≡ k
+    here i h = ap (λ j. get_or new j []) h ∙ get_or-insert_at ns rank k [] b.inside
 
-    high : (i : ℕ) → at < i → get_or new i [] ≡ get_or ns (i - 1) []
-    high i h = let e : i ≡ i - 1 + 1 = omega arith in ap (λ j. get_or new j []) e ∙ get_or-insert_above ns at k [] (i - 1) (omega arith) b.inside
+    high : (i : ℕ) → rank < i → get_or new i [] ≡ get_or ns (i - 1) []
+    high i h = let e : i ≡ i - 1 + 1 = omega arith in ap (λ j. get_or new j []) e ∙ get_or-insert_above ns rank k [] (i - 1) (omega arith) b.inside
 
     len : length new ≡ length ns + 1
-    len = length-insert ns at k b.inside
+    len = length-insert ns rank k b.inside
 
-    by : (i ≡ at) ⊎ ((i < at) ⊎ (at < i)) → (j ≡ at) ⊎ ((j < at) ⊎ (at < j)) → slice_cmp nat_cmp (get_or new i []) (get_or new j []) ≡ Less
+    by : (i ≡ rank) ⊎ ((i < rank) ⊎ (rank < i)) → (j ≡ rank) ⊎ ((j < rank) ⊎ (rank < j)) → slice_cmp nat_cmp (get_or new i []) (get_or new j []) ≡ Less
     by (inl e) (inl f) = absurd (omega arith)
     by (inl e) (inr (inl f)) = absurd (omega arith)
     by (inl e) (inr (inr f)) = ap₂ (λ x y. slice_cmp nat_cmp x y) (here i e) (high j f) ∙ reversed _ k (b.above (j - 1) (omega arith) (omega (arith, len)))
@@ -125,28 +125,28 @@ last : (names : List (List ℕ)) (k : List ℕ) (n : ℕ) → n ≡ length names
 last names k n e = let f : n ≡ length names + 0 = omega arith in ap (λ i. get_or (names ++ k ∷ []) i []) f ∙ get_or-append-add names (k ∷ []) 0 []
 
 -- the order with the index of one more name where this belongs
-module _ (indices : List ℕ) (names : List (List ℕ)) (k : List ℕ) (at n : ℕ) (e : n ≡ length names) (o : IsOrderOf indices names) (b : IsBetween (names_at indices names) k at at) where
-  inside : at ≤ length indices
+module _ (indices : List ℕ) (names : List (List ℕ)) (k : List ℕ) (rank n : ℕ) (e : n ≡ length names) (o : IsOrderOf indices names) (b : IsBetween (names_at indices names) k rank rank) where
+  inside : rank ≤ length indices
   inside = omega (arith, b.inside, length-map indices (λ i. get_or names i []))
 
-  names_inserted : names_at (insert indices at n) (names ++ k ∷ []) ≡ insert (names_at indices names) at k
-  names_inserted = names_insert indices (names ++ k ∷ []) at n ∙ ap₂ (λ ns x. insert ns at x) (names_more indices names k o.within) (last names k n e)
+  names_inserted : names_at (insert indices rank n) (names ++ k ∷ []) ≡ insert (names_at indices names) rank k
+  names_inserted = names_insert indices (names ++ k ∷ []) rank n ∙ ap₂ (λ ns x. insert ns rank x) (names_more indices names k o.within) (last names k n e)
 
-  within : (i : ℕ) → i < length (insert indices at n) → get_or (insert indices at n) i 0 < length (names ++ k ∷ [])
-  within i lt = elim (cases_order i at) [
-    | inl f ↦ omega (arith, ap (λ j. get_or (insert indices at n) j 0) f, get_or-insert_at indices at n 0 inside, length-append names (k ∷ []))
-    | inr (inl f) ↦ omega (arith, get_or-insert_below indices at n 0 i f inside, o.within i (omega (arith, inside)), length-append names (k ∷ []))
+  within : (i : ℕ) → i < length (insert indices rank n) → get_or (insert indices rank n) i 0 < length (names ++ k ∷ [])
+  within i lt = elim (cases_order i rank) [
+    | inl f ↦ omega (arith, ap (λ j. get_or (insert indices rank n) j 0) f, get_or-insert_at indices rank n 0 inside, length-append names (k ∷ []))
+    | inr (inl f) ↦ omega (arith, get_or-insert_below indices rank n 0 i f inside, o.within i (omega (arith, inside)), length-append names (k ∷ []))
     | inr (inr f) ↦
         let g : i ≡ i - 1 + 1 = omega arith in
-        let above = get_or-insert_above indices at n 0 (i - 1) (omega arith) inside in
-        omega (arith, ap (λ j. get_or (insert indices at n) j 0) g, above, o.within (i - 1) (omega (arith, length-insert indices at n inside)), length-append names (k ∷ []))
+        let above = get_or-insert_above indices rank n 0 (i - 1) (omega arith) inside in
+        omega (arith, ap (λ j. get_or (insert indices rank n) j 0) g, above, o.within (i - 1) (omega (arith, length-insert indices rank n inside)), length-append names (k ∷ []))
   ]
 
-  pub order_inserted : 12 ≤ length names → IsOrderOf (insert indices at n) (names ++ k ∷ [])
+  pub order_inserted : 12 ≤ length names → IsOrderOf (insert indices rank n) (names ++ k ∷ [])
   order_inserted le = record {
     within = within;
-    ascending = subst AreAscending (sym names_inserted) (ascending_insert (names_at indices names) k at o.ascending b);
-    known = λ q. ap (λ (ns : List (List ℕ)). has_name q ns) names_inserted ∙ has_name_insert q (names_at indices names) at k ∙ ap (λ (x : Bool). bytes_eq q k || x) (o.known q)
+    ascending = subst AreAscending (sym names_inserted) (ascending_insert (names_at indices names) k rank o.ascending b);
+    known = λ q. ap (λ (ns : List (List ℕ)). has_name q ns) names_inserted ∙ has_name_insert q (names_at indices names) rank k ∙ ap (λ (x : Bool). bytes_eq q k || x) (o.known q)
         ∙ sym (has_name_append q (drop 12 names) k) ∙ ap (λ (ns : List (List ℕ)). has_name q ns) (sym (drop-append-le 12 names (k ∷ []) le));
   }
 

@@ -148,7 +148,7 @@ number_taken m n b c more p q text is to lt le e l g t =
 pub none_taken : (m : Mode) (b : List ℕ) → TakesStretch m b 0 m
 none_taken m b = record { few = omega arith; within = λ w. w; leads = record { on = λ R st b v h. h; back = λ R st b v h. h; scans = refl } }
 
--- ---- white space and what is behind it
+-- ---- white space and what comes after it
 
 pub value_after_white : (m n : Mode) (b : List ℕ) (white k : ℕ) → m ≡ modes.Value → white ≤ length b → AreSpaces (take white b) → TakesStretch m (take (length b - white) (drop white b)) k n → TakesStretch m b (white + k) n
 value_after_white m n b white k is le s t =

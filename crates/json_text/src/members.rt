@@ -116,8 +116,8 @@ impl OpenObject {
             mut sorted,
         } = self;
         match gap(members.as_slice(), sorted.as_slice(), name.as_bytes()) {
-            Some(at) => {
-                sorted.insert(at, members.len())?;
+            Some(rank) => {
+                sorted.insert(rank, members.len())?;
                 Ok(Some(NamedObject {
                     members,
                     sorted,
@@ -133,7 +133,7 @@ impl OpenObject {
 fn gap(members: &[(Chars, Json)], sorted: &[usize], name: &[u8]) -> Option<usize>
     requires { IsOrderOf sorted.now (pair_names members.now) }
     ensures { MatchOption result (has_name name.now (names_at sorted.now (pair_names members.now)) ≡ true)
-        (λ at. IsBetween (names_at sorted.now (pair_names members.now)) name.now at at) }
+        (λ rank. IsBetween (names_at sorted.now (pair_names members.now)) name.now rank rank) }
 {
     let mut low = 0;
     let mut high = sorted.len();

@@ -10,12 +10,12 @@ invariant_of-result c =
     let name = c.args.name in
     let ms = c.args.self.members.items in
     let indices = c.args.self.sorted.items in
-    let at = c.in-Some.at in
+    let rank = c.in-Some.rank in
     let among = same_among name _ (take 12 ms) _ c.is_among.result c.as_bytes.ensures.value (ap (λ l. take 12 l) c.deref.ensures.value) c.is_among.ensures in
-    let gap = same_search (λ ns k. IsBetween ns k at at) name _ ms _ indices _ c.as_bytes-2.ensures.value c.as_slice.ensures.value c.as_slice-2.ensures.value c.in-Some.ensures in
+    let gap = same_search (λ ns k. IsBetween ns k rank rank) name _ ms _ indices _ c.as_bytes-2.ensures.value c.as_slice.ensures.value c.as_slice-2.ensures.value c.in-Some.ensures in
     record {
-      order = order_later indices _ ms name c.from_text.result at c.len.result (c.len.ensures ∙ sym c.as_slice.ensures.len ∙ ap length c.as_slice.ensures.value) c.in_ok-insert-in-Some.ensures.items c.from_text.ensures c.requires c.args.self.order gap;
-      new = new_later indices name c.from_text.result ms _ at c.from_text.ensures c.args.self.distinct among c.if-is_among.false c.args.self.order gap;
+      order = order_later indices _ ms name c.from_text.result rank c.len.result (c.len.ensures ∙ sym c.as_slice.ensures.len ∙ ap length c.as_slice.ensures.value) c.in_ok-insert-in-Some.ensures.items c.from_text.ensures c.requires c.args.self.order gap;
+      new = new_later indices name c.from_text.result ms _ rank c.from_text.ensures c.args.self.distinct among c.if-is_among.false c.args.self.order gap;
     }
 
 pub returns-then-is_among : goal.returns-then-is_among
