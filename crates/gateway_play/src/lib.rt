@@ -1,5 +1,5 @@
 //! How tests play whole scripts by the top call: rows, replays compared with what is wanted, and sites that hold files.
-//! Only tests call it, and its functions have no contracts.
+//! Only tests call it, and its public functions have no contracts.
 #![tactic(auto)]
 
 mod files;

@@ -1,6 +1,6 @@
 -- The reader's states as plain data: what is read, and the open levels.
 use Rattle.std.proofs.Common.{◌≡◌, ℕ, ◌≤◌, List, [], ◌∷◌, ◌++◌, length, map, refl, sym, ap, subst, ◌∙◌, Option, Some, Result, Ok, Err}
-use Rattle.std.specs.Prelude.{option_to_list, MatchResult}
+use Rattle.std.specs.Prelude.{option_to_list, MatchResult, string_bytes}
 use Rattle.std.proofs.lemmas.List.{reverse-append, map-append, length-reverse, length-map}
 use Rattle.json_text.specs.Tree.{Tree}
 use Rattle.json_text.specs.ValueOf.{value_of}
@@ -82,9 +82,9 @@ mode_live R (modes.Name f) fs w = name_live R (levels fs) (pairs f.members.items
 mode_live R (modes.Colon n) fs w = colon_live R (levels fs) (pairs n.members.items) n.name (levels_sound fs) (named_distinct n)
 mode_live R (modes.After x) fs w = after_live R (levels fs) (value_of x) (levels_sound fs)
 mode_live R (modes.Literal wanted read) fs w = literal_live R _ _ (levels fs) (levels_sound fs)
-mode_live R (modes.Number text p) fs w = number_live R text p (levels fs) (levels_sound fs)
-mode_live R (modes.Str t text) fs w = text_live R (levels fs) (role_of t) text (levels_sound fs) (role_sound t)
-mode_live R (modes.Character t text s) fs w = character_live R (levels fs) (role_of t) text s (levels_sound fs) (role_sound t) w
+mode_live R (modes.Number text p) fs w = number_live R (string_bytes text) p (levels fs) (levels_sound fs)
+mode_live R (modes.Str t text) fs w = text_live R (levels fs) (role_of t) (string_bytes text) (levels_sound fs) (role_sound t)
+mode_live R (modes.Character t text s) fs w = character_live R (levels fs) (role_of t) (string_bytes text) s (levels_sound fs) (role_sound t) w
 
 -- ---- the result of a step
 

@@ -2,7 +2,6 @@
 mod PrefixLemmas
 pub mod CanonicalLemmas
 pub mod CharacterLemmas
-pub mod ColonLemmas
 pub mod EndLemmas
 pub mod FewLemmas
 pub mod FollowLemmas
@@ -14,14 +13,12 @@ pub mod LoopLemmas
 pub mod NameLemmas
 pub mod NumberLemmas
 pub mod ObjectLemmas
-pub mod OrderLemmas
 pub mod PartLemmas
 pub mod ReaderLemmas
 pub mod ScanLemmas
 pub mod StateLemmas
 pub mod StretchLemmas
 pub mod StringLemmas
-pub mod TokenLemmas
 pub mod TreeLemmas
 pub mod UniqueLemmas
 pub mod Utf8Lemmas

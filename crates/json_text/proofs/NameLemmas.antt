@@ -1,13 +1,13 @@
 -- Names that differ.
-use Rattle.std.proofs.Common.{◌≡◌, ℕ, Bool, true, false, not, ◌||◌, ◌&&◌, List, [], ◌∷◌, ◌++◌, bytes_eq, nat_eq, refl, sym, ap, ◌∙◌, arith, true≢false, append-nil}
+use Rattle.std.proofs.Common.{◌≡◌, ℕ, Bool, true, false, not, ◌||◌, ◌&&◌, cond, List, [], ◌∷◌, ◌++◌, bytes_eq, nat_eq, refl, sym, ap, ◌∙◌, arith, true≢false}
 use Rattle.std.proofs.lemmas.List.{map-append}
 use Rattle.std.proofs.lemmas.Bool.Decides.{nat_tests}
 use Rattle.json_text.specs.Grammar.{IsNew, AreDistinct}
 use Rattle.json_text.specs.MemberNames.{has_name, are_distinct, pair_names}
 
-pub has_name_between : (q : List ℕ) (ms ns : List (List ℕ)) (k : List ℕ) → has_name q (ms ++ k ∷ ns) ≡ (bytes_eq q k || has_name q (ms ++ ns))
-has_name_between q [] ns k = refl
-has_name_between q (m ∷ ms) ns k = ap (λ (b : Bool). bytes_eq q m || b) (has_name_between q ms ns k) ∙ swap (bytes_eq q m) (bytes_eq q k) (has_name q (ms ++ ns))
+pub has_name_append : (q : List ℕ) (ns : List (List ℕ)) (k : List ℕ) → has_name q (ns ++ k ∷ []) ≡ (bytes_eq q k || has_name q ns)
+has_name_append q [] k = refl
+has_name_append q (n ∷ ns) k = ap (λ (b : Bool). bytes_eq q n || b) (has_name_append q ns k) ∙ swap (bytes_eq q n) (bytes_eq q k) (has_name q ns)
   where
     swap : (x y z : Bool) → (x || (y || z)) ≡ (y || (x || z))
     swap true true z = refl
@@ -15,11 +15,12 @@ has_name_between q (m ∷ ms) ns k = ap (λ (b : Bool). bytes_eq q m || b) (has_
     swap false true z = refl
     swap false false z = refl
 
-pub has_name_append : (q : List ℕ) (ns : List (List ℕ)) (k : List ℕ) → has_name q (ns ++ k ∷ []) ≡ (bytes_eq q k || has_name q ns)
-has_name_append q ns k = has_name_between q ns [] k ∙ ap (λ (l : List (List ℕ)). bytes_eq q k || has_name q l) (append-nil ns)
-
 pub names_append : {A : Type 0} (ms : List (List ℕ × A)) (k : List ℕ) (x : A) → pair_names (ms ++ (k, x) ∷ []) ≡ pair_names ms ++ k ∷ []
 names_append ms k x = map-append (λ m. m.0) ms ((k, x) ∷ [])
+
+of_cond : (a b : Bool) → cond a true b ≡ (a || b)
+of_cond true b = refl
+of_cond false b = refl
 
 eq_sym : (x y : ℕ) → nat_eq x y ≡ nat_eq y x
 eq_sym x y = grind (arith, nat_tests)
@@ -29,6 +30,16 @@ bytes_eq_sym [] [] = refl
 bytes_eq_sym [] (y ∷ ys) = refl
 bytes_eq_sym (x ∷ xs) [] = refl
 bytes_eq_sym (x ∷ xs) (y ∷ ys) = ap (λ (b : Bool). b && bytes_eq xs ys) (eq_sym x y) ∙ ap (λ (b : Bool). nat_eq y x && b) (bytes_eq_sym xs ys)
+
+-- a set with one more name in it, beside the names and this one
+pub added : {A : Type 0} (q own k : List ℕ) (ms : List (List ℕ × A)) (had : Bool) → own ≡ k → had ≡ has_name q (pair_names ms) → cond (bytes_eq own q) true had ≡ has_name q (pair_names ms ++ k ∷ [])
+added q own k ms had e g =
+    of_cond (bytes_eq own q) had ∙ ap (λ (b : Bool). b || had) (bytes_eq_sym own q ∙ ap (bytes_eq q) e) ∙ ap (λ (b : Bool). bytes_eq q k || b) g
+    ∙ sym (has_name_append q (pair_names ms) k)
+
+pub not_true : (b : Bool) → not b ≡ true → b ≡ false
+not_true true e = absurd (true≢false (sym e))
+not_true false e = refl
 
 -- names that differ, and one that is none of them
 pub distinct_append : (ns : List (List ℕ)) (k : List ℕ) → are_distinct ns ≡ true → has_name k ns ≡ false → are_distinct (ns ++ k ∷ []) ≡ true

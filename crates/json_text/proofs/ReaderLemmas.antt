@@ -1,6 +1,6 @@
 -- What the reader does in each state.
-use Rattle.std.proofs.Common.{◌≡◌, ◌≢◌, ℕ, ◌<◌, ◌≤◌, List, [], ◌∷◌, ◌++◌, length, map, true, false, refl, sym, ap, subst, ◌∙◌, arith, Vec, Global, Result}
-use Rattle.std.specs.Prelude.{MatchResult}
+use Rattle.std.proofs.Common.{◌≡◌, ◌≢◌, ℕ, ◌<◌, ◌≤◌, List, [], ◌∷◌, ◌++◌, length, map, true, false, refl, sym, ap, subst, ◌∙◌, arith, Vec, Global, Result, String}
+use Rattle.std.specs.Prelude.{MatchResult, string_bytes}
 use Rattle.std.specs.Char.{encode_utf8}
 use Rattle.std.proofs.lemmas.List.{map-append}
 use Rattle.std.proofs.lemmas.Str.{encode_ascii}
@@ -78,10 +78,10 @@ object_too_deep fs c e le = subst (λ (k : ℕ). IsTooDeep value (levels fs) k) 
   scans = refl;
 })
 
-pub string_begins : (o : Vec OpenLevel Global) (text : List ℕ) (c : ℕ) → c ≡ 34 → text ≡ [] → StepsOn value (levels o.items) c (state o (modes.Str targets.Value text))
+pub string_begins : (o : Vec OpenLevel Global) (text : String Global) (c : ℕ) → c ≡ 34 → string_bytes text ≡ [] → StepsOn value (levels o.items) c (state o (modes.Str targets.Value text))
 string_begins o text c e empty = stays value o c 34 (modes.Str targets.Value text) (string_in as_value []) e (ap (string_in as_value) empty) tt (λ R le. values.begins_string R (levels o.items)) refl
 
-pub number_begins : (o : Vec OpenLevel Global) (text : List ℕ) (p : NumberState) (c ch : ℕ) (old : List ℕ) → LeavesNumber IsNumberText c p → ch ≡ c → old ≡ [] → text ≡ old ++ encode_utf8 ch → StepsOn value (levels o.items) c (state o (modes.Number text p))
+pub number_begins : (o : Vec OpenLevel Global) (text : String Global) (p : NumberState) (c ch : ℕ) (old : List ℕ) → LeavesNumber IsNumberText c p → ch ≡ c → old ≡ [] → string_bytes text ≡ old ++ encode_utf8 ch → StepsOn value (levels o.items) c (state o (modes.Number text p))
 number_begins o text p c ch old m is none e =
     stays value o c c (modes.Number text p) (number_in (c ∷ []) p) refl
     (ap (λ (t : List ℕ). number_in t p) (e ∙ ap (λ (l : List ℕ). l ++ encode_utf8 ch) none ∙ ap encode_utf8 is ∙ encode_ascii c m.byte.ascii))
@@ -144,10 +144,10 @@ no_element x done st c solid comma close = outside_wrong (after x) (in_list done
 pub name_space : (o : Vec OpenLevel Global) (c : ℕ) → is_space c ≡ true → StepsOn first_name (levels o.items) c (state o modes.FirstName)
 name_space o c e = stays first_name o c c modes.FirstName first_name refl refl tt (λ R le. objects.space_first_name R (levels o.items) c e) (space_stays c e)
 
-pub first_quote : (o : Vec OpenLevel Global) (f : OpenObject) (text : List ℕ) (c : ℕ) → c ≡ 34 → f.members.items ≡ [] → text ≡ [] → StepsOn first_name (levels o.items) c (state o (modes.Str (targets.Name f) text))
+pub first_quote : (o : Vec OpenLevel Global) (f : OpenObject) (text : String Global) (c : ℕ) → c ≡ 34 → f.members.items ≡ [] → string_bytes text ≡ [] → StepsOn first_name (levels o.items) c (state o (modes.Str (targets.Name f) text))
 first_quote o f text c e none empty =
     stays first_name o c 34 (modes.Str (targets.Name f) text) (string_in (as_name []) []) e
-    (ap (λ (ms : List (List ℕ × Json)). string_in (as_name (pairs ms)) text) none ∙ ap (string_in (as_name [])) empty) tt (λ R le. objects.first_quote R (levels o.items)) refl
+    (ap (λ (ms : List (List ℕ × Json)). string_in (as_name (pairs ms)) (string_bytes text)) none ∙ ap (string_in (as_name [])) empty) tt (λ R le. objects.first_quote R (levels o.items)) refl
 
 pub empty_object : (o : Vec OpenLevel Global) (v : Vec (List ℕ × Json) Global) (c : ℕ) → c ≡ 125 → v.items ≡ [] → StepsOn first_name (levels o.items) c (state o (modes.After (jsons.Object v)))
 empty_object o v c e none =
@@ -186,11 +186,11 @@ after_space o j c e = stays (after (value_of j)) o c c (modes.After j) (after (v
 
 -- ---- numbers
 
-pub number_goes : (o : Vec OpenLevel Global) (old new : List ℕ) (p q : NumberState) (c ch : ℕ) → LeavesNumber (LeftOfNumber p) c q → ch ≡ c → new ≡ old ++ encode_utf8 ch → StepsOn (number_in old p) (levels o.items) c (state o (modes.Number new q))
+pub number_goes : (o : Vec OpenLevel Global) (old new : String Global) (p q : NumberState) (c ch : ℕ) → LeavesNumber (LeftOfNumber p) c q → ch ≡ c → string_bytes new ≡ string_bytes old ++ encode_utf8 ch → StepsOn (number_in (string_bytes old) p) (levels o.items) c (state o (modes.Number new q))
 number_goes o old new p q c ch m is e =
-    stays (number_in old p) o c c (modes.Number new q) (number_in (old ++ c ∷ []) q) refl
-    (ap (λ (t : List ℕ). number_in t q) (e ∙ ap (λ (l : List ℕ). old ++ l) (ap encode_utf8 is ∙ encode_ascii c m.byte.ascii)))
-    tt (λ R le. number_on R (levels o.items) old p q c m) (stays_outside c m.byte.no_mark.3)
+    stays (number_in (string_bytes old) p) o c c (modes.Number new q) (number_in (string_bytes old ++ c ∷ []) q) refl
+    (ap (λ (t : List ℕ). number_in t q) (e ∙ ap (λ (l : List ℕ). string_bytes old ++ l) (ap encode_utf8 is ∙ encode_ascii c m.byte.ascii)))
+    tt (λ R le. number_on R (levels o.items) (string_bytes old) p q c m) (stays_outside c m.byte.no_mark.3)
 
 pub number_result : {U : Type 0} (r : Result U StepError) (t : State) (fs : List OpenLevel) (text : List ℕ) (p : NumberState) (x : Tree) (c : ℕ) → EndsNumber (LeftOfNumber p) c → LeftOfNumber p [] → x ≡ number text
     → MatchResult r (λ _. StepsOn (after x) (levels fs) c t) (Fails (after x) (levels fs) c) → MatchResult r (λ _. StepsOn (number_in text p) (levels fs) c t) (Fails (number_in text p) (levels fs) c)
@@ -201,27 +201,27 @@ number_result r t fs text p x c stop whole e h =
 
 -- ---- strings
 
-pub text_goes : (o : Vec OpenLevel Global) (t : Target) (old new : List ℕ) (x ch : ℕ) → x ≢ 34 → LeavesNone Starts inside x ch → new ≡ old ++ encode_utf8 ch → StepsOn (string_in (role_of t) old) (levels o.items) x (state o (modes.Str t new))
+pub text_goes : (o : Vec OpenLevel Global) (t : Target) (old new : String Global) (x ch : ℕ) → x ≢ 34 → LeavesNone Starts inside x ch → string_bytes new ≡ string_bytes old ++ encode_utf8 ch → StepsOn (string_in (role_of t) (string_bytes old)) (levels o.items) x (state o (modes.Str t new))
 text_goes o t old new x ch ne m e =
-    stays (string_in (role_of t) old) o x x (modes.Str t new) (string_in (role_of t) (old ++ encode_utf8 ch)) refl (ap (string_in (role_of t)) e) tt
-    (λ R le. text_whole R (levels o.items) (role_of t) old x ch ne m) m.scans
+    stays (string_in (role_of t) (string_bytes old)) o x x (modes.Str t new) (string_in (role_of t) (string_bytes old ++ encode_utf8 ch)) refl (ap (string_in (role_of t)) e) tt
+    (λ R le. text_whole R (levels o.items) (role_of t) (string_bytes old) x ch ne m) m.scans
 
-pub text_enters : (o : Vec OpenLevel Global) (t : Target) (text : List ℕ) (x : ℕ) (s : CharacterState) → x ≢ 34 → LeavesNext Starts inside x s → StepsOn (string_in (role_of t) text) (levels o.items) x (state o (modes.Character t text s))
+pub text_enters : (o : Vec OpenLevel Global) (t : Target) (text : String Global) (x : ℕ) (s : CharacterState) → x ≢ 34 → LeavesNext Starts inside x s → StepsOn (string_in (role_of t) (string_bytes text)) (levels o.items) x (state o (modes.Character t text s))
 text_enters o t text x s ne m =
-    stays (string_in (role_of t) text) o x x (modes.Character t text s) (character_in (role_of t) text s) refl refl
+    stays (string_in (role_of t) (string_bytes text)) o x x (modes.Character t text s) (character_in (role_of t) (string_bytes text) s) refl refl
     (record { bounds = m.bounds; scalar = λ w c l. starts_scalar (x ∷ w) c (m.back w c l) })
-    (λ R le. text_next R (levels o.items) (role_of t) text x s ne m) m.scans
+    (λ R le. text_next R (levels o.items) (role_of t) (string_bytes text) x s ne m) m.scans
 
-pub character_goes : (o : Vec OpenLevel Global) (t : Target) (text : List ℕ) (x : ℕ) (s u : CharacterState) → IsSound s → LeavesNext (LeftOfCharacter s) (scan_within s) x u → StepsOn (character_in (role_of t) text s) (levels o.items) x (state o (modes.Character t text u))
+pub character_goes : (o : Vec OpenLevel Global) (t : Target) (text : String Global) (x : ℕ) (s u : CharacterState) → IsSound s → LeavesNext (LeftOfCharacter s) (scan_within s) x u → StepsOn (character_in (role_of t) (string_bytes text) s) (levels o.items) x (state o (modes.Character t text u))
 character_goes o t text x s u sound m =
-    stays (character_in (role_of t) text s) o x x (modes.Character t text u) (character_in (role_of t) text u) refl refl
+    stays (character_in (role_of t) (string_bytes text) s) o x x (modes.Character t text u) (character_in (role_of t) (string_bytes text) u) refl refl
     (record { bounds = m.bounds; scalar = λ w c l. sound.scalar (x ∷ w) c (m.back w c l) })
-    (λ R le. character_next R (levels o.items) (role_of t) text s u (scan_within s) x sound m) m.scans
+    (λ R le. character_next R (levels o.items) (role_of t) (string_bytes text) s u (scan_within s) x sound m) m.scans
 
-pub character_ends : (o : Vec OpenLevel Global) (t : Target) (old new : List ℕ) (x ch : ℕ) (s : CharacterState) → IsSound s → LeavesNone (LeftOfCharacter s) (scan_within s) x ch → new ≡ old ++ encode_utf8 ch → StepsOn (character_in (role_of t) old s) (levels o.items) x (state o (modes.Str t new))
+pub character_ends : (o : Vec OpenLevel Global) (t : Target) (old new : String Global) (x ch : ℕ) (s : CharacterState) → IsSound s → LeavesNone (LeftOfCharacter s) (scan_within s) x ch → string_bytes new ≡ string_bytes old ++ encode_utf8 ch → StepsOn (character_in (role_of t) (string_bytes old) s) (levels o.items) x (state o (modes.Str t new))
 character_ends o t old new x ch s sound m e =
-    stays (character_in (role_of t) old s) o x x (modes.Str t new) (string_in (role_of t) (old ++ encode_utf8 ch)) refl (ap (string_in (role_of t)) e) tt
-    (λ R le. character_whole R (levels o.items) (role_of t) old s (scan_within s) x ch sound m) m.scans
+    stays (character_in (role_of t) (string_bytes old) s) o x x (modes.Str t new) (string_in (role_of t) (string_bytes old ++ encode_utf8 ch)) refl (ap (string_in (role_of t)) e) tt
+    (λ R le. character_whole R (levels o.items) (role_of t) (string_bytes old) s (scan_within s) x ch sound m) m.scans
 
 by_kind : (p : ReaderState) (st : List Level) (c : ℕ) (fault_kind : FaultKind) → ((R : Rules) → IsDead R p st c) → IsKindAt (scan_of p) c fault_kind → FailsAt p st c fault_kind
 by_kind p st c kinds.NotJson dead k = record { dead = dead; utf8 = k }
@@ -237,17 +237,17 @@ character_wrong fs t text s x fault_kind sound dead k = by_kind (character_in (r
 
 -- ---- the closing quotation mark
 
-pub string_closes : (o : Vec OpenLevel Global) (t : Target) (text : List ℕ) (j : Json) → t ≡ targets.Value → value_of j ≡ string text → StepsOn (string_in (role_of t) text) (levels o.items) 34 (state o (modes.After j))
+pub string_closes : (o : Vec OpenLevel Global) (t : Target) (text : String Global) (j : Json) → t ≡ targets.Value → value_of j ≡ string (string_bytes text) → StepsOn (string_in (role_of t) (string_bytes text)) (levels o.items) 34 (state o (modes.After j))
 string_closes o t text j is e =
-    subst (λ (u : Target). StepsOn (string_in (role_of u) text) (levels o.items) 34 (state o (modes.After j))) (sym is)
-    (stays (string_in as_value text) o 34 34 (modes.After j) (after (string text)) refl (ap after e) tt (λ R le. text_closes R (levels o.items) text) refl)
+    subst (λ (u : Target). StepsOn (string_in (role_of u) (string_bytes text)) (levels o.items) 34 (state o (modes.After j))) (sym is)
+    (stays (string_in as_value (string_bytes text)) o 34 34 (modes.After j) (after (string (string_bytes text))) refl (ap after e) tt (λ R le. text_closes R (levels o.items) (string_bytes text)) refl)
 
-pub name_closes : (o : Vec OpenLevel Global) (t : Target) (f : OpenObject) (text : List ℕ) (n : NamedObject) → t ≡ targets.Name f → n.members.items ≡ f.members.items → n.name ≡ text → StepsOn (string_in (role_of t) text) (levels o.items) 34 (state o (modes.Colon n))
+pub name_closes : (o : Vec OpenLevel Global) (t : Target) (f : OpenObject) (text : String Global) (n : NamedObject) → t ≡ targets.Name f → n.members.items ≡ f.members.items → n.name ≡ string_bytes text → StepsOn (string_in (role_of t) (string_bytes text)) (levels o.items) 34 (state o (modes.Colon n))
 name_closes o t f text n is e g =
-    subst (λ (u : Target). StepsOn (string_in (role_of u) text) (levels o.items) 34 (state o (modes.Colon n))) (sym is)
-    (stays (string_in (as_name (pairs f.members.items)) text) o 34 34 (modes.Colon n) (colon (pairs f.members.items) text) refl
+    subst (λ (u : Target). StepsOn (string_in (role_of u) (string_bytes text)) (levels o.items) 34 (state o (modes.Colon n))) (sym is)
+    (stays (string_in (as_name (pairs f.members.items)) (string_bytes text)) o 34 34 (modes.Colon n) (colon (pairs f.members.items) (string_bytes text)) refl
     (ap (λ (ms : List (List ℕ × Json)). colon (pairs ms) n.name) e ∙ ap (colon (pairs f.members.items)) g) tt
-    (λ R le. objects.name_closes R (pairs f.members.items) text (levels o.items)) refl)
+    (λ R le. objects.name_closes R (pairs f.members.items) (string_bytes text) (levels o.items)) refl)
 
 pub name_repeats : (fs : List OpenLevel) (t : Target) (f : OpenObject) (text : List ℕ) → t ≡ targets.Name f → has_name text (pair_names f.members.items) ≡ true → FailsAt (string_in (role_of t) text) (levels fs) 34 kinds.Repeated
 name_repeats fs t f text is has =

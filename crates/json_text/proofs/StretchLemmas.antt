@@ -1,6 +1,6 @@
 -- Stretches of bytes that are taken at once.
-use Rattle.std.proofs.Common.{◌≡◌, ℕ, ◌+◌, ◌-◌, ◌<◌, ◌≤◌, List, [], ◌∷◌, ◌++◌, length, get_or, take, drop, Bool, true, false, refl, sym, ap, subst, ◌∙◌, arith, append_assoc, length-drop, true≢false, Result, Ok, Err}
-use Rattle.std.specs.Prelude.{IfOk, MatchBool}
+use Rattle.std.proofs.Common.{◌≡◌, ℕ, ◌+◌, ◌-◌, ◌<◌, ◌≤◌, List, [], ◌∷◌, ◌++◌, length, get_or, take, drop, Bool, true, false, refl, sym, ap, subst, ◌∙◌, arith, append_assoc, length-drop, true≢false, String, Global, Result, Ok, Err}
+use Rattle.std.specs.Prelude.{IfOk, MatchBool, string_bytes}
 use Rattle.std.specs.Char.{encode_utf8}
 use Rattle.std.proofs.lemmas.List.{append-nil, take_more, take_all}
 use Rattle.std.proofs.lemmas.Str.{encode_ascii}
@@ -48,16 +48,16 @@ over_then p q r w x f g = record {
 
 -- ---- white space
 
-pub space_name : (R : Rules) (done : List (List ℕ × Tree)) (st : List Level) (c : ℕ) → is_space c ≡ true → LeadsTo R (name done) st c (name done) st
+space_name : (R : Rules) (done : List (List ℕ × Tree)) (st : List Level) (c : ℕ) → is_space c ≡ true → LeadsTo R (name done) st c (name done) st
 space_name R done st c e = record { on = λ b v h. (h.0, rw e at h.1, h.2); back = λ b v h. (h.0, rw e h.1, h.2) }
 
-pub space_colon : (R : Rules) (done : List (List ℕ × Tree)) (k : List ℕ) (st : List Level) (c : ℕ) → is_space c ≡ true → LeadsTo R (colon done k) st c (colon done k) st
+space_colon : (R : Rules) (done : List (List ℕ × Tree)) (k : List ℕ) (st : List Level) (c : ℕ) → is_space c ≡ true → LeadsTo R (colon done k) st c (colon done k) st
 space_colon R done k st c e = record {
   on = λ b v h. record { value = h.value; tree = h.tree; rest = h.rest; colon = rw e at h.colon; valued = h.valued; after = h.after };
   back = λ b v h. record { value = h.value; tree = h.tree; rest = h.rest; colon = rw e h.colon; valued = h.valued; after = h.after };
 }
 
-pub spaces : (p : ReaderState) (w : List ℕ) → scan_of p ≡ outside → ((R : Rules) (st : List Level) (c : ℕ) → is_space c ≡ true → LeadsTo R p st c p st) → AreSpaces w → LeadsOver p w p
+spaces : (p : ReaderState) (w : List ℕ) → scan_of p ≡ outside → ((R : Rules) (st : List Level) (c : ℕ) → is_space c ≡ true → LeadsTo R p st c p st) → AreSpaces w → LeadsOver p w p
 spaces p [] o l h = over_none p
 spaces p (c ∷ w) o l h =
     over_then p p p (c ∷ []) w (over_byte p c p (λ R st. l R st c h.0) (subst (λ (s : Scan). scan_step s c ≡ s) (sym o) (space_stays c h.0))) (spaces p w o l h.1)
@@ -70,8 +70,8 @@ pub one_more_space : (b : List ℕ) (i c : ℕ) → i < length b → c ≡ get_o
 one_more_space b i c lt e h s = subst (λ (w : List ℕ). AreSpaces w) (sym (take_more b i 0 lt)) (subst (λ (k : ℕ). AreSpaces (take i b ++ k ∷ [])) e (spaces_more (take i b) c h s))
 
 -- white space in each mode that no string, number or literal is read in
-white : (m : Mode) (w : List ℕ) → AreSpaces w → ((t : Target) (x : List ℕ) → m ≡ modes.Str t x → ⊥) → ((x : List ℕ) (p : NumberState) → m ≡ modes.Number x p → ⊥) → ((k : Literal) (n : ℕ) → m ≡ modes.Literal k n → ⊥)
-    → ((t : Target) (x : List ℕ) (s : CharacterState) → m ≡ modes.Character t x s → ⊥) → LeadsOver (reader_state m) w (reader_state m)
+white : (m : Mode) (w : List ℕ) → AreSpaces w → ((t : Target) (x : String Global) → m ≡ modes.Str t x → ⊥) → ((x : String Global) (p : NumberState) → m ≡ modes.Number x p → ⊥) → ((k : Literal) (n : ℕ) → m ≡ modes.Literal k n → ⊥)
+    → ((t : Target) (x : String Global) (s : CharacterState) → m ≡ modes.Character t x s → ⊥) → LeadsOver (reader_state m) w (reader_state m)
 white modes.Value w h s n l c = spaces value w refl (λ R st k e. space_value R st k e) h
 white modes.FirstElement w h s n l c = spaces first_element w refl (λ R st k e. space_first_element R st k e) h
 white modes.FirstName w h s n l c = spaces first_name w refl (λ R st k e. space_first_name R st k e) h
@@ -83,8 +83,8 @@ white (modes.Number x p) w h s n l c = absurd (n x p refl)
 white (modes.Str t x) w h s n l c = absurd (s t x refl)
 white (modes.Character t x q) w h s n l c = absurd (c t x q refl)
 
-pub white_taken : (m : Mode) (b : List ℕ) (k : ℕ) → k ≤ length b → AreSpaces (take k b) → ((t : Target) (x : List ℕ) → m ≡ modes.Str t x → ⊥) → ((x : List ℕ) (p : NumberState) → m ≡ modes.Number x p → ⊥) → ((k : Literal) (n : ℕ) → m ≡ modes.Literal k n → ⊥)
-    → ((t : Target) (x : List ℕ) (s : CharacterState) → m ≡ modes.Character t x s → ⊥) → TakesStretch m b k m
+pub white_taken : (m : Mode) (b : List ℕ) (k : ℕ) → k ≤ length b → AreSpaces (take k b) → ((t : Target) (x : String Global) → m ≡ modes.Str t x → ⊥) → ((x : String Global) (p : NumberState) → m ≡ modes.Number x p → ⊥) → ((k : Literal) (n : ℕ) → m ≡ modes.Literal k n → ⊥)
+    → ((t : Target) (x : String Global) (s : CharacterState) → m ≡ modes.Character t x s → ⊥) → TakesStretch m b k m
 white_taken m b k le h s n l c = record { few = le; within = λ w. w; leads = white m (take k b) h s n l c }
 
 pub none_taken : (m : Mode) (b : List ℕ) → TakesStretch m b 0 m
@@ -108,7 +108,7 @@ plain_byte old c p role =
     subst (λ (t : List ℕ). LeadsOver (string_in role old) (c ∷ []) (string_in role (old ++ t))) (encode_ascii c p.1)
     (over_byte (string_in role old) c (string_in role (old ++ encode_utf8 c)) (λ R st. text_whole R st role old c c p.2 l) l.scans)
 
-pub plain_grows : (w old : List ℕ) → ArePlain w → TextGrows old w (old ++ w)
+plain_grows : (w old : List ℕ) → ArePlain w → TextGrows old w (old ++ w)
 plain_grows [] old h role = subst (λ (t : List ℕ). LeadsOver (string_in role old) [] (string_in role t)) (sym (append-nil old)) (over_none (string_in role old))
 plain_grows (c ∷ w) old h role =
     subst (λ (t : List ℕ). LeadsOver (string_in role old) (c ∷ w) (string_in role t)) (append_assoc old (c ∷ []) w)
@@ -122,7 +122,7 @@ pub text_left : (part old new : List ℕ) (all : Bool) → all ≡ false → Mat
 text_left part old new true e f = absurd (true≢false e)
 text_left part old new false e f = subst (λ (t : List ℕ). TextGrows old [] t) (sym f) (text_none old)
 
-pub text_taken : {E : Type 0} (r : Result ℕ E) (m : Mode) (t : Target) (old new : List ℕ) (b : List ℕ) → m ≡ modes.Str t old → IfOk r (λ k. (k ≤ length b) × TextGrows old (take k b) new) → IfOk r (λ k. TakesStretch m b k (modes.Str t new))
+pub text_taken : {E : Type 0} (r : Result ℕ E) (m : Mode) (t : Target) (old new : String Global) (b : List ℕ) → m ≡ modes.Str t old → IfOk r (λ k. (k ≤ length b) × TextGrows (string_bytes old) (take k b) (string_bytes new)) → IfOk r (λ k. TakesStretch m b k (modes.Str t new))
 text_taken (Ok k) m t old new b is h = subst (λ (x : Mode). TakesStretch x b k (modes.Str t new)) (sym is) (record { few = h.0; within = λ _. tt; leads = h.1 (role_of t) })
 text_taken (Err e) m t old new b is h = tt
 
@@ -143,13 +143,13 @@ number_next p q r b i c lt e h m = subst (λ (w : List ℕ). NumberGrows p w r) 
 pub number_all : (p q : NumberState) (b : List ℕ) (i n : ℕ) → i ≡ n → NumberGrows p (take i b) q → NumberGrows p (take n b) q
 number_all p q b i n e h = subst (λ (k : ℕ). NumberGrows p (take k b) q) e h
 
-pub number_taken : {E : Type 0} (r : Result ℕ E) (m : Mode) (old new : List ℕ) (p q : NumberState) (b : List ℕ) → m ≡ modes.Number old p
-    → IfOk r (λ k. (k ≤ length b) × NumberGrows p (take k b) q × (new ≡ old ++ take k b)) → IfOk r (λ k. TakesStretch m b k (modes.Number new q))
+pub number_taken : {E : Type 0} (r : Result ℕ E) (m : Mode) (old new : String Global) (p q : NumberState) (b : List ℕ) → m ≡ modes.Number old p
+    → IfOk r (λ k. (k ≤ length b) × NumberGrows p (take k b) q × (string_bytes new ≡ string_bytes old ++ take k b)) → IfOk r (λ k. TakesStretch m b k (modes.Number new q))
 number_taken (Ok k) m old new p q b is h =
     subst (λ (x : Mode). TakesStretch x b k (modes.Number new q)) (sym is) (record {
       few = h.0;
       within = λ _. tt;
-      leads = subst (λ (t : List ℕ). LeadsOver (number_in old p) (take k b) (number_in t q)) (sym h.2) (h.1 old);
+      leads = subst (λ (t : List ℕ). LeadsOver (number_in (string_bytes old) p) (take k b) (number_in t q)) (sym h.2) (h.1 (string_bytes old));
     })
 number_taken (Err e) m old new p q b is h = tt
 

@@ -12,7 +12,6 @@
 #![tactic(auto)]
 
 mod character;
-mod content;
 mod fault;
 mod laws;
 mod members;
@@ -22,7 +21,6 @@ mod state;
 mod stretches;
 #[cfg(test)]
 mod tests;
-mod tokens;
 mod tree;
 mod writer;
 

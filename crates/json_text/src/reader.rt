@@ -1,5 +1,5 @@
 //! The reader: one byte after another, with a stack of its own.
-ghost use Rattle.std.specs.Prelude.{◌≡◌, ◌≢◌, ◌<◌, [], ◌∷◌, length, drop, map, false, IfOk, IfErr, MatchOption, MatchResult};
+ghost use Rattle.std.specs.Prelude.{◌≡◌, ◌≢◌, ◌<◌, [], ◌∷◌, length, drop, map, false, string_bytes, IfOk, IfErr, MatchOption, MatchResult};
 ghost use Rattle.json_text.specs.Tree.{Tree};
 ghost use Rattle.json_text.specs.ValueOf.{value_of};
 ghost use Rattle.json_text.specs.inner.NumberLeft.{LeavesNumber, EndsNumber};
@@ -12,13 +12,11 @@ ghost use Rattle.json_text.specs.inner.StepErrors.{Fails, IsKindAt, IsNoMark};
 ghost use Rattle.json_text.specs.Fault.{RefusesText};
 
 use crate::character::{self, CharacterState, CharacterStep};
-use crate::content::Content;
 use crate::fault::{FaultKind, JsonFault, ReadError, StepError};
 use crate::members::{NamedObject, OpenObject};
 use crate::number::NumberState;
 use crate::state::{Literal, Mode, OpenLevel, State, Target};
 use crate::stretches::{is_white, take_number, take_text, white_len};
-use crate::tokens::{set, take_first_name, take_name, take_value};
 use crate::tree::{Chars, Json, Numeral};
 use gw_bytes::MOST_LEVELS;
 use std::alloc::{AllocError, Global};
@@ -43,7 +41,7 @@ pub fn read(alloc: Global, bytes: &[u8]) -> Result<Json, ReadError>
     };
     let mut offset = 0;
     while offset < bytes.len() {
-        match take(alloc, &mut state.mode, &bytes[offset..]) {
+        match take(&mut state.mode, &bytes[offset..]) {
             Ok(taken) => offset += taken,
             Err(_) => return Err(ReadError::Memory),
         }
@@ -63,23 +61,14 @@ pub fn read(alloc: Global, bytes: &[u8]) -> Result<Json, ReadError>
     }
 }
 
-/// Takes at once the bytes that change neither what is open nor what may be: whole characters of a string, a number, white space, and
-/// after it a whole string, number or name of plain characters. How many these are.
-fn take(alloc: Global, mode: &mut Mode, bytes: &[u8]) -> Result<usize, AllocError>
+/// Takes the bytes that leave the reader in its mode, all at once: whole characters of a string, a number, white space.
+/// How many these are.
+fn take(mode: &mut Mode, bytes: &[u8]) -> Result<usize, AllocError>
     ensures { IfOk result (λ taken. TakesStretch mode.old bytes.now taken mode.new) }
 {
     match mode {
-        Mode::Value => take_value(alloc, mode, bytes),
-        Mode::FirstName => take_first_name(alloc, mode, bytes),
-        Mode::Name(opened) => match take_name(alloc, opened, bytes)? {
-            Some((named, taken)) => {
-                set(mode, Mode::Colon(named));
-                Ok(taken)
-            }
-            None => Ok(white_len(bytes)),
-        },
-        Mode::Str(_, text) => take_text(alloc, text, bytes),
-        Mode::Number(text, number_state) => take_number(alloc, text, number_state, bytes),
+        Mode::Str(_, text) => take_text(text, bytes),
+        Mode::Number(text, number_state) => take_number(text, number_state, bytes),
         Mode::Literal(_, _) => Ok(0),
         Mode::Character(_, _, _) => Ok(0),
         _ => Ok(white_len(bytes)),
@@ -101,11 +90,9 @@ fn step(alloc: Global, state: &mut State, byte: u8) -> Result<(), StepError>
         Mode::Colon(named) => in_colon(state, named, byte),
         Mode::After(json) => in_after(state, json, byte),
         Mode::Literal(wanted, read) => in_literal(state, wanted, read, byte),
-        Mode::Number(text, number_state) => in_number(alloc, state, text, number_state, byte),
+        Mode::Number(text, number_state) => in_number(state, text, number_state, byte),
         Mode::Str(target, text) => in_string(alloc, state, target, text, byte),
-        Mode::Character(target, text, within) => in_character(
-            alloc, state, target, text, within, byte,
-        ),
+        Mode::Character(target, text, within) => in_character(state, target, text, within, byte),
     }
 }
 
@@ -157,7 +144,7 @@ fn in_value(alloc: Global, state: &mut State, byte: u8) -> Result<(), StepError>
             Ok(())
         }
         b'"' => {
-            state.mode = Mode::Str(Target::Value, Content::new());
+            state.mode = Mode::Str(Target::Value, String::new(alloc));
             Ok(())
         }
         _ => begin_literal(state, byte),
@@ -189,8 +176,8 @@ fn begin_number(
     requires { LeavesNumber IsNumberText byte number_state }
     ensures { MatchResult result (λ _. StepsOn value (levels state.old.stack.items) byte state.new) (Fails value (levels state.old.stack.items) byte) }
 {
-    let mut text = Content::new();
-    text.push(alloc, char::from(byte))?;
+    let mut text = String::new(alloc);
+    text.push(char::from(byte))?;
     state.mode = Mode::Number(text, number_state);
     Ok(())
 }
@@ -221,7 +208,7 @@ fn in_first_name(alloc: Global, state: &mut State, byte: u8) -> Result<(), StepE
     }
     match byte {
         b'"' => {
-            state.mode = Mode::Str(Target::Name(OpenObject::new(alloc)), Content::new());
+            state.mode = Mode::Str(Target::Name(OpenObject::new(alloc)), String::new(alloc));
             Ok(())
         }
         b'}' => {
@@ -242,7 +229,7 @@ fn in_name(alloc: Global, state: &mut State, opened: OpenObject, byte: u8) -> Re
     if byte != b'"' {
         return Err(StepError::Fault(FaultKind::NotJson));
     }
-    state.mode = Mode::Str(Target::Name(opened), Content::new());
+    state.mode = Mode::Str(Target::Name(opened), String::new(alloc));
     Ok(())
 }
 
@@ -341,18 +328,17 @@ fn in_literal(state: &mut State, wanted: Literal, read: usize, byte: u8) -> Resu
 }
 
 fn in_number(
-    alloc: Global,
     state: &mut State,
-    text: Content,
+    text: String,
     number_state: NumberState,
     byte: u8,
 ) -> Result<(), StepError>
-    ensures { MatchResult result (λ _. StepsOn (number_in text number_state) (levels state.old.stack.items) byte state.new) (Fails (number_in text number_state) (levels state.old.stack.items) byte) }
+    ensures { MatchResult result (λ _. StepsOn (number_in (string_bytes text) number_state) (levels state.old.stack.items) byte state.new) (Fails (number_in (string_bytes text) number_state) (levels state.old.stack.items) byte) }
 {
     match number_state.next(byte) {
         Some(next) => {
             let mut text = text;
-            text.push(alloc, char::from(byte))?;
+            text.push(char::from(byte))?;
             state.mode = Mode::Number(text, next);
             Ok(())
         }
@@ -370,18 +356,18 @@ fn in_string(
     alloc: Global,
     state: &mut State,
     target: Target,
-    text: Content,
+    text: String,
     byte: u8,
 ) -> Result<(), StepError>
-    ensures { MatchResult result (λ _. StepsOn (string_in (role_of target) text) (levels state.old.stack.items) byte state.new) (Fails (string_in (role_of target) text) (levels state.old.stack.items) byte) }
+    ensures { MatchResult result (λ _. StepsOn (string_in (role_of target) (string_bytes text)) (levels state.old.stack.items) byte state.new) (Fails (string_in (role_of target) (string_bytes text)) (levels state.old.stack.items) byte) }
 {
     if byte == b'"' {
-        return closed(state, target, text);
+        return closed(alloc, state, target, text);
     }
     match character::first(byte) {
         CharacterStep::Whole(c) => {
             let mut text = text;
-            text.push(alloc, c)?;
+            text.push(c)?;
             state.mode = Mode::Str(target, text);
             Ok(())
         }
@@ -394,20 +380,19 @@ fn in_string(
 }
 
 fn in_character(
-    alloc: Global,
     state: &mut State,
     target: Target,
-    text: Content,
+    text: String,
     within: CharacterState,
     byte: u8,
 ) -> Result<(), StepError>
     requires { IsSound within }
-    ensures { MatchResult result (λ _. StepsOn (character_in (role_of target) text within) (levels state.old.stack.items) byte state.new) (Fails (character_in (role_of target) text within) (levels state.old.stack.items) byte) }
+    ensures { MatchResult result (λ _. StepsOn (character_in (role_of target) (string_bytes text) within) (levels state.old.stack.items) byte state.new) (Fails (character_in (role_of target) (string_bytes text) within) (levels state.old.stack.items) byte) }
 {
     match within.next(byte) {
         CharacterStep::Whole(c) => {
             let mut text = text;
-            text.push(alloc, c)?;
+            text.push(c)?;
             state.mode = Mode::Str(target, text);
             Ok(())
         }
@@ -420,16 +405,16 @@ fn in_character(
 }
 
 /// The closing quotation mark.
-fn closed(state: &mut State, target: Target, text: Content) -> Result<(), StepError>
-    ensures { MatchResult result (λ _. StepsOn (string_in (role_of target) text) (levels state.old.stack.items) 34 state.new) (Fails (string_in (role_of target) text) (levels state.old.stack.items) 34) }
+fn closed(alloc: Global, state: &mut State, target: Target, text: String) -> Result<(), StepError>
+    ensures { MatchResult result (λ _. StepsOn (string_in (role_of target) (string_bytes text)) (levels state.old.stack.items) 34 state.new) (Fails (string_in (role_of target) (string_bytes text)) (levels state.old.stack.items) 34) }
 {
     match target {
         Target::Value => {
-            state.mode = Mode::After(Json::Str(Chars::from_text(text)));
+            state.mode = Mode::After(Json::Str(Chars::new(text)));
             Ok(())
         }
         Target::Name(opened) => {
-            let found = opened.named(text)?;
+            let found = opened.named(alloc, text)?;
             match found {
                 Some(named) => {
                     state.mode = Mode::Colon(named);

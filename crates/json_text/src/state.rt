@@ -4,7 +4,6 @@ ghost use Rattle.json_text.specs.ValueOf.{value_of};
 ghost use Rattle.json_text.specs.inner.ReaderStates.{literal_text, literal_tree};
 
 use crate::character::CharacterState;
-use crate::content::Content;
 use crate::members::{NamedObject, OpenObject};
 use crate::number::NumberState;
 use crate::tree::Json;
@@ -74,11 +73,11 @@ pub(crate) enum Mode {
     /// A literal, of which so many letters have been read.
     Literal(Literal, usize),
     /// A number with this text so far.
-    Number(Content, NumberState),
+    Number(String, NumberState),
     /// A string with this text so far, between two characters.
-    Str(Target, Content),
+    Str(Target, String),
     /// A string with this text so far, inside a character.
-    Character(Target, Content, CharacterState),
+    Character(Target, String, CharacterState),
 }
 
 /// The state of the reader between two bytes.

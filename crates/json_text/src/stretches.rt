@@ -1,14 +1,13 @@
 //! Stretches of bytes that are taken at once.
-ghost use Rattle.std.specs.Prelude.{◌≡◌, ◌≤◌, ◌++◌, ◌↔◌, length, take, IfOk, IfSome, IsTrue, MatchBool};
+ghost use Rattle.std.specs.Prelude.{◌≡◌, ◌≤◌, ◌++◌, ◌↔◌, length, take, IfOk, IfSome, IsTrue, MatchBool, string_bytes};
 ghost use Rattle.json_text.specs.Grammar.{is_space};
 ghost use Rattle.json_text.specs.inner.ReaderStates.{IsPlain, ArePlain, AreSpaces, TextGrows, NumberGrows};
 ghost use Rattle.json_text.specs.inner.CharacterStretches.{CharacterBegins, CharacterGrows};
 ghost use Rattle.json_text.specs.inner.CharacterLeft.{IsSound};
 
 use crate::character::{self, CharacterState, CharacterStep};
-use crate::content::Content;
 use crate::number::NumberState;
-use std::alloc::{AllocError, Global};
+use std::alloc::AllocError;
 use std::str;
 
 /// White space between tokens (RFC 8259, section 2).
@@ -39,7 +38,7 @@ fn is_plain(byte: u8) -> bool
 }
 
 /// How many bytes at the beginning are characters of a string by themselves.
-pub(crate) fn plain_len(bytes: &[u8]) -> usize
+fn plain_len(bytes: &[u8]) -> usize
     ensures within { result ≤ length bytes.now }
     ensures plain { ArePlain (take result bytes.now) }
 {
@@ -52,12 +51,12 @@ pub(crate) fn plain_len(bytes: &[u8]) -> usize
 }
 
 /// Appends these bytes; `false` where they are no UTF-8, and nothing is appended.
-pub(crate) fn append(alloc: Global, text: &mut Content, bytes: &[u8]) -> Result<bool, AllocError>
-    ensures { IfOk result (λ all. MatchBool all (text.new ≡ text.old ++ bytes.now) (text.new ≡ text.old)) }
+fn append(text: &mut String, bytes: &[u8]) -> Result<bool, AllocError>
+    ensures { IfOk result (λ all. MatchBool all (string_bytes text.new ≡ string_bytes text.old ++ bytes.now) (string_bytes text.new ≡ string_bytes text.old)) }
 {
     match str::from_utf8(bytes) {
         Ok(stretch) => {
-            text.push_str(alloc, stretch)?;
+            text.push_str(stretch)?;
             Ok(true)
         }
         Err(_) => Ok(false),
@@ -65,17 +64,12 @@ pub(crate) fn append(alloc: Global, text: &mut Content, bytes: &[u8]) -> Result<
 }
 
 /// Appends so many bytes, all of which are characters by themselves; how many these are.
-fn append_plain(
-    alloc: Global,
-    text: &mut Content,
-    bytes: &[u8],
-    plain: usize,
-) -> Result<usize, AllocError>
+fn append_plain(text: &mut String, bytes: &[u8], plain: usize) -> Result<usize, AllocError>
     requires within { plain ≤ length bytes.now }
     requires plain { ArePlain (take plain bytes.now) }
-    ensures { IfOk result (λ taken. (taken ≤ length bytes.now) × TextGrows text.old (take taken bytes.now) text.new) }
+    ensures { IfOk result (λ taken. (taken ≤ length bytes.now) × TextGrows (string_bytes text.old) (take taken bytes.now) (string_bytes text.new)) }
 {
-    if append(alloc, text, &bytes[..plain])? {
+    if append(text, &bytes[..plain])? {
         Ok(plain)
     } else {
         Ok(0)
@@ -117,16 +111,16 @@ fn character_rest(begun: CharacterState, bytes: &[u8]) -> Option<(char, usize)>
 }
 
 /// Appends the plain characters that the bytes begin with, or else the one character; how many bytes these take.
-fn take_part(alloc: Global, text: &mut Content, bytes: &[u8]) -> Result<usize, AllocError>
-    ensures { IfOk result (λ taken. (taken ≤ length bytes.now) × TextGrows text.old (take taken bytes.now) text.new) }
+fn take_part(text: &mut String, bytes: &[u8]) -> Result<usize, AllocError>
+    ensures { IfOk result (λ taken. (taken ≤ length bytes.now) × TextGrows (string_bytes text.old) (take taken bytes.now) (string_bytes text.new)) }
 {
     let plain = plain_len(bytes);
     if plain > 0 {
-        return append_plain(alloc, text, bytes, plain);
+        return append_plain(text, bytes, plain);
     }
     match character_at(bytes) {
         Some((c, len)) => {
-            text.push(alloc, c)?;
+            text.push(c)?;
             Ok(len)
         }
         None => Ok(0),
@@ -134,16 +128,12 @@ fn take_part(alloc: Global, text: &mut Content, bytes: &[u8]) -> Result<usize, A
 }
 
 /// Appends the characters at the beginning of the bytes that are there in whole; how many bytes these take.
-pub(crate) fn take_text(
-    alloc: Global,
-    text: &mut Content,
-    bytes: &[u8],
-) -> Result<usize, AllocError>
-    ensures { IfOk result (λ taken. (taken ≤ length bytes.now) × TextGrows text.old (take taken bytes.now) text.new) }
+pub(crate) fn take_text(text: &mut String, bytes: &[u8]) -> Result<usize, AllocError>
+    ensures { IfOk result (λ taken. (taken ≤ length bytes.now) × TextGrows (string_bytes text.old) (take taken bytes.now) (string_bytes text.new)) }
 {
     let mut offset = 0;
     while offset < bytes.len() {
-        let taken = take_part(alloc, text, &bytes[offset..])?;
+        let taken = take_part(text, &bytes[offset..])?;
         if taken == 0 {
             return Ok(offset);
         }
@@ -153,7 +143,7 @@ pub(crate) fn take_text(
 }
 
 /// How many bytes at the beginning go on with the number, and what has then been read of it.
-pub(crate) fn number_stretch(number_state: NumberState, bytes: &[u8]) -> (usize, NumberState)
+fn number_stretch(number_state: NumberState, bytes: &[u8]) -> (usize, NumberState)
     ensures within { result.0 ≤ length bytes.now }
     ensures leads { NumberGrows number_state (take result.0 bytes.now) result.1 }
 {
@@ -169,15 +159,14 @@ pub(crate) fn number_stretch(number_state: NumberState, bytes: &[u8]) -> (usize,
 
 /// Appends the bytes with which the number goes on; how many these are.
 pub(crate) fn take_number(
-    alloc: Global,
-    text: &mut Content,
+    text: &mut String,
     number_state: &mut NumberState,
     bytes: &[u8],
 ) -> Result<usize, AllocError>
-    ensures { IfOk result (λ taken. (taken ≤ length bytes.now) × NumberGrows number_state.old (take taken bytes.now) number_state.new × (text.new ≡ text.old ++ take taken bytes.now)) }
+    ensures { IfOk result (λ taken. (taken ≤ length bytes.now) × NumberGrows number_state.old (take taken bytes.now) number_state.new × (string_bytes text.new ≡ string_bytes text.old ++ take taken bytes.now)) }
 {
     let (len, last) = number_stretch(*number_state, bytes);
-    if append(alloc, text, &bytes[..len])? {
+    if append(text, &bytes[..len])? {
         *number_state = last;
         Ok(len)
     } else {

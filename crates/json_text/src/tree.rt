@@ -4,34 +4,25 @@ ghost use Rattle.json_text.specs.Tree.{get_of, member_names_of, member_of, boole
 ghost use Rattle.json_text.specs.Grammar.{IsNew};
 ghost use Rattle.json_text.specs.ValueOf.{value_of, members_value};
 
-use crate::content::Content;
 use std::marker::Model;
 
 /// The text of a string or of a member's name, in UTF-8, its escapes decoded.
 #[derive(Debug, Drop)]
 pub struct Chars {
-    text: Content,
+    text: String,
 }
 
 impl Model for Chars {
-    ghost use Rattle.std.specs.Prelude.{List, ℕ};
+    ghost use Rattle.std.specs.Prelude.{List, ℕ, string_bytes};
 
     ghost Value = { List ℕ };
 
-    ghost view = { λ c. c.text };
+    ghost view = { λ c. string_bytes c.text };
 }
 
 impl Chars {
     pub fn new(text: String) -> Chars
         ensures { result ≡ string_bytes text }
-    {
-        Chars {
-            text: Content::allocated(text),
-        }
-    }
-
-    pub(crate) fn from_text(text: Content) -> Chars
-        ensures { result ≡ text }
     {
         Chars { text }
     }
@@ -52,20 +43,20 @@ impl Chars {
 /// The text of a number, as it was read.
 #[derive(Debug, Drop)]
 pub struct Numeral {
-    text: Content,
+    text: String,
 }
 
 impl Model for Numeral {
-    ghost use Rattle.std.specs.Prelude.{List, ℕ};
+    ghost use Rattle.std.specs.Prelude.{List, ℕ, string_bytes};
 
     ghost Value = { List ℕ };
 
-    ghost view = { λ n. n.text };
+    ghost view = { λ n. string_bytes n.text };
 }
 
 impl Numeral {
-    pub(crate) fn new(text: Content) -> Numeral
-        ensures { result ≡ text }
+    pub(crate) fn new(text: String) -> Numeral
+        ensures { result ≡ string_bytes text }
     {
         Numeral { text }
     }

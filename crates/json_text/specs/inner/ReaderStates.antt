@@ -1,5 +1,5 @@
 -- Inner: what may follow in each state of the reader.
-use Rattle.std.specs.Prelude.{◌≡◌, ◌≢◌, ℕ, suc, ◌<◌, ◌≤◌, List, [], ◌∷◌, ◌++◌, length, map, reverse, take, drop, true, false}
+use Rattle.std.specs.Prelude.{◌≡◌, ◌≢◌, ℕ, suc, ◌<◌, ◌≤◌, List, [], ◌∷◌, ◌++◌, length, map, reverse, take, drop, true, false, string_bytes}
 use Rattle.std.specs.Char.{encode_utf8}
 use Rattle.std.specs.Str.{encode_utf8_all}
 use Rattle.json_text.specs.Tree.{Tree, null, boolean, number, string, array, object, Elements, element, Members, member, names}
@@ -188,9 +188,9 @@ reader_state (modes.Name f) = name (pairs f.members.items)
 reader_state (modes.Colon n) = colon (pairs n.members.items) n.name
 reader_state (modes.After x) = after (value_of x)
 reader_state (modes.Literal w read) = literal (drop read (literal_text w)) (literal_tree w)
-reader_state (modes.Number text p) = number_in text p
-reader_state (modes.Str t text) = string_in (role_of t) text
-reader_state (modes.Character t text s) = character_in (role_of t) text s
+reader_state (modes.Number text p) = number_in (string_bytes text) p
+reader_state (modes.Str t text) = string_in (role_of t) (string_bytes text)
+reader_state (modes.Character t text s) = character_in (role_of t) (string_bytes text) s
 
 -- a letter is still owed; a character can still come of what is read
 abbrev pub IsWithin : Mode → Type 0

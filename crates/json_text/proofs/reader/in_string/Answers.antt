@@ -1,4 +1,5 @@
 -- Proof of the contract of `in_string`.
+use Rattle.std.proofs.Common.{string_bytes}
 use Rattle.json_text.proofs.ReaderLemmas.{text_goes, text_enters, text_wrong}
 use Rattle.json_text.proofs.reader.in_string.Goals as goal
 
@@ -9,4 +10,4 @@ pub returns-in-Next : goal.returns-in-Next
 returns-in-Next c = text_enters c.args.state.now.stack c.args.target c.args.text c.args.byte _ c.if-byte-eq34.false c.in-Next.ensures
 
 pub returns-in-Wrong : goal.returns-in-Wrong
-returns-in-Wrong c = text_wrong c.args.state.now.stack.items c.args.target c.args.text c.args.byte _ c.if-byte-eq34.false c.in-Wrong.ensures c.fault_between.ensures
+returns-in-Wrong c = text_wrong c.args.state.now.stack.items c.args.target (string_bytes c.args.text) c.args.byte _ c.if-byte-eq34.false c.in-Wrong.ensures c.fault_between.ensures

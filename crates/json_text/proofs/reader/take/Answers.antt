@@ -1,6 +1,5 @@
 -- Proof of the contract of `take`.
 use Rattle.json_text.proofs.StretchLemmas.{text_taken, number_taken, white_taken}
-use Rattle.json_text.proofs.TokenLemmas.{name_taken, name_white}
 use Rattle.json_text.proofs.reader.take.Goals as goal
 
 pub returns-in-Str : goal.returns-in-Str
@@ -10,10 +9,4 @@ pub returns-in-Number : goal.returns-in-Number
 returns-in-Number c = number_taken c.take_number.result c.args.mode.now c.in-Number.text _ c.in-Number.number_state _ c.args.bytes.now c.in-Number.is c.take_number.ensures
 
 pub returns-in_default : goal.returns-in_default
-returns-in_default c = white_taken c.args.mode.now c.args.bytes.now c.white_len-in_default.result c.white_len-in_default.ensures.within c.white_len-in_default.ensures.spaces (λ t x. c.in_default.not-Str t x) (λ x p. c.in_default.not-Number x p) (λ k n. c.in_default.not-Literal k n) (λ t x s. c.in_default.not-Character t x s)
-
-pub returns-in-Some : goal.returns-in-Some
-returns-in-Some c = name_taken c.args.mode.now c.set.new.mode c.in-Name.opened c.in-Some.named c.args.bytes.now c.in-Some.taken c.in-Name.is c.set.ensures (rw c.in-Some.is at c.in_ok-named-in-Name.ensures)
-
-pub returns-in-None : goal.returns-in-None
-returns-in-None c = name_white c.args.mode.now c.in-Name.opened c.take_name.new.opened c.args.bytes.now c.white_len.result c.in-Name.is (rw c.in-None.is at c.in_ok-named-in-Name.ensures) c.white_len.ensures.within c.white_len.ensures.spaces
+returns-in_default c = white_taken c.args.mode.now c.args.bytes.now c.white_len.result c.white_len.ensures.within c.white_len.ensures.spaces (λ t x. c.in_default.not-Str t x) (λ x p. c.in_default.not-Number x p) (λ k n. c.in_default.not-Literal k n) (λ t x s. c.in_default.not-Character t x s)
