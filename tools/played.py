@@ -263,7 +263,8 @@ class Gateway:
             raise Differs("the gateway doesn't end")
 
     def kill(self):
-        """Kills it, by its own id."""
-        os.kill(self.process.pid, signal.SIGKILL)
+        """Kills it, by its own id, where it runs."""
+        if self.process.poll() is None:
+            os.kill(self.process.pid, signal.SIGKILL)
         self.process.wait()
         self.process.stdout.close()

@@ -3,6 +3,7 @@ a till that vanishes, a terminal that is restarted, a kill in the middle of a pa
 
 try_serve.py PROGRAM: PROGRAM is a build of the program. It ends with status 1 at the first thing that differs."""
 import os
+import signal
 import sys
 import tempfile
 
@@ -40,10 +41,14 @@ def pays_prints_and_reverses(gateway, terminal, till):
     same((result(reversed_), reversed_["ReversedAmount"]), ("Success", 10.99), "a reversal")
 
 
+def wait_held(terminal):
+    wait_until(terminal.is_held.is_set, "a payment at the terminal")
+
+
 def waits_for_another(gateway, terminal, till):
     terminal.holds.set()
     till.pay(3, 5)
-    terminal.is_held.wait()
+    wait_held(terminal)
     other = gateway.till("S2")
     other.pay(1, 7)
     other.ask_status(2, 1)
@@ -59,7 +64,7 @@ def till_vanishes(gateway, terminal, till):
     terminal.holds.set()
     gone = gateway.till("S3")
     gone.pay(1, 4)
-    terminal.is_held.wait()
+    wait_held(terminal)
     gone.close()
     terminal.released.set()
     wait_until(lambda: asks(till, "S3") != "Failure InProgress", "the end of a payment whose till is gone")
@@ -94,7 +99,7 @@ def is_killed(program, journal, gateway, terminal, till):
     terminal.is_held.clear()
     terminal.holds.set()
     till.pay(6, 12.34)
-    terminal.is_held.wait()
+    wait_held(terminal)
     gateway.kill()
     same(terminal.charged(), charged + 1, "payments booked before the kill")
     terminal.released.set()
@@ -112,7 +117,11 @@ def is_killed(program, journal, gateway, terminal, till):
 
 def second_is_refused(program, journal, terminal):
     second = Gateway(program, journal, [terminal])
-    same(second.ended(), ("open\nstatus 69\n", 69), "a second gateway on the same journal")
+    try:
+        wait_until(lambda: second.process.poll() is not None, "the end of a second gateway on the same journal")
+        same(second.ended(), ("open\nstatus 69\n", 69), "a second gateway on the same journal")
+    finally:
+        second.kill()
 
 
 def play(program, folder):
@@ -133,6 +142,8 @@ def play(program, folder):
 
 
 def main():
+    # an end by `timeout` kills the gateway too
+    signal.signal(signal.SIGTERM, lambda *_: sys.exit(1))
     try:
         with tempfile.TemporaryDirectory() as folder:
             play(sys.argv[1], folder)
