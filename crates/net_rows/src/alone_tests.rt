@@ -1,7 +1,7 @@
 //! Tests that need a process of their own, which they start through a shell.
 use crate::fixture::{Steps, check};
 use crate::rig::Rig;
-use crate::shell::{Row, child_file, see_children};
+use crate::shell::{Row, child_file, report, see_children};
 use gw_site::What;
 use std::fs::{self, File};
 use std::io::Read;
@@ -21,18 +21,21 @@ fn fill(rig: &mut Rig<'_>) -> Steps {
     Err("the disk is full")
 }
 
+fn a_full_disk(rt: &HostRuntime) -> Result<(), Fail> {
+    let mut rig = Rig::opened(rt, "full_journal", 47011, &[])?;
+    fill(&mut rig)?;
+    rig.remove_file()
+}
+
 const FULL: [Row; 1] = [("trap '' XFSZ; ulimit -f 1;", "", "failed for good")];
 
 #[test]
 fn a_disk_that_is_full(rt: HostRuntime) -> Result<(), Fail> {
-    let Some(report) = child_file(&rt, "full") else {
+    let Some(file) = child_file(&rt, "full") else {
         return see_children(&rt, "full", &FULL);
     };
-    let mut rig = Rig::opened(&rt, "full_journal", 47011, &[])?;
-    fill(&mut rig)?;
-    rig.remove_file()?;
-    fs::write(&rt, report.as_str(), "failed for good")?;
-    Ok(())
+    a_full_disk(&rt)?;
+    report(&rt, file.as_str(), "failed for good")
 }
 
 /// Whether a peer has got nothing.
@@ -60,6 +63,12 @@ fn print_beside_a_till(rt: &HostRuntime, rig: &mut Rig<'_>) -> Steps {
     print(rt, rig, &mut till)
 }
 
+fn closed_descriptors(rt: &HostRuntime) -> Result<(), Fail> {
+    let mut rig = Rig::opened(rt, "closed_journal", 47012, &[])?;
+    print_beside_a_till(rt, &mut rig)?;
+    rig.remove_file()
+}
+
 /// Each way in which a process may be started without them: with neither, so that a till would get the number of standard
 /// error, and without one of the last two, which the file would get.
 const CLOSED: [Row; 3] = [
@@ -70,14 +79,11 @@ const CLOSED: [Row; 3] = [
 
 #[test]
 fn descriptors_that_are_closed(rt: HostRuntime) -> Result<(), Fail> {
-    let Some(report) = child_file(&rt, "closed") else {
+    let Some(file) = child_file(&rt, "closed") else {
         return see_children(&rt, "closed", &CLOSED);
     };
-    let mut rig = Rig::opened(&rt, "closed_journal", 47012, &[])?;
-    print_beside_a_till(&rt, &mut rig)?;
-    rig.remove_file()?;
-    fs::write(&rt, report.as_str(), "nothing went astray")?;
-    Ok(())
+    closed_descriptors(&rt)?;
+    report(&rt, file.as_str(), "nothing went astray")
 }
 
 /// How many descriptors a process may have open, and what then comes of an opening: a poll has 98 entries.
@@ -87,18 +93,22 @@ const LIMITS: [Row; 3] = [
     ("ulimit -n 98;", "", "opened"),
 ];
 
+/// Whether a site opens, and makes its file.
+fn is_opened(rt: &HostRuntime) -> Result<bool, Fail> {
+    let mut rig = Rig::new(rt, "few_journal", 47016)?;
+    let is_open = rig.open(&[])?;
+    let is_made = fs::remove_file(rt, rig.journal()).is_ok();
+    check(is_made == is_open, "a file is made where it is opened")?;
+    Ok(is_made)
+}
+
 #[test]
 fn too_few_descriptors_for_a_poll(rt: HostRuntime) -> Result<(), Fail> {
-    let Some(report) = child_file(&rt, "few") else {
+    let Some(file) = child_file(&rt, "few") else {
         return see_children(&rt, "few", &LIMITS);
     };
-    let mut rig = Rig::new(&rt, "few_journal", 47016)?;
-    let is_open = rig.open(&[])?;
-    let is_made = fs::remove_file(&rt, rig.journal()).is_ok();
-    check(is_made == is_open, "a file is made where it is opened")?;
-    let found = if is_made { "opened" } else { "refused" };
-    fs::write(&rt, report.as_str(), found)?;
-    Ok(())
+    let found = if is_opened(&rt)? { "opened" } else { "refused" };
+    report(&rt, file.as_str(), found)
 }
 
 /// Opens `/dev/null` until the process may have no more descriptors.
@@ -128,17 +138,20 @@ fn a_till_without_a_descriptor(rt: &HostRuntime, rig: &mut Rig<'_>) -> Result<()
     Ok(())
 }
 
+fn a_till_opens_later(rt: &HostRuntime) -> Result<(), Fail> {
+    let mut rig = Rig::opened(rt, "none_journal", 47022, &[])?;
+    a_till_without_a_descriptor(rt, &mut rig)?;
+    rig.remove_file()
+}
+
 const NONE: [Row; 1] = [("ulimit -n 98;", "", "it opens later")];
 
 /// A till that can't be accepted waits, and the polls do too: every second one leaves the listener out.
 #[test]
 fn no_descriptor_for_a_till(rt: HostRuntime) -> Result<(), Fail> {
-    let Some(report) = child_file(&rt, "none") else {
+    let Some(file) = child_file(&rt, "none") else {
         return see_children(&rt, "none", &NONE);
     };
-    let mut rig = Rig::opened(&rt, "none_journal", 47022, &[])?;
-    a_till_without_a_descriptor(&rt, &mut rig)?;
-    rig.remove_file()?;
-    fs::write(&rt, report.as_str(), "it opens later")?;
-    Ok(())
+    a_till_opens_later(&rt)?;
+    report(&rt, file.as_str(), "it opens later")
 }

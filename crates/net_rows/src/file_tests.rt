@@ -4,6 +4,7 @@ use crate::rig::Rig;
 use crate::shell::run_in_shell;
 use jrn_log::{AppendFault, Journal};
 use net_site::NetSite;
+use std::alloc::AllocError;
 use std::fs;
 use std::os::unix::fs::{MetadataExt, symlink};
 use std::test::Fail;
@@ -21,7 +22,10 @@ fn what_was_written(rig: &mut Rig<'_>) -> Steps {
     check(rig.writes(0, &[0x00]), "a write")?;
     check(rig.writes(3, b"abc"), "another with a gap")?;
     check(rig.syncs(), "a sync")?;
-    check(rig.length() == Some(6), "the length")?;
+    check(rig.length() == Some(6), "the length")
+}
+
+fn what_is_read(rig: &mut Rig<'_>) -> Steps {
     let mut buf = [7; 8];
     check(rig.reads(1, &mut buf), "a read")?;
     check(
@@ -43,18 +47,24 @@ fn another_opens(rt: &HostRuntime, name: &str, port: u16) -> Result<bool, Fail> 
     other.open(&[])
 }
 
+/// A file that is written, read, locked and removed.
+fn a_file(rt: &HostRuntime, rig: &mut Rig<'_>) -> Result<(), Fail> {
+    what_was_written(rig)?;
+    what_is_read(rig)?;
+    // A second gateway doesn't get the file while the first has it.
+    check(!another_opens(rt, "file", 47008)?, "the file is locked")?;
+    rig.remove_file()?;
+    a_failed_disk(rig)?;
+    Ok(())
+}
+
 #[test]
 fn a_file_is_read_as_it_was_written(rt: HostRuntime) -> Result<(), Fail> {
     if is_child(&rt) {
         return Ok(());
     }
     let mut rig = Rig::opened(&rt, "file", 47007, &[])?;
-    what_was_written(&mut rig)?;
-    // A second gateway doesn't get the file while the first has it.
-    check(!another_opens(&rt, "file", 47008)?, "the file is locked")?;
-    rig.remove_file()?;
-    a_failed_disk(&mut rig)?;
-    Ok(())
+    a_file(&rt, &mut rig)
 }
 
 /// Keeps a body where there is room.
@@ -65,17 +75,38 @@ fn keep(site: &mut NetSite<&HostRuntime>, journal: &mut Journal) -> Result<(), A
     Ok(())
 }
 
-fn twenty_records(rt: &HostRuntime, name: &str, bodies_before: usize) -> Result<(), Fail> {
-    let mut rig = Rig::opened(rt, name, 47009, &[])?;
-    let (mut journal, bodies) = Journal::open(rt.alloc(), &mut rig.site, 1000)?;
-    check(
-        bodies.as_slice().len() == bodies_before,
-        "the bodies are there",
-    )?;
+/// The journal of a site, and how many bodies it has.
+fn opened_journal(
+    rt: &HostRuntime,
+    site: &mut NetSite<&HostRuntime>,
+) -> Result<(Journal, usize), Fail> {
+    let (journal, bodies) = Journal::open(rt.alloc(), site, 1000)?;
+    Ok((journal, bodies.as_slice().len()))
+}
+
+/// Keeps a body, twenty times.
+fn keep_twenty(site: &mut NetSite<&HostRuntime>, journal: &mut Journal) -> Result<(), AppendFault> {
     for _ in 0..20 {
-        keep(&mut rig.site, &mut journal)?;
+        keep(site, journal)?;
     }
     Ok(())
+}
+
+/// A site's journal has so many bodies, and gets twenty more.
+fn twenty_more(
+    rt: &HostRuntime,
+    site: &mut NetSite<&HostRuntime>,
+    bodies_before: usize,
+) -> Result<(), Fail> {
+    let (mut journal, bodies) = opened_journal(rt, site)?;
+    check(bodies == bodies_before, "the bodies are there")?;
+    keep_twenty(site, &mut journal)?;
+    Ok(())
+}
+
+fn twenty_records(rt: &HostRuntime, name: &str, bodies_before: usize) -> Result<(), Fail> {
+    let mut rig = Rig::opened(rt, name, 47009, &[])?;
+    twenty_more(rt, &mut rig.site, bodies_before)
 }
 
 #[test]
@@ -108,22 +139,27 @@ const ROWS: [(usize, [u8; 5], bool); 13] = [
     (1025, [0xA5; 5], true),
 ];
 
-/// Five slots with these gates, of which the last ends after its gate.
-fn five_slots(gates: [u8; 5]) -> [u8; 1025] {
-    let mut slots = [0x2A; 1025];
-    for slot in 0..5usize {
-        slots[256 * slot] = gates[slot];
+/// What a slot has after its gate.
+const BODY: [u8; 255] = [0x2A; 255];
+
+/// The first bytes, so many, of slots with these gates.
+fn file_of(rt: &HostRuntime, gates: &[u8], length: usize) -> Result<Vec<u8>, AllocError> {
+    let mut file = Vec::new(rt.alloc());
+    for gate in gates {
+        file.push(*gate)?;
+        file.extend_from_slice(&BODY)?;
     }
-    slots
+    file.truncate(length);
+    Ok(file)
 }
 
-/// Forty slots and the gate after them, which are open but for one.
-fn forty_slots(closed: usize) -> [u8; 10_241] {
-    let mut slots = [0x2A; 10_241];
+/// The gates of forty slots and the one after them, which are open but for the one after so many.
+fn gates_of_forty_slots(rt: &HostRuntime, before: usize) -> Result<Vec<u8>, AllocError> {
+    let mut gates = Vec::new(rt.alloc());
     for slot in 0..41usize {
-        slots[256 * slot] = if slot == closed { 0x00 } else { 0xA5 };
+        gates.push(if slot == before { 0x00 } else { 0xA5 })?;
     }
-    slots
+    Ok(gates)
 }
 
 /// A file is opened or refused, and left as it is.
@@ -136,11 +172,22 @@ fn is_left(rt: &HostRuntime, rig: &mut Rig<'_>, file: &[u8], is_ours: bool) -> R
 
 fn files_of_few_slots(rt: &HostRuntime, rig: &mut Rig<'_>) -> Result<(), Fail> {
     for (length, gates, is_ours) in ROWS {
-        let slots = five_slots(gates);
-        let file = slots.get(..length).ok_or("a length")?;
-        is_left(rt, rig, file, is_ours)?;
+        let file = file_of(rt, &gates, length)?;
+        is_left(rt, rig, &file, is_ours)?;
     }
     Ok(())
+}
+
+/// A file of forty slots, with the gate after them, of which one is closed.
+fn file_of_forty_slots(
+    rt: &HostRuntime,
+    rig: &mut Rig<'_>,
+    before: usize,
+    is_ours: bool,
+) -> Result<(), Fail> {
+    let gates = gates_of_forty_slots(rt, before)?;
+    let file = file_of(rt, &gates, 10_241)?;
+    is_left(rt, rig, &file, is_ours)
 }
 
 /// A folder, devices, a folder that is missing, and no path.
@@ -152,20 +199,38 @@ const OTHER_PATHS: [&str; 5] = [
     "",
 ];
 
+fn foreign_files(rt: &HostRuntime, rig: &mut Rig<'_>) -> Result<(), Fail> {
+    files_of_few_slots(rt, rig)?;
+    file_of_forty_slots(rt, rig, 40, true)?;
+    file_of_forty_slots(rt, rig, 20, false)?;
+    rig.remove_file()
+}
+
+fn other_paths(rig: &mut Rig<'_>) -> Result<(), Fail> {
+    for other_path in OTHER_PATHS {
+        check(!rig.open_file(other_path)?, "that is no file for a journal")?;
+    }
+    Ok(())
+}
+
 #[test]
 fn a_file_that_is_no_journal_is_refused(rt: HostRuntime) -> Result<(), Fail> {
     if is_child(&rt) {
         return Ok(());
     }
     let mut rig = Rig::new(&rt, "foreign", 47010)?;
-    files_of_few_slots(&rt, &mut rig)?;
-    is_left(&rt, &mut rig, &forty_slots(40), true)?;
-    is_left(&rt, &mut rig, &forty_slots(20), false)?;
-    rig.remove_file()?;
-    for other_path in OTHER_PATHS {
-        check(!rig.open_file(other_path)?, "that is no file for a journal")?;
-    }
-    Ok(())
+    foreign_files(&rt, &mut rig)?;
+    other_paths(&mut rig)
+}
+
+/// A journal has a second name, and then no more.
+fn two_names(rt: &HostRuntime, rig: &mut Rig<'_>, second: &str) -> Result<(), Fail> {
+    fs::write(rt, rig.journal(), b"\0")?;
+    fs::hard_link(rt, rig.journal(), second)?;
+    check(!rig.open(&[])?, "it has two names")?;
+    fs::remove_file(rt, second)?;
+    check(rig.open(&[])?, "it has one name")?;
+    rig.remove_file()
 }
 
 #[test]
@@ -175,11 +240,16 @@ fn a_file_with_two_names_is_refused(rt: HostRuntime) -> Result<(), Fail> {
     }
     let second = path(&rt, "two")?;
     let mut rig = Rig::new(&rt, "one", 47013)?;
-    fs::write(&rt, rig.journal(), b"\0")?;
-    fs::hard_link(&rt, rig.journal(), second.as_str())?;
-    check(!rig.open(&[])?, "it has two names")?;
-    fs::remove_file(&rt, second.as_str())?;
-    check(rig.open(&[])?, "it has one name")?;
+    two_names(&rt, &mut rig, second.as_str())
+}
+
+fn mode_of(rt: &HostRuntime, file: &str) -> Result<u32, Fail> {
+    Ok(fs::metadata(rt, file)?.mode())
+}
+
+fn its_owner_alone(rt: &HostRuntime, rig: &Rig<'_>) -> Result<(), Fail> {
+    let mode = mode_of(rt, rig.journal())?;
+    check(mode & 0o7777 == 0o600, "its owner reads and writes it")?;
     rig.remove_file()
 }
 
@@ -189,9 +259,7 @@ fn a_new_file_is_for_its_owner_alone(rt: HostRuntime) -> Result<(), Fail> {
         return Ok(());
     }
     let rig = Rig::opened(&rt, "mode", 47017, &[])?;
-    let mode = fs::metadata(&rt, rig.journal())?.mode();
-    check(mode & 0o7777 == 0o600, "its owner reads and writes it")?;
-    rig.remove_file()
+    its_owner_alone(&rt, &rig)
 }
 
 /// Makes a pipe with this path.
@@ -203,18 +271,35 @@ fn make_pipe(rt: &HostRuntime, pipe: &str) -> Result<(), Fail> {
     Ok(())
 }
 
+fn a_link_to_nothing(rt: &HostRuntime, rig: &mut Rig<'_>, journal: &str) -> Result<(), Fail> {
+    check(!rig.open(&[])?, "a link to nothing")?;
+    let is_made = fs::remove_file(rt, journal).is_ok();
+    check(!is_made, "no file is made through a link")?;
+    Ok(())
+}
+
+fn a_link_to_a_journal(rt: &HostRuntime, rig: &mut Rig<'_>, journal: &str) -> Result<(), Fail> {
+    fs::write(rt, journal, b"\0")?;
+    check(!rig.open(&[])?, "a link to a journal")?;
+    fs::remove_file(rt, journal)?;
+    Ok(())
+}
+
 /// A link with this path to a journal that isn't there, and to one that is.
 fn a_link(rt: &HostRuntime, rig: &mut Rig<'_>, link: &str) -> Result<(), Fail> {
     let journal = path(rt, "linked")?;
     symlink(rt, journal.as_str(), link)?;
-    check(!rig.open(&[])?, "a link to nothing")?;
-    let is_made = fs::remove_file(rt, journal.as_str()).is_ok();
-    check(!is_made, "no file is made through a link")?;
-    fs::write(rt, journal.as_str(), b"\0")?;
-    check(!rig.open(&[])?, "a link to a journal")?;
+    a_link_to_nothing(rt, rig, journal.as_str())?;
+    a_link_to_a_journal(rt, rig, journal.as_str())?;
     fs::remove_file(rt, link)?;
-    fs::remove_file(rt, journal.as_str())?;
     Ok(())
+}
+
+fn a_link_and_a_pipe(rt: &HostRuntime, rig: &mut Rig<'_>, link: &str) -> Result<(), Fail> {
+    a_link(rt, rig, link)?;
+    make_pipe(rt, link)?;
+    check(!rig.open(&[])?, "a pipe")?;
+    rig.remove_file()
 }
 
 /// A link isn't followed, and neither it nor a pipe is opened.
@@ -225,10 +310,7 @@ fn a_link_and_a_pipe_are_refused(rt: HostRuntime) -> Result<(), Fail> {
     }
     let link = path(&rt, "link")?;
     let mut rig = Rig::new(&rt, "link", 47018)?;
-    a_link(&rt, &mut rig, link.as_str())?;
-    make_pipe(&rt, link.as_str())?;
-    check(!rig.open(&[])?, "a pipe")?;
-    rig.remove_file()
+    a_link_and_a_pipe(&rt, &mut rig, link.as_str())
 }
 
 /// Moves the file that the site has open, and puts another under its name. Then neither is written.
@@ -242,6 +324,15 @@ fn replace(rt: &HostRuntime, rig: &mut Rig<'_>, aside: &str) -> Result<(), Fail>
     Ok(())
 }
 
+fn a_file_is_replaced(rt: &HostRuntime, rig: &mut Rig<'_>, aside: &str) -> Result<(), Fail> {
+    check(rig.writes(0, &[0x00]), "a write")?;
+    replace(rt, rig, aside)?;
+    check(!rig.open(&[])?, "it isn't opened any more")?;
+    // Another process would be: the failed opening has left neither the address nor the file.
+    check(another_opens(rt, "replaced", 47019)?, "another site is")?;
+    rig.remove_file()
+}
+
 #[test]
 fn a_file_that_is_replaced_fails_for_good(rt: HostRuntime) -> Result<(), Fail> {
     if is_child(&rt) {
@@ -249,10 +340,5 @@ fn a_file_that_is_replaced_fails_for_good(rt: HostRuntime) -> Result<(), Fail> {
     }
     let aside = path(&rt, "aside")?;
     let mut rig = Rig::opened(&rt, "replaced", 47019, &[])?;
-    check(rig.writes(0, &[0x00]), "a write")?;
-    replace(&rt, &mut rig, aside.as_str())?;
-    check(!rig.open(&[])?, "it isn't opened any more")?;
-    // Another process would be: the failed opening has left neither the address nor the file.
-    check(another_opens(&rt, "replaced", 47019)?, "another site is")?;
-    rig.remove_file()
+    a_file_is_replaced(&rt, &mut rig, aside.as_str())
 }

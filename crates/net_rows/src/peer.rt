@@ -20,6 +20,14 @@ pub(crate) fn three_of(peer: &mut TcpStream) -> Option<[u8; 3]> {
     }
 }
 
+/// Whether these are the next three bytes that a peer gets.
+pub(crate) fn gets(peer: &mut TcpStream, bytes: &[u8; 3]) -> bool {
+    match three_of(peer) {
+        Some(three) => three == *bytes,
+        None => false,
+    }
+}
+
 /// The connection that a listener has waiting.
 pub(crate) fn accepted(listener: &TcpListener) -> Result<TcpStream, &'static str> {
     match listener.accept() {

@@ -1,7 +1,7 @@
 //! A site whose calls give plain values, so that the tests need nothing of its contracts.
 use crate::fixture::{address, check, path, setup};
 use gw_base::Setup;
-use gw_site::{Site, What};
+use gw_site::{Polled, Site, What};
 use net_site::NetSite;
 use std::net::{SocketAddr, TcpStream};
 use std::test::Fail;
@@ -97,9 +97,14 @@ impl<'a> Rig<'a> {
         }
     }
 
+    /// What the next poll brings, and the moment.
+    fn polled(&mut self, buf: &mut [u8; 4096]) -> Polled {
+        self.site.poll(buf)
+    }
+
     /// What the next poll brings.
     pub(crate) fn poll(&mut self, buf: &mut [u8; 4096]) -> What {
-        self.site.poll(buf).what
+        self.polled(buf).what
     }
 
     /// What the next poll brings that brings something, within a few seconds.
@@ -129,7 +134,7 @@ impl<'a> Rig<'a> {
     fn is_quiet(&mut self) -> io::Result<bool> {
         let mut buf = [0; 4096];
         let before = seconds(self.rt)?;
-        let polled = self.site.poll(&mut buf);
+        let polled = self.polled(&mut buf);
         let after = seconds(self.rt)?;
         Ok(polled.what == What::Nothing && before <= polled.now && polled.now <= after)
     }

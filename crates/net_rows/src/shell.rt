@@ -49,6 +49,12 @@ pub(crate) fn see_children(rt: &HostRuntime, child: &str, rows: &[Row]) -> Resul
     Ok(())
 }
 
+/// Reports this to a file.
+pub(crate) fn report(rt: &HostRuntime, file: &str, found: &str) -> Result<(), Fail> {
+    fs::write(rt, file, found)?;
+    Ok(())
+}
+
 /// The file to which this process reports, where it was started for this.
 pub(crate) fn child_file(rt: &HostRuntime, child: &str) -> Option<String> {
     match env::var(rt, "NET_ROWS_CHILD") {

@@ -1,11 +1,12 @@
 //! Tests of the sockets, over loopback.
 use crate::fixture::{Steps, address, check, is_child, setup, terminal_at};
-use crate::peer::{accepted, sends, three_of};
+use crate::peer::{accepted, gets, sends, three_of};
 use crate::rig::Rig;
 use gw_base::Pts;
 use gw_bytes::{LONGEST_CHUNK, MOST_TERMINALS};
 use gw_site::What;
 use libc::net::listen;
+use std::alloc::AllocError;
 use std::net::{Shutdown, SocketAddr, TcpListener, TcpStream};
 use std::os::fd::AsRawFd;
 use std::test::Fail;
@@ -21,7 +22,7 @@ fn a_dialogue(rig: &mut Rig<'_>, till: &mut TcpStream) -> Steps {
         "its bytes come",
     )?;
     check(rig.sends_till(1, b"abc"), "it is sent bytes")?;
-    check(three_of(till) == Some(*b"abc"), "it gets them")
+    check(gets(till, b"abc"), "it gets them")
 }
 
 fn a_till(rig: &mut Rig<'_>) -> Steps {
@@ -42,10 +43,7 @@ fn a_terminal(rig: &mut Rig<'_>, listener: &TcpListener) -> Steps {
         "its bytes come",
     )?;
     check(rig.sends_pt(0, &[0x06, 0x00, 0x00]), "it is sent bytes")?;
-    check(
-        three_of(&mut terminal) == Some([0x06, 0x00, 0x00]),
-        "it gets them",
-    )
+    check(gets(&mut terminal, &[0x06, 0x00, 0x00]), "it gets them")
 }
 
 /// A second link replaces the first, whose peer reads its end.
@@ -60,6 +58,12 @@ fn a_second_link(rig: &mut Rig<'_>, listener: &TcpListener) -> Steps {
     check(!rig.links(1), "there is no other terminal")
 }
 
+fn a_till_and_a_terminal(rig: &mut Rig<'_>, listener: &TcpListener) -> Steps {
+    a_till(rig)?;
+    a_terminal(rig, listener)?;
+    a_second_link(rig, listener)
+}
+
 #[test]
 fn a_till_and_a_terminal_over_loopback(rt: HostRuntime) -> Result<(), Fail> {
     if is_child(&rt) {
@@ -68,9 +72,7 @@ fn a_till_and_a_terminal_over_loopback(rt: HostRuntime) -> Result<(), Fail> {
     let far = address(&rt, 47002);
     let listener = TcpListener::bind(&rt, far)?;
     let mut rig = Rig::opened(&rt, "loopback", 47001, &[far])?;
-    a_till(&mut rig)?;
-    a_terminal(&mut rig, &listener)?;
-    a_second_link(&mut rig, &listener)?;
+    a_till_and_a_terminal(&mut rig, &listener)?;
     rig.remove_file()
 }
 
@@ -85,6 +87,17 @@ fn opens_with_a_terminal_at(rt: &HostRuntime, rig: &mut Rig<'_>, far: &str) -> R
     rig.open_with(&setup)
 }
 
+fn no_address(rt: &HostRuntime, rig: &mut Rig<'_>) -> Result<(), Fail> {
+    for listen_at in ["localhost:47014", "127.0.0.1", ""] {
+        check(!opens_at(rt, rig, listen_at)?, "a name to listen at")?;
+    }
+    check(
+        !opens_with_a_terminal_at(rt, rig, "localhost:47015")?,
+        "a terminal's name",
+    )?;
+    rig.remove_file()
+}
+
 /// An address is an IP address and a port: to look a name up could take seconds.
 #[test]
 fn names_are_no_addresses(rt: HostRuntime) -> Result<(), Fail> {
@@ -92,14 +105,7 @@ fn names_are_no_addresses(rt: HostRuntime) -> Result<(), Fail> {
         return Ok(());
     }
     let mut rig = Rig::new(&rt, "names", 47014)?;
-    for listen_at in ["localhost:47014", "127.0.0.1", ""] {
-        check(!opens_at(&rt, &mut rig, listen_at)?, "a name to listen at")?;
-    }
-    check(
-        !opens_with_a_terminal_at(&rt, &mut rig, "localhost:47015")?,
-        "a terminal's name",
-    )?;
-    rig.remove_file()
+    no_address(&rt, &mut rig)
 }
 
 fn a_byte_at_a_time(rig: &mut Rig<'_>, peer: &mut TcpStream) -> Steps {
@@ -220,6 +226,16 @@ fn sixty_five_tills_open(rig: &mut Rig<'_>) -> Steps {
     Ok(())
 }
 
+fn a_hundred_tills(rig: &mut Rig<'_>) -> Result<(), Fail> {
+    sixty_five_tills_open(rig)?;
+    // The others wait, and the poll does too: it doesn't return at once for them.
+    let took = rig.four_quiet_polls()?;
+    check(took >= Duration::from_millis(150), "a poll waits")?;
+    rig.cut_till(33);
+    check(rig.brings(What::TillOpened(66)), "one more has room")?;
+    rig.remove_file()
+}
+
 #[test]
 fn a_hundred_connections(rt: HostRuntime) -> Result<(), Fail> {
     if is_child(&rt) {
@@ -227,13 +243,19 @@ fn a_hundred_connections(rt: HostRuntime) -> Result<(), Fail> {
     }
     let mut rig = Rig::opened(&rt, "hundred", 47004, &[])?;
     let _peers = a_hundred_peers(&rt, &rig)?;
-    sixty_five_tills_open(&mut rig)?;
-    // The others wait, and the poll does too: it doesn't return at once for them.
-    let took = rig.four_quiet_polls()?;
-    check(took >= Duration::from_millis(150), "a poll waits")?;
-    rig.cut_till(33);
-    check(rig.brings(What::TillOpened(66)), "one more has room")?;
-    rig.remove_file()
+    a_hundred_tills(&mut rig)
+}
+
+/// Connects until it takes too long, at most eight times.
+fn connect_many(rt: &HostRuntime, far: SocketAddr) -> Result<Vec<TcpStream>, AllocError> {
+    let mut held = Vec::new(rt.alloc());
+    for _ in 0..8 {
+        match TcpStream::connect_timeout(rt, &far, Duration::from_millis(50)) {
+            Ok(stream) => held.push(stream)?,
+            Err(_) => break,
+        }
+    }
+    Ok(held)
 }
 
 /// Fills the queue of a listener, so that it accepts no connection and refuses none, as a host that is switched off.
@@ -243,13 +265,7 @@ fn fill_queue(
     far: SocketAddr,
 ) -> Result<Vec<TcpStream>, Fail> {
     let queue = listen(listener.as_raw_fd(), 0);
-    let mut held = Vec::new(rt.alloc());
-    for _ in 0..8 {
-        match TcpStream::connect_timeout(rt, &far, Duration::from_millis(50)) {
-            Ok(stream) => held.push(stream)?,
-            Err(_) => break,
-        }
-    }
+    let held = connect_many(rt, far)?;
     check(queue == 0 && held.len() < 8, "the queue isn't full")?;
     Ok(held)
 }
@@ -285,6 +301,22 @@ fn shortest_round(rt: &HostRuntime, rig: &mut Rig<'_>) -> Result<Duration, Fail>
     Ok(shortest)
 }
 
+/// A site whose terminals are all at one address, where nobody accepts.
+fn all_switched_off(rt: &HostRuntime, far: SocketAddr) -> Result<(), Fail> {
+    let mut rig = Rig::opened(rt, "links", 47005, &[far; MOST_TERMINALS])?;
+    links_wait_together(rt, &mut rig)
+}
+
+fn links_wait_together(rt: &HostRuntime, rig: &mut Rig<'_>) -> Result<(), Fail> {
+    let shortest = shortest_round(rt, rig)?;
+    check(shortest >= Duration::from_millis(19), "they wait")?;
+    check(
+        shortest < Duration::from_millis(40),
+        "and they wait together",
+    )?;
+    rig.remove_file()
+}
+
 /// All links between two polls wait 20 ms together: in the shortest of some rounds less than two of them would wait one
 /// after the other. A busy machine makes rounds longer, but hardly all of them.
 #[test]
@@ -295,14 +327,7 @@ fn terminals_that_are_switched_off(rt: HostRuntime) -> Result<(), Fail> {
     let far = address(&rt, 47006);
     let listener = TcpListener::bind(&rt, far)?;
     let _held = fill_queue(&rt, &listener, far)?;
-    let mut rig = Rig::opened(&rt, "links", 47005, &[far; MOST_TERMINALS])?;
-    let shortest = shortest_round(&rt, &mut rig)?;
-    check(shortest >= Duration::from_millis(19), "they wait")?;
-    check(
-        shortest < Duration::from_millis(40),
-        "and they wait together",
-    )?;
-    rig.remove_file()
+    all_switched_off(&rt, far)
 }
 
 /// Accepts a connection, if one waits, and sends a byte to it.
@@ -350,6 +375,30 @@ fn a_link_is_taken_up(
     Ok(())
 }
 
+/// A link to a listener whose queue is full.
+fn a_link_beside_a_full_queue(
+    rt: &HostRuntime,
+    rig: &mut Rig<'_>,
+    listener: &TcpListener,
+    far: SocketAddr,
+) -> Result<(), Fail> {
+    let held = fill_queue(rt, listener, far)?;
+    a_link_is_taken_up(rt, rig, listener, held.len())
+}
+
+/// The same of a listener that is then closed.
+fn a_link_is_made(rt: &HostRuntime, rig: &mut Rig<'_>, far: SocketAddr) -> Result<(), Fail> {
+    let listener = TcpListener::bind(rt, far)?;
+    a_link_beside_a_full_queue(rt, rig, &listener, far)
+}
+
+/// Where nobody listens, a link fails.
+fn nobody_listens(rig: &mut Rig<'_>) -> Result<(), Fail> {
+    rig.cut_pt(0);
+    check(!rig.links(0), "nobody listens")?;
+    rig.remove_file()
+}
+
 /// A link that isn't made in time goes on being made, and is the one that is taken up.
 #[test]
 fn a_link_goes_on_being_made(rt: HostRuntime) -> Result<(), Fail> {
@@ -357,13 +406,7 @@ fn a_link_goes_on_being_made(rt: HostRuntime) -> Result<(), Fail> {
         return Ok(());
     }
     let far = address(&rt, 47021);
-    let listener = TcpListener::bind(&rt, far)?;
-    let held = fill_queue(&rt, &listener, far)?;
     let mut rig = Rig::opened(&rt, "making", 47020, &[far])?;
-    a_link_is_taken_up(&rt, &mut rig, &listener, held.len())?;
-    // Where nobody listens, a link fails.
-    drop(listener);
-    rig.cut_pt(0);
-    check(!rig.links(0), "nobody listens")?;
-    rig.remove_file()
+    a_link_is_made(&rt, &mut rig, far)?;
+    nobody_listens(&mut rig)
 }
