@@ -5,12 +5,12 @@ use Rattle.std.proofs.Math.Seq.{take-length}
 use Rattle.json_text.specs.Tree.{Tree}
 use Rattle.json_text.specs.Grammar.{Rules, skip, Value, SpellsBy, Spells, BeginsTextBy, BeginsText, profile}
 use Rattle.json_text.specs.Scan.{Scan, outside, inside, scan, IsBadUtf8}
-use Rattle.json_text.specs.inner.ReaderStates.{Level, ReaderState, value, LeadsTo, IsDead, IsAlive, Follows, scan_of, CannotEnd, Ends}
+use Rattle.json_text.specs.inner.ReaderStates.{Level, ReaderState, value, IsDead, IsAlive, Follows, scan_of, CannotEnd}
 use Rattle.json_text.specs.Fault.{IsJsonFault, BreaksUtf8}
-use Rattle.json_text.specs.inner.StepErrors.{FailsAt}
+use Rattle.json_text.specs.inner.ByteFaults.{FailsAt}
 use Rattle.json_text.specs.declared.fault.FaultKind.{FaultKind}
 use Rattle.json_text.specs.declared.fault.FaultKind.TheVariants as kinds
-use Rattle.json_text.proofs.LiveLemmas.{IsLive}
+use Rattle.json_text.specs.inner.ReaderProgress.{IsLive, IsLedTo}
 
 -- ---- one rule book
 
@@ -18,12 +18,6 @@ pub start : (R : Rules) → Follows R [] value []
 start R = record {
   on = λ b v h. record { tree = v; rest = h.0; valued = h.1; after = (h.2, refl) };
   back = λ b v h. (h.rest, subst (λ (t : Tree). Value R 0 t (skip b) h.rest) (sym h.after.1) h.valued, h.after.0);
-}
-
-pub one_more : (R : Rules) (prefix : List ℕ) (p : ReaderState) (st : List Level) (c : ℕ) (q : ReaderState) (st' : List Level) → Follows R prefix p st → LeadsTo R p st c q st' → Follows R (prefix ++ c ∷ []) q st'
-one_more R prefix p st c q st' f m = record {
-  on = λ b v h. m.on b v (f.on (c ∷ b) v (rw append_assoc at h));
-  back = λ b v h. rw append_assoc (f.back (c ∷ b) v (m.back b v h));
 }
 
 begins : (R : Rules) (prefix : List ℕ) (p : ReaderState) (st : List Level) → Follows R prefix p st → IsLive R p st → BeginsTextBy R prefix
@@ -36,12 +30,6 @@ dead_end : (R : Rules) (prefix : List ℕ) (p : ReaderState) (st : List Level) (
 dead_end R prefix p st c f dead g = dead g.1 g.0 (f.on (c ∷ g.1) g.0 (rw append_assoc at g.2))
 
 -- ---- every rule book that allows 32 levels
-
--- the prefix leads to the state by each of them, and the scan of its strings agrees
-pub record IsRead (prefix : List ℕ) (p : ReaderState) (st : List Level) : Type 0 where
-  pub follows : (R : Rules) → 32 ≤ R.limit → Follows R prefix p st
-  pub live : (R : Rules) → IsLive R p st
-  pub scans : scan prefix ≡ scan_of p
 
 abbrev limited : ℕ → Rules
 limited n = record { limit = n; distinct = true }
@@ -80,7 +68,7 @@ not_bad s c e h = subst (λ (x : Scan). IsBadUtf8 x c) e h
 quote_not_bad : (s : Scan) (c : ℕ) → s ≡ inside → c ≡ 34 → IsBadUtf8 s c → ⊥
 quote_not_bad s c e q h = let le : 128 ≤ c = subst (λ (x : Scan). IsBadUtf8 x c) e h in omega arith
 
-pub fault : (b : List ℕ) (offset c : ℕ) (p : ReaderState) (st : List Level) (fault_kind : FaultKind) → IsAt b offset c → IsRead (take offset b) p st → FailsAt p st c fault_kind → IsJsonFault b offset fault_kind
+pub fault : (b : List ℕ) (offset c : ℕ) (p : ReaderState) (st : List Level) (fault_kind : FaultKind) → IsAt b offset c → IsLedTo (take offset b) p st → FailsAt p st c fault_kind → IsJsonFault b offset fault_kind
 fault b offset c p st kinds.NotJson i r f =
     let stuck = more_dead profile b offset c p st i (r.follows profile (omega arith)) (f.dead profile) in
     record {
@@ -128,7 +116,7 @@ fault b offset c p st kinds.Repeated i r f =
     }
 
 -- the bytes end in the middle
-pub end_fault : (b : List ℕ) (p : ReaderState) (st : List Level) → IsRead b p st → CannotEnd p st → IsJsonFault b (length b) kinds.NotJson
+pub end_fault : (b : List ℕ) (p : ReaderState) (st : List Level) → IsLedTo b p st → CannotEnd p st → IsJsonFault b (length b) kinds.NotJson
 end_fault b p st r open_ = record {
   within = omega arith;
   begins = rw (take-length b) (begins profile b p st (r.follows profile (omega arith)) (r.live profile));
@@ -138,9 +126,3 @@ end_fault b p st r open_ = record {
   repeated = (λ e. absurd cc, λ g. absurd (omega (arith, g.0)));
   bad_utf8 = (λ e. absurd cc, λ g. absurd (omega (arith, g.0)));
 }
-
-pub end_spells : (b : List ℕ) (p : ReaderState) (st : List Level) (x : Tree) → IsRead b p st → Ends p st x → Spells x b
-end_spells b p st x r e = subst (λ (t : List ℕ). SpellsBy profile x t) (append-nil b) ((r.follows profile (omega arith)).back [] x (e.back profile))
-
-pub end_only : (b : List ℕ) (p : ReaderState) (st : List Level) (x : Tree) → IsRead b p st → Ends p st x → (v : Tree) → Spells v b → v ≡ x
-end_only b p st x r e v s = e.on profile v ((r.follows profile (omega arith)).on [] v (subst (λ (t : List ℕ). SpellsBy profile v t) (sym (append-nil b)) s))

@@ -10,7 +10,8 @@ use Rattle.json_text.specs.MemberNames.{pair_names}
 use Rattle.json_text.specs.Character.{unescaped, short, AreCharacters, AreHex, IsUnit, IsLow, of_pair}
 use Rattle.json_text.specs.Grammar.{Rules, Allows, AreDistinct, IsNew}
 use Rattle.json_text.specs.inner.CharacterLeft.{Completes, LeftOfCharacter, AfterUnit, InFirst, InSecond, IsSecond, IsSound, Bounds, Utf8Bounds, FirstBounds, SecondBounds}
-use Rattle.json_text.specs.inner.ReaderStates.{Level, in_list, in_object, IsStringRest, Role, as_value, as_name, ReaderState, value, first_element, first_name, name, colon, after, literal, number_in, string_in, character_in, Closed, Rest}
+use Rattle.json_text.specs.inner.ReaderStates.{Level, in_list, in_object, IsStringRest, Role, as_value, as_name, value, first_element, first_name, name, colon, after, literal, number_in, string_in, character_in, Closed}
+use Rattle.json_text.specs.inner.ReaderProgress.{AreSound, IsRoleSound, IsLive}
 use Rattle.json_text.specs.declared.character.CharacterState.{CharacterState}
 use Rattle.json_text.specs.declared.character.CharacterState.TheVariants as character_states
 use Rattle.json_text.specs.declared.number.NumberState.{NumberState}
@@ -43,16 +44,6 @@ distinct-longer (n ∷ ns) k lt h = (new ns h.0 (omega arith), distinct-longer n
     new (m ∷ ms) h lt = (h.0, new ms h.1 lt)
 
 -- ---- open arrays and objects
-
--- the names of each open object differ
-abbrev pub AreSound : List Level → Type 0
-AreSound [] = Unit {0}
-AreSound (in_list done ∷ st) = AreSound st
-AreSound (in_object done k ∷ st) = AreDistinct (pair_names done ++ k ∷ []) × AreSound st
-
--- something makes a whole of it
-abbrev pub IsLive : Rules → ReaderState → List Level → Type 0
-IsLive R p st = (b : List ℕ) × (v : Tree) × Rest R p st b v
 
 pub after_live : (R : Rules) (st : List Level) (x : Tree) → AreSound st → IsLive R (after x) st
 after_live R [] x s = ([], x, (refl, refl))
@@ -112,11 +103,6 @@ letters (suc k) r =
 -- the string can be closed, where its text may be so much longer
 text_by : (K : List ℕ → List ℕ → Type 0) (text : List ℕ) (k : ℕ) (r : List ℕ) → K (text ++ longer k) r → IsStringRest K text (longer k ++ 34 ∷ r)
 text_by K text k r c = let t = letters k r in record { characters = t.0; rest = r; spelled = t.1; closed = subst (λ (l : List ℕ). K (text ++ l) r) (sym t.2) c }
-
--- the members before a name have names that differ
-abbrev pub IsRoleSound : Role → Type 0
-IsRoleSound as_value = Unit {0}
-IsRoleSound (as_name done) = AreDistinct (pair_names done)
 
 -- a string that is closed after any text that is long enough
 closed_live : (R : Rules) (st : List Level) (role : Role) → AreSound st → IsRoleSound role → (k : ℕ) × ((text : List ℕ) → k ≤ length text → (b : List ℕ) × (v : Tree) × Closed R st role text b v)

@@ -1,5 +1,5 @@
 -- Names that differ.
-use Rattle.std.proofs.Common.{◌≡◌, ℕ, Bool, true, false, not, ◌||◌, ◌&&◌, cond, List, [], ◌∷◌, ◌++◌, bytes_eq, nat_eq, refl, sym, ap, ◌∙◌, arith, true≢false}
+use Rattle.std.proofs.Common.{◌≡◌, ℕ, Bool, true, false, not, ◌||◌, ◌&&◌, List, [], ◌∷◌, ◌++◌, bytes_eq, nat_eq, refl, sym, ap, ◌∙◌, arith, true≢false}
 use Rattle.std.proofs.lemmas.List.{map-append}
 use Rattle.std.proofs.lemmas.Bool.Decides.{nat_tests}
 use Rattle.json_text.specs.Grammar.{IsNew, AreDistinct}
@@ -18,10 +18,6 @@ has_name_append q (n ∷ ns) k = ap (λ (b : Bool). bytes_eq q n || b) (has_name
 pub names_append : {A : Type 0} (ms : List (List ℕ × A)) (k : List ℕ) (x : A) → pair_names (ms ++ (k, x) ∷ []) ≡ pair_names ms ++ k ∷ []
 names_append ms k x = map-append (λ m. m.0) ms ((k, x) ∷ [])
 
-of_cond : (a b : Bool) → cond a true b ≡ (a || b)
-of_cond true b = refl
-of_cond false b = refl
-
 eq_sym : (x y : ℕ) → nat_eq x y ≡ nat_eq y x
 eq_sym x y = grind (arith, nat_tests)
 
@@ -30,16 +26,6 @@ bytes_eq_sym [] [] = refl
 bytes_eq_sym [] (y ∷ ys) = refl
 bytes_eq_sym (x ∷ xs) [] = refl
 bytes_eq_sym (x ∷ xs) (y ∷ ys) = ap (λ (b : Bool). b && bytes_eq xs ys) (eq_sym x y) ∙ ap (λ (b : Bool). nat_eq y x && b) (bytes_eq_sym xs ys)
-
--- a set with one more name in it, beside the names and this one
-pub added : {A : Type 0} (q own k : List ℕ) (ms : List (List ℕ × A)) (had : Bool) → own ≡ k → had ≡ has_name q (pair_names ms) → cond (bytes_eq own q) true had ≡ has_name q (pair_names ms ++ k ∷ [])
-added q own k ms had e g =
-    of_cond (bytes_eq own q) had ∙ ap (λ (b : Bool). b || had) (bytes_eq_sym own q ∙ ap (bytes_eq q) e) ∙ ap (λ (b : Bool). bytes_eq q k || b) g
-    ∙ sym (has_name_append q (pair_names ms) k)
-
-pub not_true : (b : Bool) → not b ≡ true → b ≡ false
-not_true true e = absurd (true≢false (sym e))
-not_true false e = refl
 
 -- names that differ, and one that is none of them
 pub distinct_append : (ns : List (List ℕ)) (k : List ℕ) → are_distinct ns ≡ true → has_name k ns ≡ false → are_distinct (ns ++ k ∷ []) ≡ true
@@ -52,12 +38,6 @@ distinct_append (n ∷ ns) k d h = both (has_name n ns) (bytes_eq k n) (has_name
     both false true c true i j l m f g r = absurd (true≢false g)
     both false false true true i j l m f g r = absurd (true≢false g)
     both false false false true i j l m f g r = rw (has_name_append n ns k, bytes_eq_sym n k, i, j, r m l) refl
-
-pub new_name : {A : Type 0} (ms : List (List ℕ × A)) (k own : List ℕ) (had : Bool) → k ≡ own → are_distinct (pair_names ms) ≡ true → had ≡ has_name own (pair_names ms) → had ≡ false → are_distinct (pair_names ms ++ k ∷ []) ≡ true
-new_name ms k own had e d g f = distinct_append (pair_names ms) k d (ap (λ (q : List ℕ). has_name q (pair_names ms)) e ∙ sym g ∙ f)
-
-pub still_distinct : {A : Type 0} (ms new : List (List ℕ × A)) (k : List ℕ) (x : A) → new ≡ ms ++ (k, x) ∷ [] → are_distinct (pair_names ms ++ k ∷ []) ≡ true → are_distinct (pair_names new) ≡ true
-still_distinct ms new k x e d = ap (λ (l : List (List ℕ × _)). are_distinct (pair_names l)) e ∙ ap are_distinct (names_append ms k x) ∙ d
 
 -- ---- the tests' meaning
 

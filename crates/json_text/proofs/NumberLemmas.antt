@@ -9,10 +9,10 @@ use Rattle.json_text.proofs.ListLemmas.{head_is, tail_is, not_nil}
 -- ---- bytes
 
 pub digit_byte : (c : ℕ) → IsDigit c → IsNumberByte c
-digit_byte c d = record { ascii = omega arith; no_space = (omega arith, omega arith, omega arith, omega arith); no_mark = (omega arith, omega arith, omega arith, omega arith) }
+digit_byte c d = record { ascii = omega arith; printed = omega arith; no_backslash = omega arith; no_space = (omega arith, omega arith, omega arith, omega arith); no_mark = (omega arith, omega arith, omega arith, omega arith) }
 
 pub other_byte : (c : ℕ) → (c ≡ 45) ⊎ ((c ≡ 43) ⊎ ((c ≡ 46) ⊎ ((c ≡ 101) ⊎ (c ≡ 69)))) → IsNumberByte c
-other_byte c h = record { ascii = omega arith; no_space = (omega arith, omega arith, omega arith, omega arith); no_mark = (omega arith, omega arith, omega arith, omega arith) }
+other_byte c h = record { ascii = omega arith; printed = omega arith; no_backslash = omega arith; no_space = (omega arith, omega arith, omega arith, omega arith); no_mark = (omega arith, omega arith, omega arith, omega arith) }
 
 -- ---- the exponent
 

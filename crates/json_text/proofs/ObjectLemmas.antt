@@ -60,7 +60,7 @@ of_name R st done b m v e h = record {
   valued = h.closed.valued;
 }
 
-at_inside : (R : Rules) (st : List Level) (done : List (List ℕ × Tree)) (v : Tree) (b c : List ℕ) → b ≡ c → IsStringRest (λ k n. AtColon R st done k n v) [] b → IsStringRest (λ k n. AtColon R st done k n v) [] c
+pub at_inside : (R : Rules) (st : List Level) (done : List (List ℕ × Tree)) (v : Tree) (b c : List ℕ) → b ≡ c → IsStringRest (λ k n. AtColon R st done k n v) [] b → IsStringRest (λ k n. AtColon R st done k n v) [] c
 at_inside R st done v b c e h = subst (λ (t : List ℕ). IsStringRest (λ k n. AtColon R st done k n v) [] t) e h
 
 -- ---- the first name

@@ -1,9 +1,9 @@
 -- Where a byte leaves the scan of strings and UTF-8.
-use Rattle.std.proofs.Common.{◌≡◌, ◌≢◌, ℕ, ◌-◌, ◌<◌, ◌≤◌, true, false, refl, arith, nat_eq, List, [], ◌∷◌, ◌++◌, ◌⊎◌}
+use Rattle.std.proofs.Common.{◌≡◌, ◌≢◌, ℕ, ◌-◌, ◌<◌, ◌≤◌, true, false, refl, arith, nat_eq, ◌⊎◌}
 use Rattle.std.proofs.lemmas.Bool.{le-ltb, lt-ltb}
 use Rattle.std.proofs.lemmas.Bool.Decides.{nat_tests}
 use Rattle.json_text.specs.Grammar.{is_space}
-use Rattle.json_text.specs.Scan.{Scan, outside, inside, owes, scan_step, scan_from}
+use Rattle.json_text.specs.Scan.{outside, inside, owes, scan_step}
 
 pub neq_test : (x k : ℕ) → x ≢ k → nat_eq x k ≡ false
 neq_test x k ne = grind (arith, nat_tests)
@@ -35,7 +35,3 @@ no_space c a b d e = rw (neq_test c 32 a, neq_test c 9 b, neq_test c 10 d, neq_t
 -- white space is none of the marks
 pub space_is : (c : ℕ) → is_space c ≡ true → (c ≡ 32) ⊎ ((c ≡ 9) ⊎ ((c ≡ 10) ⊎ (c ≡ 13)))
 space_is c e = grind (arith, nat_tests)
-
-pub stand_from-append : (s : Scan) (prefix : List ℕ) (c : ℕ) → scan_from s (prefix ++ c ∷ []) ≡ scan_step (scan_from s prefix) c
-stand_from-append s [] c = refl
-stand_from-append s (x ∷ prefix) c = stand_from-append (scan_step s x) prefix c

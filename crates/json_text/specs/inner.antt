@@ -1,6 +1,9 @@
 -- Definitions that serve private functions alone.
+pub mod ByteFaults
 pub mod CharacterLeft
-pub mod CharacterStretches
+pub mod ContentBytes
+pub mod MemberIndex
+pub mod MemberOrder
 pub mod NumberLeft
+pub mod ReaderProgress
 pub mod ReaderStates
-pub mod StepErrors

@@ -1,6 +1,6 @@
 //! The faults of a text, and the errors of the reader.
 ghost use Rattle.std.specs.Prelude.{◌≡◌, ◌≤◌, length};
-ghost use Rattle.json_text.specs.inner.StepErrors.{read_error_at};
+ghost use Rattle.json_text.specs.inner.ByteFaults.{fault_at};
 ghost use Rattle.json_text.specs.FaultText.{kind_text};
 
 use std::alloc::{AllocError, AllocFailed};
@@ -80,44 +80,39 @@ impl fmt::Display for ReadError {
 
 impl Error for ReadError {}
 
-/// What ends the reading at a byte.
-#[derive(Clone, Copy, Debug)]
-pub(crate) enum StepError {
-    Memory,
-    Fault(FaultKind),
+/// The error of a fault at this offset.
+pub(crate) fn fault(at: usize, fault_kind: FaultKind) -> ReadError
+    ensures { result ≡ fault_at at fault_kind }
+{
+    ReadError::Fault(JsonFault {
+        at,
+        kind: fault_kind,
+    })
 }
 
-impl StepError {
-    /// The error of the whole text, with the offset of the byte.
-    pub(crate) fn at_offset(self, offset: usize) -> ReadError
-        ensures { result ≡ read_error_at self offset }
-    {
-        match self {
-            StepError::Memory => ReadError::Memory,
-            StepError::Fault(fault_kind) => ReadError::Fault(JsonFault {
-                at: offset,
-                kind: fault_kind,
-            }),
-        }
-    }
+/// The error where no text goes on at this offset, for no reason that has a kind of its own.
+pub(crate) fn not_json(at: usize) -> ReadError
+    ensures { result ≡ fault_at at FaultKind.NotJson }
+{
+    fault(at, FaultKind::NotJson)
 }
 
-impl From<AllocError> for StepError {
-    ghost use Rattle.json_text.specs.declared.fault.StepError.TheVariants.{Memory};
+impl From<AllocError> for ReadError {
+    ghost use Rattle.json_text.specs.declared.fault.ReadError.TheVariants.{Memory};
 
     ghost from_gives = { λ _ e. e ≡ Memory };
 
     fn from(_: AllocError) -> Self {
-        StepError::Memory
+        ReadError::Memory
     }
 }
 
-impl<T: Drop> From<AllocFailed<T>> for StepError {
-    ghost use Rattle.json_text.specs.declared.fault.StepError.TheVariants.{Memory};
+impl<T: Drop> From<AllocFailed<T>> for ReadError {
+    ghost use Rattle.json_text.specs.declared.fault.ReadError.TheVariants.{Memory};
 
     ghost from_gives = { λ _ e. e ≡ Memory };
 
     fn from(_: AllocFailed<T>) -> Self {
-        StepError::Memory
+        ReadError::Memory
     }
 }

@@ -12,15 +12,17 @@
 #![tactic(auto)]
 
 mod character;
+mod content;
 mod fault;
 mod laws;
+mod literal;
 mod members;
 mod number;
+mod plain;
 mod reader;
-mod state;
-mod stretches;
 #[cfg(test)]
 mod tests;
+mod tokens;
 mod tree;
 mod writer;
 

@@ -1,107 +1,124 @@
-//! The members of an open object, and their names.
-ghost use Rattle.std.specs.Prelude.{◌≡◌, ◌<◌, ◌≤◌, ℕ, List, [], ◌++◌, ◌∷◌, drop, length, true, IfOk, MatchOption, string_bytes};
-ghost use Rattle.std.specs.BTreeSet.{contains_text};
+//! The members of an open object, and an index of their names.
+ghost use Rattle.std.specs.Prelude.{◌≡◌, ◌<◌, ◌≤◌, ℕ, List, [], ◌++◌, ◌∷◌, drop, length, true, false, IfOk, OnOk, MatchOption};
+ghost use Rattle.std.specs.Ordering.{nat_cmp};
+ghost use Rattle.std.specs.Cmp.Lexicographic.{slice_cmp};
 ghost use Rattle.json_text.specs.MemberNames.{has_name, are_distinct, pair_names};
+ghost use Rattle.json_text.specs.inner.MemberIndex.{name_at, names_at, AreMemberNumbers, AreInOrder, ComesAt};
 
 use crate::tree::{Chars, Json};
-use std::alloc::{AllocError, AllocFailed, Global};
-use std::collections::BTreeSet;
+use std::alloc::{AllocError, Global};
+use std::cmp::Ordering;
 
-/// So many members are looked through one by one for a name. A text of many members must not take their number squared.
+/// So many members are looked through one by one for a name. The comparisons of a text of many members must not be as many as
+/// their number squared.
 const FEW: usize = 12;
 
-/// The members so far, in order, beside the names of those after the first few in a set.
+/// The members of an open object, in order, beside an index by name of those after the first few.
 #[derive(Drop)]
 pub(crate) struct OpenObject {
     pub members: Vec<(Chars, Json)>,
-    names: BTreeSet<String>,
-    pub ghost known: { (q : List ℕ) → contains_text names q ≡ has_name q (drop 12 (pair_names members.items)) },
+    /// The numbers of the members after the first few, in the order of their names.
+    index: Vec<u32>,
+    ghost within: { AreMemberNumbers index.items (length members.items) },
+    ghost ordered: { AreInOrder (names_at (pair_names members.items) index.items) },
+    ghost known: { (q : List ℕ) → has_name q (names_at (pair_names members.items) index.items) ≡ has_name q (drop 12 (pair_names members.items)) },
     pub ghost distinct: { are_distinct (pair_names members.items) ≡ true },
 }
 
-/// The members so far, and the name of the member whose value comes next, which none of them has. The set has the name
-/// too where that member comes after the first few.
-#[derive(Drop)]
-pub(crate) struct NamedObject {
-    pub members: Vec<(Chars, Json)>,
-    names: BTreeSet<String>,
-    pub name: Chars,
-    pub ghost known: { (q : List ℕ) → contains_text names q ≡ has_name q (drop 12 (pair_names members.items ++ name ∷ [])) },
-    pub ghost new: { are_distinct (pair_names members.items ++ name ∷ []) ≡ true },
-}
-
 impl OpenObject {
-    /// An object without members.
-    pub(crate) fn new(alloc: Global) -> OpenObject
-        ensures { result.members.items ≡ [] }
+    ghost use Rattle.json_text.specs.inner.MemberOrder.{IsGap};
+
+    /// An object without members, and with room for two.
+    pub(crate) fn new(alloc: Global) -> Result<OpenObject, AllocError>
+        ensures { IfOk result (λ opened. opened.members.items ≡ []) }
     {
-        OpenObject {
-            members: Vec::new(alloc),
-            names: BTreeSet::new(alloc),
-        }
+        Ok(OpenObject {
+            members: Vec::with_capacity(alloc, 2)?,
+            index: Vec::new(alloc),
+        })
     }
 
-    /// The members, without the set of their names.
+    /// The members, without the index.
     pub(crate) fn into_members(self) -> Vec<(Chars, Json)>
         ensures { result.items ≡ self.members.items }
     {
         self.members
     }
 
-    /// The object with this name for its next member; `None` where a member has it.
-    pub(crate) fn named(
-        self,
-        alloc: Global,
-        name: String,
-    ) -> Result<Option<NamedObject>, AllocError>
-        ensures { IfOk result (λ found. MatchOption found (has_name (string_bytes name) (pair_names self.members.items) ≡ true)
-            (λ named. (named.members.items ≡ self.members.items) × (named.name ≡ string_bytes name))) }
+    /// Where a next member of this name comes in the index; `None` where a member has the name.
+    pub(crate) fn gap(&self, name: &[u8]) -> Option<usize>
+        ensures { MatchOption result (has_name name.now (pair_names self.now.members.items) ≡ true) (λ gap. IsGap self.now name.now gap) }
     {
-        if self.members.len() < FEW {
-            Ok(self.named_few(name))
-        } else {
-            self.named_later(alloc, name)
-        }
-    }
-
-    /// The object with this name, for one of the first few members.
-    fn named_few(self, name: String) -> Option<NamedObject>
-        requires { length self.members.items < 12 }
-        ensures { MatchOption result (has_name (string_bytes name) (pair_names self.members.items) ≡ true)
-            (λ named. (named.members.items ≡ self.members.items) × (named.name ≡ string_bytes name)) }
-    {
-        if is_among(self.members.as_slice(), name.as_bytes()) {
+        if is_among(&self.members[..FEW.min(self.members.len())], name) {
             return None;
         }
-        let OpenObject { members, names } = self;
-        Some(NamedObject {
-            members,
-            names,
-            name: Chars::new(name),
-        })
+        self.gap_in_index(name)
     }
 
-    /// The object with this name, for a member after the first few.
-    fn named_later(self, alloc: Global, name: String) -> Result<Option<NamedObject>, AllocError>
-        requires { 12 ≤ length self.members.items }
-        ensures { IfOk result (λ found. MatchOption found (has_name (string_bytes name) (pair_names self.members.items) ≡ true)
-            (λ named. (named.members.items ≡ self.members.items) × (named.name ≡ string_bytes name))) }
+    /// Where the name comes in the index; `None` where the index has it.
+    fn gap_in_index(&self, name: &[u8]) -> Option<usize>
+        ensures { MatchOption result (has_name name.now (names_at (pair_names self.now.members.items) self.now.index.items) ≡ true)
+            (ComesAt (names_at (pair_names self.now.members.items) self.now.index.items) name.now) }
     {
-        if is_among(&self.members[..FEW], name.as_bytes()) {
-            return Ok(None);
+        let mut low = 0;
+        let mut high = self.index.len();
+        while low < high {
+            let middle = low + (high - low) / 2;
+            match self.order_at(middle, name) {
+                Ordering::Less => low = middle + 1,
+                Ordering::Equal => return None,
+                Ordering::Greater => high = middle,
+            }
         }
-        let OpenObject { members, mut names } = self;
-        // The set has names of its own: names that it borrowed from the members would tie the object to itself.
-        let copy = String::from_str(alloc, name.as_str())?;
-        if names.insert(copy)? {
-            Ok(Some(NamedObject {
-                members,
-                names,
-                name: Chars::new(name),
-            }))
+        Some(low)
+    }
+
+    /// How the name of this rank in the index compares with the other.
+    fn order_at(&self, rank: usize, name: &[u8]) -> Ordering
+        requires { rank < length self.now.index.items }
+        ensures { result ≡ slice_cmp nat_cmp (name_at (names_at (pair_names self.now.members.items) self.now.index.items) rank) name.now }
+    {
+        let (own, _) = &self.members[self.index[rank] as usize];
+        own.as_bytes().cmp(name)
+    }
+
+    /// One more member, whose name has this gap.
+    pub(crate) fn push(&mut self, gap: usize, name: Chars, value: Json) -> Result<(), AllocError>
+        requires { IsGap self.old name gap }
+        ensures { OnOk result (self.new.members.items ≡ self.old.members.items ++ (name, value) ∷ []) }
+    {
+        if self.members.len() < FEW {
+            self.push_few(name, value)
         } else {
-            Ok(None)
+            self.push_later(gap, name, value)
         }
+    }
+
+    /// One more of the first few members.
+    fn push_few(&mut self, name: Chars, value: Json) -> Result<(), AllocError>
+        requires few { length self.old.members.items < 12 }
+        requires new { has_name name (pair_names self.old.members.items) ≡ false }
+        ensures { OnOk result (self.new.members.items ≡ self.old.members.items ++ (name, value) ∷ []) }
+    {
+        self.members.push((name, value))?;
+        Ok(())
+    }
+
+    /// One more member after the first few.
+    fn push_later(&mut self, gap: usize, name: Chars, value: Json) -> Result<(), AllocError>
+        requires many { 12 ≤ length self.old.members.items }
+        requires gap { IsGap self.old name gap }
+        ensures { OnOk result (self.new.members.items ≡ self.old.members.items ++ (name, value) ∷ []) }
+    {
+        // A number takes four bytes: more members than it counts would take some 300 gigabytes.
+        let Ok(number) = u32::try_from(self.members.len()) else {
+            return Err(AllocError);
+        };
+        // The room for the member comes first, so that the index never has a number without a member.
+        self.members.reserve(1)?;
+        self.index.insert(gap, number)?;
+        self.members.push_reserved((name, value));
+        Ok(())
     }
 }
 
@@ -115,19 +132,4 @@ fn is_among(members: &[(Chars, Json)], name: &[u8]) -> bool
         }
     }
     false
-}
-
-impl NamedObject {
-    /// The members, and then one with this value.
-    pub(crate) fn with(self, value: Json) -> Result<OpenObject, AllocFailed<(Chars, Json)>>
-        ensures { IfOk result (λ opened. opened.members.items ≡ self.members.items ++ (self.name, value) ∷ []) }
-    {
-        let NamedObject {
-            mut members,
-            names,
-            name,
-        } = self;
-        members.push((name, value))?;
-        Ok(OpenObject { members, names })
-    }
 }

@@ -1,30 +1,25 @@
-//! The reader: one byte after another, with a stack of its own.
-ghost use Rattle.std.specs.Prelude.{◌≡◌, ◌≢◌, ◌<◌, [], ◌∷◌, length, drop, map, false, string_bytes, IfOk, IfErr, MatchOption, MatchResult};
-ghost use Rattle.json_text.specs.Tree.{Tree};
-ghost use Rattle.json_text.specs.ValueOf.{value_of};
-ghost use Rattle.json_text.specs.inner.NumberLeft.{LeavesNumber, EndsNumber};
-ghost use Rattle.json_text.specs.Number.{IsNumberText};
-ghost use Rattle.json_text.specs.inner.CharacterLeft.{IsSound, scan_within};
-ghost use Rattle.json_text.specs.Scan.{inside};
-ghost use Rattle.json_text.specs.Grammar.{is_space, Spells};
-ghost use Rattle.json_text.specs.inner.ReaderStates.{pairs, levels, reader_state, role_of, literal_text, literal_tree, value, first_element, first_name, name, colon, after, literal, number_in, string_in, character_in, in_list, in_object, IsWithin, TakesStretch, StepsOn, CannotEnd, Ends};
-ghost use Rattle.json_text.specs.inner.StepErrors.{Fails, IsKindAt, IsNoMark};
+//! The reader: a function for each kind of value, over one offset that goes on through the text.
+ghost use Rattle.std.specs.Prelude.{◌≡◌, ◌+◌, ◌<◌, ◌≤◌, [], length, map, IfErr, IfOk, OnOk};
+ghost use Rattle.json_text.specs.Tree.{Tree, array, no_elements, object};
+ghost use Rattle.json_text.specs.ValueOf.{elements_onto, members_value, value_of};
+ghost use Rattle.json_text.specs.Grammar.{Spells};
 ghost use Rattle.json_text.specs.Fault.{RefusesText};
+ghost use Rattle.json_text.specs.inner.MemberOrder.{IsGap};
+ghost use Rattle.json_text.specs.inner.ReaderStates.{after, as_name, colon, first_element, first_name, pairs, string_in, value};
+ghost use Rattle.json_text.specs.inner.ReaderProgress.{IsByteAt, MemberRead, NameOpens, ReadsOn, ReadsOnWithin, Refused, RefusedName, RefusedWithin};
 
-use crate::character::{self, CharacterState, CharacterStep};
-use crate::fault::{FaultKind, JsonFault, ReadError, StepError};
-use crate::members::{NamedObject, OpenObject};
-use crate::number::NumberState;
-use crate::state::{Literal, Mode, OpenLevel, State, Target};
-use crate::stretches::{is_white, take_number, take_text, white_len};
-use crate::tree::{Chars, Json, Numeral};
+use crate::fault::{FaultKind, ReadError, fault, not_json};
+use crate::members::OpenObject;
+use crate::tokens::{pass_colon, peek_token, read_scalar, read_string, skip_white};
+use crate::tree::{Chars, Json};
 use gw_bytes::MOST_LEVELS;
-use std::alloc::{AllocError, Global};
-use std::mem;
+use std::alloc::Global;
 
 /// The tree that the bytes spell, all of the bytes.
 ///
-/// Takes time in the number of bytes, times the logarithm of the greatest number of members of one object.
+/// Takes time in the number of bytes, times the logarithm of the greatest number of members of one object. Beyond twelve
+/// members a name also moves four bytes for each name of its object that comes after it in the order of names. As much
+/// stack is taken as arrays and objects are open at once: at most 32.
 pub fn read(alloc: Global, bytes: &[u8]) -> Result<Json, ReadError>
     // The bytes are a text of the tree, and of no other.
     ensures spelled { IfOk result (λ j. Spells (value_of j) bytes.now) }
@@ -33,416 +28,204 @@ pub fn read(alloc: Global, bytes: &[u8]) -> Result<Json, ReadError>
     // A fault is returned only where there is no such tree, with its offset and its kind.
     ensures fault { IfErr result (λ e. RefusesText bytes.now e) }
 {
-    // The stack of open arrays and objects is the reader's own: a text decides how deep it is, and the stack of calls
-    // must not go by what a till sends.
-    let mut state = State {
-        stack: Vec::new(alloc),
-        mode: Mode::Value,
-    };
     let mut offset = 0;
-    while offset < bytes.len() {
-        match take(&mut state.mode, &bytes[offset..]) {
-            Ok(taken) => offset += taken,
-            Err(_) => return Err(ReadError::Memory),
-        }
-        if offset < bytes.len() {
-            match step(alloc, &mut state, bytes[offset]) {
-                Ok(()) => offset += 1,
-                Err(error) => return Err(error.at_offset(offset)),
-            }
-        }
+    let json = read_value(alloc, bytes, &mut offset, MOST_LEVELS)?;
+    skip_white(bytes, &mut offset);
+    if offset < bytes.len() {
+        return Err(not_json(offset));
     }
-    match finish(state) {
-        Some(json) => Ok(json),
-        None => Err(ReadError::Fault(JsonFault {
-            at: bytes.len(),
-            kind: FaultKind::NotJson,
-        })),
-    }
+    Ok(json)
 }
 
-/// Takes the bytes that leave the reader in its mode, all at once: whole characters of a string, a number, white space.
-/// How many these are.
-fn take(mode: &mut Mode, bytes: &[u8]) -> Result<usize, AllocError>
-    ensures { IfOk result (λ taken. TakesStretch mode.old bytes.now taken mode.new) }
-{
-    match mode {
-        Mode::Str(_, text) => take_text(text, bytes),
-        Mode::Number(text, number_state) => take_number(text, number_state, bytes),
-        Mode::Literal(_, _) => Ok(0),
-        Mode::Character(_, _, _) => Ok(0),
-        _ => Ok(white_len(bytes)),
-    }
-}
-
-/// Takes one byte, by the mode of the reader.
-fn step(alloc: Global, state: &mut State, byte: u8) -> Result<(), StepError>
-    requires { IsWithin state.old.mode }
-    ensures { MatchResult result (λ _. StepsOn (reader_state state.old.mode) (levels state.old.stack.items) byte state.new) (Fails (reader_state state.old.mode) (levels state.old.stack.items) byte) }
-{
-    // The mode is taken out of the state, so that each function owns what was read so far and copies nothing. The
-    // mode that is left in the state is set by that function, or is dropped with the state after a fault.
-    match mem::replace(&mut state.mode, Mode::Value) {
-        Mode::Value => in_value(alloc, state, byte),
-        Mode::FirstElement => in_first_element(alloc, state, byte),
-        Mode::FirstName => in_first_name(alloc, state, byte),
-        Mode::Name(opened) => in_name(alloc, state, opened, byte),
-        Mode::Colon(named) => in_colon(state, named, byte),
-        Mode::After(json) => in_after(state, json, byte),
-        Mode::Literal(wanted, read) => in_literal(state, wanted, read, byte),
-        Mode::Number(text, number_state) => in_number(state, text, number_state, byte),
-        Mode::Str(target, text) => in_string(alloc, state, target, text, byte),
-        Mode::Character(target, text, within) => in_character(state, target, text, within, byte),
-    }
-}
-
-/// The tree of the text if it ends here; `None` where it can't.
-fn finish(state: State) -> Option<Json>
-    requires { IsWithin state.mode }
-    ensures { MatchOption result (CannotEnd (reader_state state.mode) (levels state.stack.items)) (λ j. Ends (reader_state state.mode) (levels state.stack.items) (value_of j)) }
-{
-    let State { stack, mode } = state;
-    if stack.len() > 0 {
-        return None;
-    }
-    match mode {
-        Mode::After(json) => Some(json),
-        Mode::Number(text, number_state) => {
-            if number_state.is_whole() {
-                Some(Json::Number(Numeral::new(text)))
-            } else {
-                None
-            }
-        }
-        _ => None,
-    }
-}
-
-fn in_value(alloc: Global, state: &mut State, byte: u8) -> Result<(), StepError>
-    ensures { MatchResult result (λ _. StepsOn value (levels state.old.stack.items) byte state.new) (Fails value (levels state.old.stack.items) byte) }
-{
-    if is_white(byte) {
-        state.mode = Mode::Value;
-        return Ok(());
-    }
-    if let Some(number_state) = NumberState::first(byte) {
-        return begin_number(alloc, state, number_state, byte);
-    }
-    match byte {
-        b'[' => {
-            if state.stack.len() >= MOST_LEVELS {
-                return Err(StepError::Fault(FaultKind::TooDeep));
-            }
-            state.mode = Mode::FirstElement;
-            Ok(())
-        }
-        b'{' => {
-            if state.stack.len() >= MOST_LEVELS {
-                return Err(StepError::Fault(FaultKind::TooDeep));
-            }
-            state.mode = Mode::FirstName;
-            Ok(())
-        }
-        b'"' => {
-            state.mode = Mode::Str(Target::Value, String::new(alloc));
-            Ok(())
-        }
-        _ => begin_literal(state, byte),
-    }
-}
-
-fn begin_literal(state: &mut State, byte: u8) -> Result<(), StepError>
-    requires space { is_space byte ≡ false }
-    requires other { IsNoMark byte }
-    requires number { EndsNumber IsNumberText byte }
-    ensures { MatchResult result (λ _. StepsOn value (levels state.old.stack.items) byte state.new) (Fails value (levels state.old.stack.items) byte) }
-{
-    let wanted = match byte {
-        b'n' => Literal::Null,
-        b't' => Literal::True,
-        b'f' => Literal::False,
-        _ => return Err(StepError::Fault(FaultKind::NotJson)),
-    };
-    state.mode = Mode::Literal(wanted, 1);
-    Ok(())
-}
-
-fn begin_number(
+/// The value that comes next, in which so many arrays and objects may be open at once.
+#[cycle(values)]
+fn read_value(
     alloc: Global,
-    state: &mut State,
-    number_state: NumberState,
-    byte: u8,
-) -> Result<(), StepError>
-    requires { LeavesNumber IsNumberText byte number_state }
-    ensures { MatchResult result (λ _. StepsOn value (levels state.old.stack.items) byte state.new) (Fails value (levels state.old.stack.items) byte) }
+    bytes: &[u8],
+    offset: &mut usize,
+    levels_left: usize,
+) -> Result<Json, ReadError>
+    ensures read { IfOk result (λ json. ReadsOnWithin levels_left bytes.now offset.old value offset.new (after (value_of json))) }
+    ensures forward { OnOk result (offset.old < offset.new) }
+    ensures refused { IfErr result (λ error. RefusedWithin levels_left bytes.now offset.old value error) }
 {
-    let mut text = String::new(alloc);
-    text.push(char::from(byte))?;
-    state.mode = Mode::Number(text, number_state);
-    Ok(())
+    let byte = peek_token(bytes, offset)?;
+    match byte {
+        b'"' => {
+            *offset += 1;
+            let text = read_string(alloc, bytes, offset)?;
+            *offset += 1;
+            Ok(Json::Str(text))
+        }
+        b'[' => read_array(alloc, bytes, offset, levels_left),
+        b'{' => read_object(alloc, bytes, offset, levels_left),
+        _ => read_scalar(alloc, bytes, offset, byte),
+    }
 }
 
-fn in_first_element(alloc: Global, state: &mut State, byte: u8) -> Result<(), StepError>
-    ensures { MatchResult result (λ _. StepsOn first_element (levels state.old.stack.items) byte state.new) (Fails first_element (levels state.old.stack.items) byte) }
+/// The array whose opening bracket comes next.
+#[cycle(values)]
+fn read_array(
+    alloc: Global,
+    bytes: &[u8],
+    offset: &mut usize,
+    levels_left: usize,
+) -> Result<Json, ReadError>
+    requires bracket { IsByteAt bytes.now offset.old 91 }
+    ensures read { IfOk result (λ json. ReadsOnWithin levels_left bytes.now offset.old value offset.new (after (value_of json))) }
+    ensures forward { OnOk result (offset.old < offset.new) }
+    ensures refused { IfErr result (λ error. RefusedWithin levels_left bytes.now offset.old value error) }
 {
-    if is_white(byte) {
-        state.mode = Mode::FirstElement;
-        return Ok(());
+    if levels_left == 0 {
+        return Err(fault(*offset, FaultKind::TooDeep));
     }
-    if byte == b']' {
-        state.mode = Mode::After(Json::List(Vec::new(alloc)));
-        return Ok(());
+    *offset += 1;
+    Ok(Json::List(read_elements(alloc, bytes, offset, levels_left - 1)?))
+}
+
+/// The elements of an array whose opening bracket has been passed, and the closing bracket.
+#[cycle(values)]
+fn read_elements(
+    alloc: Global,
+    bytes: &[u8],
+    offset: &mut usize,
+    levels_left: usize,
+) -> Result<Vec<Json>, ReadError>
+    ensures read { IfOk result (λ elements. ReadsOnWithin (levels_left + 1) bytes.now offset.old first_element offset.new (after (array (elements_onto (map value_of elements.items) no_elements)))) }
+    ensures forward { OnOk result (offset.old < offset.new) }
+    ensures refused { IfErr result (λ error. RefusedWithin (levels_left + 1) bytes.now offset.old first_element error) }
+{
+    if peek_token(bytes, offset)? == b']' {
+        *offset += 1;
+        return Ok(Vec::new(alloc));
     }
     // Most arrays of messages have one element.
-    let elements = Vec::with_capacity(alloc, 1)?;
-    state.stack.push(OpenLevel::List(elements))?;
-    in_value(alloc, state, byte)
-}
-
-fn in_first_name(alloc: Global, state: &mut State, byte: u8) -> Result<(), StepError>
-    ensures { MatchResult result (λ _. StepsOn first_name (levels state.old.stack.items) byte state.new) (Fails first_name (levels state.old.stack.items) byte) }
-{
-    if is_white(byte) {
-        state.mode = Mode::FirstName;
-        return Ok(());
-    }
-    match byte {
-        b'"' => {
-            state.mode = Mode::Str(Target::Name(OpenObject::new(alloc)), String::new(alloc));
-            Ok(())
-        }
-        b'}' => {
-            state.mode = Mode::After(Json::Object(Vec::new(alloc)));
-            Ok(())
-        }
-        _ => Err(StepError::Fault(FaultKind::NotJson)),
-    }
-}
-
-fn in_name(alloc: Global, state: &mut State, opened: OpenObject, byte: u8) -> Result<(), StepError>
-    ensures { MatchResult result (λ _. StepsOn (name (pairs opened.members.items)) (levels state.old.stack.items) byte state.new) (Fails (name (pairs opened.members.items)) (levels state.old.stack.items) byte) }
-{
-    if is_white(byte) {
-        state.mode = Mode::Name(opened);
-        return Ok(());
-    }
-    if byte != b'"' {
-        return Err(StepError::Fault(FaultKind::NotJson));
-    }
-    state.mode = Mode::Str(Target::Name(opened), String::new(alloc));
-    Ok(())
-}
-
-fn in_colon(state: &mut State, named: NamedObject, byte: u8) -> Result<(), StepError>
-    ensures { MatchResult result (λ _. StepsOn (colon (pairs named.members.items) named.name) (levels state.old.stack.items) byte state.new) (Fails (colon (pairs named.members.items) named.name) (levels state.old.stack.items) byte) }
-{
-    if is_white(byte) {
-        state.mode = Mode::Colon(named);
-        return Ok(());
-    }
-    if byte != b':' {
-        return Err(StepError::Fault(FaultKind::NotJson));
-    }
-    state.stack.push(OpenLevel::Object(named))?;
-    state.mode = Mode::Value;
-    Ok(())
-}
-
-fn in_after(state: &mut State, json: Json, byte: u8) -> Result<(), StepError>
-    ensures { MatchResult result (λ _. StepsOn (after (value_of json)) (levels state.old.stack.items) byte state.new) (Fails (after (value_of json)) (levels state.old.stack.items) byte) }
-{
-    if is_white(byte) {
-        state.mode = Mode::After(json);
-        return Ok(());
-    }
-    match state.stack.pop() {
-        None => Err(StepError::Fault(FaultKind::NotJson)),
-        Some(OpenLevel::List(elements)) => after_element(state, elements, json, byte),
-        Some(OpenLevel::Object(named)) => after_member(state, named, json, byte),
-    }
-}
-
-fn after_element(
-    state: &mut State,
-    elements: Vec<Json>,
-    json: Json,
-    byte: u8,
-) -> Result<(), StepError>
-    requires { is_space byte ≡ false }
-    ensures { MatchResult result (λ _. StepsOn (after (value_of json)) (in_list (map value_of elements.items) ∷ levels state.old.stack.items) byte state.new) (Fails (after (value_of json)) (in_list (map value_of elements.items) ∷ levels state.old.stack.items) byte) }
-{
-    let mut elements = elements;
-    elements.push(json)?;
-    match byte {
-        b',' => {
-            state.stack.push(OpenLevel::List(elements))?;
-            state.mode = Mode::Value;
-            Ok(())
-        }
-        b']' => {
-            state.mode = Mode::After(Json::List(elements));
-            Ok(())
-        }
-        _ => Err(StepError::Fault(FaultKind::NotJson)),
-    }
-}
-
-fn after_member(
-    state: &mut State,
-    named: NamedObject,
-    json: Json,
-    byte: u8,
-) -> Result<(), StepError>
-    requires { is_space byte ≡ false }
-    ensures { MatchResult result (λ _. StepsOn (after (value_of json)) (in_object (pairs named.members.items) named.name ∷ levels state.old.stack.items) byte state.new) (Fails (after (value_of json)) (in_object (pairs named.members.items) named.name ∷ levels state.old.stack.items) byte) }
-{
-    let opened = named.with(json)?;
-    match byte {
-        b',' => {
-            state.mode = Mode::Name(opened);
-            Ok(())
-        }
-        b'}' => {
-            state.mode = Mode::After(Json::Object(opened.into_members()));
-            Ok(())
-        }
-        _ => Err(StepError::Fault(FaultKind::NotJson)),
-    }
-}
-
-fn in_literal(state: &mut State, wanted: Literal, read: usize, byte: u8) -> Result<(), StepError>
-    requires { read < length (literal_text wanted) }
-    ensures { MatchResult result (λ _. StepsOn (literal (drop read (literal_text wanted)) (literal_tree wanted)) (levels state.old.stack.items) byte state.new) (Fails (literal (drop read (literal_text wanted)) (literal_tree wanted)) (levels state.old.stack.items) byte) }
-{
-    let text = wanted.text();
-    if byte != text[read] {
-        return Err(StepError::Fault(FaultKind::NotJson));
-    }
-    if read + 1 < text.len() {
-        state.mode = Mode::Literal(wanted, read + 1);
-        Ok(())
-    } else {
-        state.mode = Mode::After(wanted.json());
-        Ok(())
-    }
-}
-
-fn in_number(
-    state: &mut State,
-    text: String,
-    number_state: NumberState,
-    byte: u8,
-) -> Result<(), StepError>
-    ensures { MatchResult result (λ _. StepsOn (number_in (string_bytes text) number_state) (levels state.old.stack.items) byte state.new) (Fails (number_in (string_bytes text) number_state) (levels state.old.stack.items) byte) }
-{
-    match number_state.next(byte) {
-        Some(next) => {
-            let mut text = text;
-            text.push(char::from(byte))?;
-            state.mode = Mode::Number(text, next);
-            Ok(())
-        }
-        None => {
-            if number_state.is_whole() {
-                in_after(state, Json::Number(Numeral::new(text)), byte)
-            } else {
-                Err(StepError::Fault(FaultKind::NotJson))
+    let mut elements = Vec::with_capacity(alloc, 1)?;
+    loop {
+        let json = read_value(alloc, bytes, offset, levels_left)?;
+        elements.push(json)?;
+        match peek_token(bytes, offset)? {
+            b',' => *offset += 1,
+            b']' => {
+                *offset += 1;
+                return Ok(elements);
             }
+            _ => return Err(not_json(*offset)),
         }
     }
 }
 
-fn in_string(
+/// The object whose opening brace comes next.
+#[cycle(values)]
+fn read_object(
     alloc: Global,
-    state: &mut State,
-    target: Target,
-    text: String,
-    byte: u8,
-) -> Result<(), StepError>
-    ensures { MatchResult result (λ _. StepsOn (string_in (role_of target) (string_bytes text)) (levels state.old.stack.items) byte state.new) (Fails (string_in (role_of target) (string_bytes text)) (levels state.old.stack.items) byte) }
+    bytes: &[u8],
+    offset: &mut usize,
+    levels_left: usize,
+) -> Result<Json, ReadError>
+    requires brace { IsByteAt bytes.now offset.old 123 }
+    ensures read { IfOk result (λ json. ReadsOnWithin levels_left bytes.now offset.old value offset.new (after (value_of json))) }
+    ensures forward { OnOk result (offset.old < offset.new) }
+    ensures refused { IfErr result (λ error. RefusedWithin levels_left bytes.now offset.old value error) }
 {
-    if byte == b'"' {
-        return closed(alloc, state, target, text);
+    if levels_left == 0 {
+        return Err(fault(*offset, FaultKind::TooDeep));
     }
-    match character::first(byte) {
-        CharacterStep::Whole(c) => {
-            let mut text = text;
-            text.push(c)?;
-            state.mode = Mode::Str(target, text);
-            Ok(())
-        }
-        CharacterStep::Next(within) => {
-            state.mode = Mode::Character(target, text, within);
-            Ok(())
-        }
-        CharacterStep::Wrong => Err(StepError::Fault(fault_between(byte))),
-    }
+    *offset += 1;
+    Ok(Json::Object(read_members(alloc, bytes, offset, levels_left - 1)?))
 }
 
-fn in_character(
-    state: &mut State,
-    target: Target,
-    text: String,
-    within: CharacterState,
-    byte: u8,
-) -> Result<(), StepError>
-    requires { IsSound within }
-    ensures { MatchResult result (λ _. StepsOn (character_in (role_of target) (string_bytes text) within) (levels state.old.stack.items) byte state.new) (Fails (character_in (role_of target) (string_bytes text) within) (levels state.old.stack.items) byte) }
+/// The members of an object whose opening brace has been passed, and the closing brace.
+#[cycle(values)]
+fn read_members(
+    alloc: Global,
+    bytes: &[u8],
+    offset: &mut usize,
+    levels_left: usize,
+) -> Result<Vec<(Chars, Json)>, ReadError>
+    ensures read { IfOk result (λ members. ReadsOnWithin (levels_left + 1) bytes.now offset.old first_name offset.new (after (object (members_value members.items)))) }
+    ensures forward { OnOk result (offset.old < offset.new) }
+    ensures refused { IfErr result (λ error. RefusedWithin (levels_left + 1) bytes.now offset.old first_name error) }
 {
-    match within.next(byte) {
-        CharacterStep::Whole(c) => {
-            let mut text = text;
-            text.push(c)?;
-            state.mode = Mode::Str(target, text);
-            Ok(())
+    match peek_token(bytes, offset)? {
+        b'"' => *offset += 1,
+        b'}' => {
+            *offset += 1;
+            return Ok(Vec::new(alloc));
         }
-        CharacterStep::Next(within) => {
-            state.mode = Mode::Character(target, text, within);
-            Ok(())
-        }
-        CharacterStep::Wrong => Err(StepError::Fault(fault_inside(within, byte))),
+        _ => return Err(not_json(*offset)),
     }
-}
-
-/// The closing quotation mark.
-fn closed(alloc: Global, state: &mut State, target: Target, text: String) -> Result<(), StepError>
-    ensures { MatchResult result (λ _. StepsOn (string_in (role_of target) (string_bytes text)) (levels state.old.stack.items) 34 state.new) (Fails (string_in (role_of target) (string_bytes text)) (levels state.old.stack.items) 34) }
-{
-    match target {
-        Target::Value => {
-            state.mode = Mode::After(Json::Str(Chars::new(text)));
-            Ok(())
-        }
-        Target::Name(opened) => {
-            let found = opened.named(alloc, text)?;
-            match found {
-                Some(named) => {
-                    state.mode = Mode::Colon(named);
-                    Ok(())
-                }
-                None => Err(StepError::Fault(FaultKind::Repeated)),
+    let mut opened = OpenObject::new(alloc)?;
+    loop {
+        read_member(alloc, bytes, offset, levels_left, &mut opened)?;
+        match peek_token(bytes, offset)? {
+            b',' => {
+                *offset += 1;
+                open_name(bytes, offset)?;
             }
+            b'}' => {
+                *offset += 1;
+                return Ok(opened.into_members());
+            }
+            _ => return Err(not_json(*offset)),
         }
     }
 }
 
-/// The kind of a byte between two characters with which none begins.
-fn fault_between(byte: u8) -> FaultKind
-    ensures { IsKindAt inside byte result }
+/// Passes the opening quotation mark of a name after a comma.
+fn open_name(bytes: &[u8], offset: &mut usize) -> Result<(), ReadError>
+    ensures read { OnOk result (NameOpens bytes.now offset.old offset.new) }
+    ensures forward { OnOk result (offset.old < offset.new) }
+    ensures within { OnOk result (offset.new ≤ length bytes.now) }
+    ensures refused { IfErr result (λ error. RefusedName bytes.now offset.old error) }
 {
-    if byte < 0x80 {
-        FaultKind::NotJson
-    } else {
-        FaultKind::BadUtf8
+    if peek_token(bytes, offset)? != b'"' {
+        return Err(not_json(*offset));
     }
+    *offset += 1;
+    Ok(())
 }
 
-/// The kind of a byte with which no character goes on.
-fn fault_inside(within: CharacterState, byte: u8) -> FaultKind
-    ensures { IsKindAt (scan_within within) byte result }
+/// One more member of an object, the opening quotation mark of whose name has been passed.
+#[cycle(values)]
+fn read_member(
+    alloc: Global,
+    bytes: &[u8],
+    offset: &mut usize,
+    levels_left: usize,
+    opened: &mut OpenObject,
+) -> Result<(), ReadError>
+    requires { offset.old ≤ length bytes.now }
+    ensures read { OnOk result (MemberRead levels_left bytes.now offset.old opened.old.members.items offset.new opened.new.members.items) }
+    ensures forward { OnOk result (offset.old < offset.new) }
+    ensures refused { IfErr result (λ error. RefusedWithin (levels_left + 1) bytes.now offset.old (string_in (as_name (pairs opened.old.members.items)) []) error) }
 {
-    match within {
-        CharacterState::Utf8 { .. } => FaultKind::BadUtf8,
-        _ => fault_between(byte),
+    let (name, gap) = read_name(alloc, bytes, offset, opened)?;
+    pass_colon(bytes, offset)?;
+    let json = read_value(alloc, bytes, offset, levels_left)?;
+    opened.push(gap, name, json)?;
+    Ok(())
+}
+
+/// The name of a next member, whose opening quotation mark has been passed, and its gap.
+fn read_name(
+    alloc: Global,
+    bytes: &[u8],
+    offset: &mut usize,
+    opened: &OpenObject,
+) -> Result<(Chars, usize), ReadError>
+    requires { offset.old ≤ length bytes.now }
+    ensures read { IfOk result (λ named. ReadsOn bytes.now offset.old (string_in (as_name (pairs opened.now.members.items)) []) offset.new (colon (pairs opened.now.members.items) named.0)) }
+    ensures gap { IfOk result (λ named. IsGap opened.now named.0 named.1) }
+    ensures forward { OnOk result (offset.old < offset.new) }
+    ensures refused { IfErr result (λ error. Refused bytes.now offset.old (string_in (as_name (pairs opened.now.members.items)) []) error) }
+{
+    let text = read_string(alloc, bytes, offset)?;
+    match opened.gap(text.as_bytes()) {
+        None => Err(fault(*offset, FaultKind::Repeated)),
+        Some(gap) => {
+            *offset += 1;
+            Ok((text, gap))
+        }
     }
 }

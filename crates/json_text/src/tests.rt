@@ -35,9 +35,10 @@ fn the_example(rt: HostRuntime) -> Result<(), Fail> {
 #[test]
 fn refused(rt: HostRuntime) -> Result<(), Fail> {
     use FaultKind::{BadUtf8, NotJson, Repeated, TooDeep};
-    let rows: [(&[u8], FaultKind, usize); 39] = [
+    let rows: [(&[u8], FaultKind, usize); 46] = [
         (b"", NotJson, 0),
         (b"{", NotJson, 1),
+        (b"nul", NotJson, 3),
         (b"nulL", NotJson, 3),
         (b"01", NotJson, 1),
         (b"1.", NotJson, 2),
@@ -51,6 +52,11 @@ fn refused(rt: HostRuntime) -> Result<(), Fail> {
         (b"[]]", NotJson, 2),
         (b"{\"a\":}", NotJson, 5),
         (b"{\"a\" 1}", NotJson, 5),
+        (b"{\"a\":1,}", NotJson, 7),
+        (b"{\"a\":1 \"b\":2}", NotJson, 7),
+        (b"{a:1}", NotJson, 1),
+        (b"[,1]", NotJson, 1),
+        (b"\x0c1", NotJson, 0),
         (b"\"\t\"", NotJson, 1),
         (b"\"\\x\"", NotJson, 2),
         (b"\"\\ud800\"", NotJson, 7),
@@ -73,6 +79,11 @@ fn refused(rt: HostRuntime) -> Result<(), Fail> {
         (b"\"\\u0\xc3\xa9\"", BadUtf8, 4),
         (b"{\"a\":1,\"a\":2}", Repeated, 9),
         (b"{\"a\":1,\"\\u0061\":2}", Repeated, 14),
+        (
+            b"{\"a\":1,\"b\":1,\"c\":1,\"d\":1,\"e\":1,\"f\":1,\"g\":1,\"h\":1,\"i\":1,\"j\":1,\"k\":1,\"l\":1,\"m\":1,\"m\":1}",
+            Repeated,
+            81,
+        ),
         (b"[[[[[[[[[[[[[[[[[[[[[[[[[[[[[[[[[", TooDeep, 32),
         (b"[[[[[[[[[[[[[[[[[[[[[[[[[[[[[[[{\"a\":{", TooDeep, 36),
     ];
@@ -88,12 +99,16 @@ fn refused(rt: HostRuntime) -> Result<(), Fail> {
 
 #[test]
 fn written(rt: HostRuntime) -> Result<(), Fail> {
-    let rows: [(&[u8], &[u8]); 16] = [
+    let rows: [(&[u8], &[u8]); 17] = [
         (b"\"Hello world!\"", b"\"Hello world!\""),
         (b"42", b"42"),
         (b" true ", b"true"),
         (b"[null , false]", b"[null,false]"),
         (b"{ }", b"{}"),
+        (
+            b"{\"o\":0,\"n\":1,\"m\":2,\"l\":3,\"k\":4,\"j\":5,\"i\":6,\"h\":7,\"g\":8,\"f\":9,\"e\":10,\"d\":11,\"c\":12,\"b\":13,\"a\":14}",
+            b"{\"o\":0,\"n\":1,\"m\":2,\"l\":3,\"k\":4,\"j\":5,\"i\":6,\"h\":7,\"g\":8,\"f\":9,\"e\":10,\"d\":11,\"c\":12,\"b\":13,\"a\":14}",
+        ),
         (b"-0.50E+1", b"-0.50E+1"),
         (b"1E400", b"1E400"),
         (

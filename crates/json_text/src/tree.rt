@@ -1,38 +1,55 @@
 //! JSON values.
-ghost use Rattle.std.specs.Prelude.{◌≡◌, map, option_map, option_copied, string_bytes, is_some, IsNone, ◌↔◌};
+ghost use Rattle.std.specs.Prelude.{◌≡◌, map, option_map, option_copied, string_bytes, is_some, IsNone, IfOk, ◌↔◌};
 ghost use Rattle.json_text.specs.Tree.{get_of, member_names_of, member_of, boolean_of, numeral_of, string_of, array_of, members_of};
 ghost use Rattle.json_text.specs.Grammar.{IsNew};
 ghost use Rattle.json_text.specs.ValueOf.{value_of, members_value};
+ghost use Rattle.json_text.specs.inner.ReaderStates.{ArePlain};
 
+use crate::content::Content;
+use std::alloc::{AllocError, Global};
 use std::marker::Model;
 
 /// The text of a string or of a member's name, in UTF-8, its escapes decoded.
 #[derive(Debug, Drop)]
 pub struct Chars {
-    text: String,
+    text: Content,
 }
 
 impl Model for Chars {
-    ghost use Rattle.std.specs.Prelude.{List, ℕ, string_bytes};
+    ghost use Rattle.std.specs.Prelude.{List, ℕ};
+    ghost use Rattle.json_text.specs.inner.ContentBytes.{content_bytes};
 
     ghost Value = { List ℕ };
 
-    ghost view = { λ c. string_bytes c.text };
+    ghost view = { λ c. content_bytes c.text };
 }
 
 impl Chars {
     pub fn new(text: String) -> Chars
         ensures { result ≡ string_bytes text }
     {
-        Chars { text }
+        Chars {
+            text: Content::Long(text),
+        }
     }
 
+    /// A copy of plain characters.
+    pub(crate) fn of_plain(alloc: Global, bytes: &[u8]) -> Result<Chars, AllocError>
+        requires { ArePlain bytes.now }
+        ensures { IfOk result (λ chars. chars ≡ bytes.now) }
+    {
+        let text = Content::of_plain(alloc, bytes)?;
+        Ok(Chars { text })
+    }
+
+    #[inline]
     pub fn as_bytes(&self) -> &[u8]
         ensures { result.now ≡ self.now }
     {
-        self.text.as_bytes()
+        self.text.as_str().as_bytes()
     }
 
+    #[inline]
     pub fn as_str(&self) -> &str
         ensures { result.now ≡ self.now }
     {
@@ -43,28 +60,33 @@ impl Chars {
 /// The text of a number, as it was read.
 #[derive(Debug, Drop)]
 pub struct Numeral {
-    text: String,
+    text: Content,
 }
 
 impl Model for Numeral {
-    ghost use Rattle.std.specs.Prelude.{List, ℕ, string_bytes};
+    ghost use Rattle.std.specs.Prelude.{List, ℕ};
+    ghost use Rattle.json_text.specs.inner.ContentBytes.{content_bytes};
 
     ghost Value = { List ℕ };
 
-    ghost view = { λ n. string_bytes n.text };
+    ghost view = { λ n. content_bytes n.text };
 }
 
 impl Numeral {
-    pub(crate) fn new(text: String) -> Numeral
-        ensures { result ≡ string_bytes text }
+    /// A copy of plain characters.
+    pub(crate) fn of_plain(alloc: Global, bytes: &[u8]) -> Result<Numeral, AllocError>
+        requires { ArePlain bytes.now }
+        ensures { IfOk result (λ numeral. numeral ≡ bytes.now) }
     {
-        Numeral { text }
+        let text = Content::of_plain(alloc, bytes)?;
+        Ok(Numeral { text })
     }
 
+    #[inline]
     pub fn as_bytes(&self) -> &[u8]
         ensures { result.now ≡ self.now }
     {
-        self.text.as_bytes()
+        self.text.as_str().as_bytes()
     }
 }
 

@@ -1,5 +1,5 @@
 -- Inner: what is left of a number's text, in each state of its reader.
-use Rattle.std.specs.Prelude.{◌≡◌, ◌≢◌, ℕ, List, ◌∷◌, ◌++◌, ◌<◌, ◌⊎◌}
+use Rattle.std.specs.Prelude.{◌≡◌, ◌≢◌, ℕ, List, ◌∷◌, ◌++◌, ◌<◌, ◌≤◌, ◌⊎◌}
 use Rattle.json_text.specs.Number.{AreDigits, IsDigits, IsFraction, IsSigned, IsExp, IsMagnitude}
 use Rattle.json_text.specs.declared.number.NumberState.{NumberState}
 use Rattle.json_text.specs.declared.number.NumberState.TheVariants as number_states
@@ -23,9 +23,11 @@ LeftOfNumber number_states.Letter s = IsDigits s ⊎ IsSigned s
 LeftOfNumber number_states.Sign s = IsDigits s
 LeftOfNumber number_states.Exponent s = AreDigits s
 
--- a byte that occurs in numbers, and never after a value
+-- a byte as in numbers: printed ASCII, but no mark that comes after a value, and none that ends or escapes in a string
 pub record IsNumberByte (c : ℕ) : Type 0 where
   pub ascii : c < 128
+  pub printed : 32 ≤ c
+  pub no_backslash : c ≢ 92
   pub no_space : (c ≢ 32) × (c ≢ 9) × (c ≢ 10) × (c ≢ 13)
   pub no_mark : (c ≢ 44) × (c ≢ 93) × (c ≢ 125) × (c ≢ 34)
 

@@ -1,26 +1,19 @@
 -- Inner: what may follow in each state of the reader.
-use Rattle.std.specs.Prelude.{◌≡◌, ◌≢◌, ℕ, suc, ◌<◌, ◌≤◌, List, [], ◌∷◌, ◌++◌, length, map, reverse, take, drop, true, false, string_bytes}
+use Rattle.std.specs.Prelude.{◌≡◌, ◌≢◌, ℕ, suc, ◌<◌, ◌≤◌, List, [], ◌∷◌, ◌++◌, length, map, true, false}
 use Rattle.std.specs.Char.{encode_utf8}
 use Rattle.std.specs.Str.{encode_utf8_all}
 use Rattle.json_text.specs.Tree.{Tree, null, boolean, number, string, array, object, Elements, element, Members, member, names}
 use Rattle.json_text.specs.ValueOf.{value_of, elements_onto, members_onto}
 use Rattle.json_text.specs.MemberNames.{pair_names}
 use Rattle.json_text.specs.Character.{AreCharacters}
-use Rattle.json_text.specs.Grammar.{Rules, skip, is_space, Value, First, More, FirstMember, MoreMembers, Allows, SpellsBy, literal_null, literal_true, literal_false}
-use Rattle.json_text.specs.Scan.{Scan, outside, inside, scan_step, scan_from}
-use Rattle.json_text.specs.inner.CharacterLeft.{LeftOfCharacter, IsSound, scan_within}
+use Rattle.json_text.specs.Grammar.{Rules, skip, Value, First, More, FirstMember, MoreMembers, Allows, SpellsBy, literal_null, literal_true, literal_false}
+use Rattle.json_text.specs.Scan.{Scan, outside, inside, scan_from}
+use Rattle.json_text.specs.inner.CharacterLeft.{LeftOfCharacter, scan_within}
 use Rattle.json_text.specs.inner.NumberLeft.{LeftOfNumber}
 use Rattle.json_text.specs.declared.character.CharacterState.{CharacterState}
 use Rattle.json_text.specs.declared.number.NumberState.{NumberState}
-use Rattle.json_text.specs.declared.state.OpenLevel.{OpenLevel}
-use Rattle.json_text.specs.declared.state.OpenLevel.TheVariants as open_levels
-use Rattle.json_text.specs.declared.state.Target.{Target}
-use Rattle.json_text.specs.declared.state.Target.TheVariants as targets
-use Rattle.json_text.specs.declared.state.Literal.{Literal}
-use Rattle.json_text.specs.declared.state.Literal.TheVariants as literals
-use Rattle.json_text.specs.declared.state.Mode.{Mode}
-use Rattle.json_text.specs.declared.state.Mode.TheVariants as modes
-use Rattle.json_text.specs.declared.state.State.{State}
+use Rattle.json_text.specs.declared.literal.Literal.{Literal}
+use Rattle.json_text.specs.declared.literal.Literal.TheVariants as literals
 use Rattle.json_text.specs.declared.tree.Json.{Json}
 
 -- ---- open arrays and objects
@@ -153,20 +146,6 @@ scan_of (character_in role text s) = scan_within s
 abbrev pub pairs : List (List ℕ × Json) → List (List ℕ × Tree)
 pairs ms = map (λ m. (m.0, value_of m.1)) ms
 
--- an open array or object
-abbrev pub level : OpenLevel → Level
-level (open_levels.List v) = in_list (map value_of v.items)
-level (open_levels.Object n) = in_object (pairs n.members.items) n.name
-
--- the innermost first
-abbrev pub levels : List OpenLevel → List Level
-levels fs = reverse (map level fs)
-
--- what the string is
-abbrev pub role_of : Target → Role
-role_of targets.Value = as_value
-role_of (targets.Name f) = as_name (pairs f.members.items)
-
 -- the letters of a literal
 abbrev pub literal_text : Literal → List ℕ
 literal_text literals.Null = literal_null
@@ -179,32 +158,6 @@ literal_tree literals.Null = null
 literal_tree literals.True = boolean true
 literal_tree literals.False = boolean false
 
--- the state of each mode of the reader
-abbrev pub reader_state : Mode → ReaderState
-reader_state modes.Value = value
-reader_state modes.FirstElement = first_element
-reader_state modes.FirstName = first_name
-reader_state (modes.Name f) = name (pairs f.members.items)
-reader_state (modes.Colon n) = colon (pairs n.members.items) n.name
-reader_state (modes.After x) = after (value_of x)
-reader_state (modes.Literal w read) = literal (drop read (literal_text w)) (literal_tree w)
-reader_state (modes.Number text p) = number_in (string_bytes text) p
-reader_state (modes.Str t text) = string_in (role_of t) (string_bytes text)
-reader_state (modes.Character t text s) = character_in (role_of t) (string_bytes text) s
-
--- a letter is still owed; a character can still come of what is read
-abbrev pub IsWithin : Mode → Type 0
-IsWithin modes.Value = Unit {0}
-IsWithin modes.FirstElement = Unit {0}
-IsWithin modes.FirstName = Unit {0}
-IsWithin (modes.Name f) = Unit {0}
-IsWithin (modes.Colon n) = Unit {0}
-IsWithin (modes.After x) = Unit {0}
-IsWithin (modes.Literal w read) = read < length (literal_text w)
-IsWithin (modes.Number text p) = Unit {0}
-IsWithin (modes.Str t text) = Unit {0}
-IsWithin (modes.Character t text s) = IsSound s
-
 -- a character of a string by itself: ASCII, and no control character, quotation mark or backslash
 abbrev pub IsPlain : ℕ → Type 0
 IsPlain c = (32 ≤ c) × (c < 128) × (c ≢ 34) × (c ≢ 92)
@@ -213,11 +166,6 @@ IsPlain c = (32 ≤ c) × (c < 128) × (c ≢ 34) × (c ≢ 92)
 abbrev pub ArePlain : List ℕ → Type 0
 ArePlain [] = Unit {0}
 ArePlain (c ∷ w) = IsPlain c × ArePlain w
-
--- each of these is white space
-abbrev pub AreSpaces : List ℕ → Type 0
-AreSpaces [] = Unit {0}
-AreSpaces (c ∷ w) = (is_space c ≡ true) × AreSpaces w
 
 -- the bytes w lead from one state to another, whatever is open and whatever follows
 pub record LeadsOver (p : ReaderState) (w : List ℕ) (q : ReaderState) : Type 0 where
@@ -233,23 +181,6 @@ TextGrows old w new = (role : Role) → LeadsOver (string_in role old) w (string
 abbrev pub NumberGrows : NumberState → List ℕ → NumberState → Type 0
 NumberGrows p w q = (text : List ℕ) → LeadsOver (number_in text p) w (number_in (text ++ w) q)
 
--- so many of the bytes lead from one mode to another
-pub record TakesStretch (m : Mode) (b : List ℕ) (taken : ℕ) (n : Mode) : Type 0 where
-  pub few : taken ≤ length b
-  pub within : IsWithin m → IsWithin n
-  pub leads : LeadsOver (reader_state m) (take taken b) (reader_state n)
-
--- the byte leads to this state
-pub record StepsOn (p : ReaderState) (st : List Level) (c : ℕ) (t : State) : Type 0 where
-  pub within : IsWithin t.mode
-  pub leads : (R : Rules) → 32 ≤ R.limit → LeadsTo R p st c (reader_state t.mode) (levels t.stack.items)
-  pub scans : scan_step (scan_of p) c ≡ scan_of (reader_state t.mode)
-
 -- the text can't end here
 abbrev pub CannotEnd : ReaderState → List Level → Type 0
 CannotEnd p st = (R : Rules) (v : Tree) → Rest R p st [] v → ⊥
-
--- the text may end here, and is then x
-pub record Ends (p : ReaderState) (st : List Level) (x : Tree) : Type 0 where
-  pub on : (R : Rules) (v : Tree) → Rest R p st [] v → v ≡ x
-  pub back : (R : Rules) → Rest R p st [] x
