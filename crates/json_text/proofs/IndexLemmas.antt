@@ -8,7 +8,7 @@ use Rattle.std.specs.declared.cmp.Ordering.TheVariants.{Less, Equal, Greater}
 use Rattle.std.proofs.lemmas.Bool.{cases_lt}
 use Rattle.std.proofs.lemmas.Cmp.{nat_list_cmp_total}
 use Rattle.std.proofs.lemmas.Map.Text.{is_eq-slice_cmp}
-use Rattle.std.proofs.lemmas.List.{map-append, length-map, take-map, drop-map, take-append-drop, drop_all, drop-append-le, get_or_append_left, get_or_push, take_min}
+use Rattle.std.proofs.lemmas.List.{get_or-map, map-append, length-map, take-map, drop-map, take-append-drop, drop_all, drop-append-le, get_or_append_left, get_or_push, take_min}
 use Rattle.std.proofs.lemmas.List.Edits.{length-insert, get_or-insert_below, get_or-insert_at, get_or-insert_above}
 use Rattle.json_text.specs.MemberNames.{has_name, are_distinct, pair_names}
 use Rattle.json_text.specs.inner.MemberIndex.{ComesBefore, name_at, names_at, AreMemberNumbers, AreInOrder, ComesAt}
@@ -16,11 +16,11 @@ use Rattle.json_text.proofs.NameLemmas.{has_name_append, names_append, distinct_
 
 -- ---- one name and another
 
-before_then : (a b c : List ℕ) → ComesBefore a b → ComesBefore b c → ComesBefore a c
+pub before_then : (a b c : List ℕ) → ComesBefore a b → ComesBefore b c → ComesBefore a c
 before_then a b c h g = nat_list_cmp_total.trans a b c h g
 
 -- a name after another, by what the comparison says
-comes_after : (a b : List ℕ) → Greater ≡ slice_cmp nat_cmp a b → ComesBefore b a
+pub comes_after : (a b : List ℕ) → Greater ≡ slice_cmp nat_cmp a b → ComesBefore b a
 comes_after a b e = nat_list_cmp_total.antisymm b a ∙ ap ordering_reverse (sym e)
 
 before_apart : (a b : List ℕ) → ComesBefore a b → bytes_eq a b ≡ false
@@ -34,7 +34,7 @@ same_name a b e = sym (is_eq-slice_cmp b a) ∙ ap is_eq (nat_list_cmp_total.ant
 
 -- ---- a name among others
 
-or_last : (x : Bool) → (x || true) ≡ true
+pub or_last : (x : Bool) → (x || true) ≡ true
 or_last true = refl
 or_last false = refl
 
@@ -58,7 +58,7 @@ comes_new ns name gap h =
       | inr ge ↦ before_apart name (name_at ns i) (h.above i ge lt)
     ])
 
-joined : (x y z : Bool) → (x || (y || z)) ≡ ((x || y) || z)
+pub joined : (x y z : Bool) → (x || (y || z)) ≡ ((x || y) || z)
 joined true y z = refl
 joined false y z = refl
 
@@ -89,6 +89,10 @@ is_new q ms first numbers few gap e f g none h =
     by_both q ms first numbers few e f g ∙ ap (λ (x : Bool). x || has_name q (names_at (pair_names ms) numbers)) none ∙ comes_new (names_at (pair_names ms) numbers) q gap h
 
 -- ---- a search by halves
+
+-- the name of a number of the index
+pub named_at : (ns : List (List ℕ)) (numbers : List ℕ) (i : ℕ) → i < length (names_at ns numbers) → name_at (names_at ns numbers) i ≡ name_at ns (get_or numbers i 0)
+named_at ns numbers i lt = get_or-map (λ number. name_at ns number) numbers i 0 [] (omega (arith, length-map numbers (λ number. name_at ns number)))
 
 pub all_below : (ns : List (List ℕ)) (name : List ℕ) (middle : ℕ) → AreInOrder ns → middle < length ns → Less ≡ slice_cmp nat_cmp (name_at ns middle) name
     → (i : ℕ) → i < middle + 1 → ComesBefore (name_at ns i) name

@@ -1,5 +1,6 @@
 -- The lemmas of JSON text, read and written.
 mod PrefixLemmas
+pub mod BlockLemmas
 pub mod CanonicalLemmas
 pub mod CharacterLemmas
 pub mod ContentLemmas

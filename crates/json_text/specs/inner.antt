@@ -4,6 +4,7 @@ pub mod CharacterLeft
 pub mod ContentBytes
 pub mod MemberIndex
 pub mod MemberOrder
+pub mod NumberBlocks
 pub mod NumberLeft
 pub mod ReaderProgress
 pub mod ReaderStates

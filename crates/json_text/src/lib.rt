@@ -11,6 +11,8 @@
 //! ```
 #![tactic(auto)]
 
+mod block;
+mod blocks;
 mod character;
 mod content;
 mod fault;

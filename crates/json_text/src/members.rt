@@ -1,10 +1,13 @@
 //! The members of an open object, and an index of their names.
-ghost use Rattle.std.specs.Prelude.{◌≡◌, ◌<◌, ◌≤◌, ℕ, List, [], ◌++◌, ◌∷◌, drop, length, true, false, IfOk, OnOk, MatchOption};
+ghost use Rattle.std.specs.Prelude.{◌≡◌, ◌<◌, ◌≤◌, ℕ, List, [], ◌++◌, ◌∷◌, drop, length, true, false, IfOk, OnOk, MatchOption, vec_len};
 ghost use Rattle.std.specs.Ordering.{nat_cmp};
 ghost use Rattle.std.specs.Cmp.Lexicographic.{slice_cmp};
 ghost use Rattle.json_text.specs.MemberNames.{has_name, are_distinct, pair_names};
+ghost use Rattle.json_text.specs.inner.NumberBlocks.{all_numbers, number_lists};
 ghost use Rattle.json_text.specs.inner.MemberIndex.{name_at, names_at, AreMemberNumbers, AreInOrder, ComesAt};
 
+use crate::block::Block;
+use crate::blocks::{self, Gap};
 use crate::tree::{Chars, Json};
 use std::alloc::{AllocError, Global};
 use std::cmp::Ordering;
@@ -18,15 +21,15 @@ const FEW: usize = 12;
 pub(crate) struct OpenObject {
     pub members: Vec<(Chars, Json)>,
     /// The numbers of the members after the first few, in the order of their names.
-    index: Vec<u32>,
-    ghost within: { AreMemberNumbers index.items (length members.items) },
-    ghost ordered: { AreInOrder (names_at (pair_names members.items) index.items) },
-    ghost known: { (q : List ℕ) → has_name q (names_at (pair_names members.items) index.items) ≡ has_name q (drop 12 (pair_names members.items)) },
+    index: Vec<Block>,
+    ghost within: { AreMemberNumbers (all_numbers (number_lists index.items)) (length members.items) },
+    ghost ordered: { AreInOrder (names_at (pair_names members.items) (all_numbers (number_lists index.items))) },
+    ghost known: { (q : List ℕ) → has_name q (names_at (pair_names members.items) (all_numbers (number_lists index.items))) ≡ has_name q (drop 12 (pair_names members.items)) },
     pub ghost distinct: { are_distinct (pair_names members.items) ≡ true },
 }
 
 impl OpenObject {
-    ghost use Rattle.json_text.specs.inner.MemberOrder.{IsGap};
+    ghost use Rattle.json_text.specs.inner.MemberOrder.{IsBlockFor, IsGap, IsPlace};
 
     /// An object without members, and with room for two.
     pub(crate) fn new(alloc: Global) -> Result<OpenObject, AllocError>
@@ -46,7 +49,7 @@ impl OpenObject {
     }
 
     /// Where a next member of this name comes in the index; `None` where a member has the name.
-    pub(crate) fn gap(&self, name: &[u8]) -> Option<usize>
+    pub(crate) fn gap(&self, name: &[u8]) -> Option<Gap>
         ensures { MatchOption result (has_name name.now (pair_names self.now.members.items) ≡ true) (λ gap. IsGap self.now name.now gap) }
     {
         if is_among(&self.members[..FEW.min(self.members.len())], name) {
@@ -56,15 +59,50 @@ impl OpenObject {
     }
 
     /// Where the name comes in the index; `None` where the index has it.
-    fn gap_in_index(&self, name: &[u8]) -> Option<usize>
-        ensures { MatchOption result (has_name name.now (names_at (pair_names self.now.members.items) self.now.index.items) ≡ true)
-            (ComesAt (names_at (pair_names self.now.members.items) self.now.index.items) name.now) }
+    fn gap_in_index(&self, name: &[u8]) -> Option<Gap>
+        ensures { MatchOption result (has_name name.now (names_at (pair_names self.now.members.items) (all_numbers (number_lists self.now.index.items))) ≡ true)
+            (λ gap. IsPlace (pair_names self.now.members.items) (number_lists self.now.index.items) name.now gap) }
+    {
+        if self.index.is_empty() {
+            return Some(Gap { block: 0, index: 0 });
+        }
+        let block = self.block_for(name);
+        match self.gap_in(self.index[block].as_slice(), name) {
+            None => None,
+            Some(index) => Some(Gap { block, index }),
+        }
+    }
+
+    /// The block that the name comes into.
+    fn block_for(&self, name: &[u8]) -> usize
+        requires { 0 < vec_len self.now.index }
+        ensures { IsBlockFor (pair_names self.now.members.items) (number_lists self.now.index.items) name.now result }
+    {
+        let mut block = 0;
+        let mut end = self.index.len();
+        while end - block > 1 {
+            let middle = block + (end - block) / 2;
+            let first = self.index[middle].as_slice()[0];
+            match self.order_of(first, name) {
+                Ordering::Less | Ordering::Equal => block = middle,
+                Ordering::Greater => end = middle,
+            }
+        }
+        block
+    }
+
+    /// Where the name comes among those of these numbers; `None` where it is one of them.
+    fn gap_in(&self, numbers: &[u32], name: &[u8]) -> Option<usize>
+        requires within { AreMemberNumbers numbers.now (length self.now.members.items) }
+        requires ordered { AreInOrder (names_at (pair_names self.now.members.items) numbers.now) }
+        ensures { MatchOption result (has_name name.now (names_at (pair_names self.now.members.items) numbers.now) ≡ true)
+            (ComesAt (names_at (pair_names self.now.members.items) numbers.now) name.now) }
     {
         let mut low = 0;
-        let mut high = self.index.len();
+        let mut high = numbers.len();
         while low < high {
             let middle = low + (high - low) / 2;
-            match self.order_at(middle, name) {
+            match self.order_of(numbers[middle], name) {
                 Ordering::Less => low = middle + 1,
                 Ordering::Equal => return None,
                 Ordering::Greater => high = middle,
@@ -73,24 +111,30 @@ impl OpenObject {
         Some(low)
     }
 
-    /// How the name of this rank in the index compares with the other.
-    fn order_at(&self, rank: usize, name: &[u8]) -> Ordering
-        requires { rank < length self.now.index.items }
-        ensures { result ≡ slice_cmp nat_cmp (name_at (names_at (pair_names self.now.members.items) self.now.index.items) rank) name.now }
+    /// How the name of the member of this number compares with the other.
+    fn order_of(&self, number: u32, name: &[u8]) -> Ordering
+        requires { number < length self.now.members.items }
+        ensures { result ≡ slice_cmp nat_cmp (name_at (pair_names self.now.members.items) number) name.now }
     {
-        let (own, _) = &self.members[self.index[rank] as usize];
+        let (own, _) = &self.members[number as usize];
         own.as_bytes().cmp(name)
     }
 
     /// One more member, whose name has this gap.
-    pub(crate) fn push(&mut self, gap: usize, name: Chars, value: Json) -> Result<(), AllocError>
+    pub(crate) fn push(
+        &mut self,
+        alloc: Global,
+        gap: Gap,
+        name: Chars,
+        value: Json,
+    ) -> Result<(), AllocError>
         requires { IsGap self.old name gap }
         ensures { OnOk result (self.new.members.items ≡ self.old.members.items ++ (name, value) ∷ []) }
     {
         if self.members.len() < FEW {
             self.push_few(name, value)
         } else {
-            self.push_later(gap, name, value)
+            self.push_later(alloc, gap, name, value)
         }
     }
 
@@ -105,7 +149,13 @@ impl OpenObject {
     }
 
     /// One more member after the first few.
-    fn push_later(&mut self, gap: usize, name: Chars, value: Json) -> Result<(), AllocError>
+    fn push_later(
+        &mut self,
+        alloc: Global,
+        gap: Gap,
+        name: Chars,
+        value: Json,
+    ) -> Result<(), AllocError>
         requires many { 12 ≤ length self.old.members.items }
         requires gap { IsGap self.old name gap }
         ensures { OnOk result (self.new.members.items ≡ self.old.members.items ++ (name, value) ∷ []) }
@@ -116,9 +166,9 @@ impl OpenObject {
         };
         // The room for the member comes first, so that the index never has a number without a member.
         self.members.reserve(1)?;
-        self.index.insert(gap, number)?;
+        blocks::insert(alloc, &mut self.index, gap, number)?;
         self.members.push_reserved((name, value));
-        Ok(())
+        blocks::divide(alloc, &mut self.index, gap.block)
     }
 }
 

@@ -8,6 +8,7 @@ ghost use Rattle.json_text.specs.inner.MemberOrder.{IsGap};
 ghost use Rattle.json_text.specs.inner.ReaderStates.{after, as_name, colon, first_element, first_name, pairs, string_in, value};
 ghost use Rattle.json_text.specs.inner.ReaderProgress.{IsByteAt, MemberRead, NameOpens, ReadsOn, ReadsOnWithin, Refused, RefusedName, RefusedWithin};
 
+use crate::blocks::Gap;
 use crate::fault::{FaultKind, ReadError, fault, not_json};
 use crate::members::OpenObject;
 use crate::tokens::{pass_colon, peek_token, read_scalar, read_string, skip_white};
@@ -203,7 +204,7 @@ fn read_member(
     let (name, gap) = read_name(alloc, bytes, offset, opened)?;
     pass_colon(bytes, offset)?;
     let json = read_value(alloc, bytes, offset, levels_left)?;
-    opened.push(gap, name, json)?;
+    opened.push(alloc, gap, name, json)?;
     Ok(())
 }
 
@@ -213,7 +214,7 @@ fn read_name(
     bytes: &[u8],
     offset: &mut usize,
     opened: &OpenObject,
-) -> Result<(Chars, usize), ReadError>
+) -> Result<(Chars, Gap), ReadError>
     requires { offset.old ≤ length bytes.now }
     ensures read { IfOk result (λ named. ReadsOn bytes.now offset.old (string_in (as_name (pairs opened.now.members.items)) []) offset.new (colon (pairs opened.now.members.items) named.0)) }
     ensures gap { IfOk result (λ named. IsGap opened.now named.0 named.1) }
