@@ -3,11 +3,8 @@ use Rattle.std.proofs.Common.{◌≡◌, ℕ, zero, suc, ◌+◌, ◌<◌, ◌�
 use Rattle.std.proofs.lemmas.List.{take_all, take_more, take-append-drop}
 use Rattle.std.proofs.lemmas.Bool.Decides.{nat_tests}
 use Rattle.std.proofs.lemmas.Str.{IsUtf8-from_ascii}
-use Rattle.std.specs.Borrow.{Bor}
 use Rattle.std.specs.List.{list_all}
-use Rattle.std.specs.Option.{option_copied}
-use Rattle.std.specs.Prelude.{Bool, ◌&&◌, if◌then◌else◌, Option, Some, None, Result, Ok, Err, IsErrAnd, MatchResult}
-use Rattle.std.specs.Result.{result_ok}
+use Rattle.std.specs.Prelude.{Bool, ◌&&◌, if◌then◌else◌, Option, Some, None, Result, Ok, Err, IsErrAnd}
 use Rattle.std.specs.Str.{IsUtf8}
 use Rattle.sale_frame.specs.Decode.{is_frame}
 use Rattle.gw_bytes.specs.Bytes.{IsPrefix}
@@ -109,9 +106,8 @@ found_frame true bytes message e = (refl, cc)
 found_frame false bytes message e = cc
 
 -- printable bytes are text
-pub text_of : {E : Type 0} (message : List ℕ) (r : Result (Bor (List ℕ)) E) (Cause : E → Type 0) → list_all is_space_or_visible message ≡ true → MatchResult r (λ text. (text.now ≡ message) × IsUtf8 message) (λ e. (¬ (IsUtf8 message)) × Cause e) → option_copied (result_ok r) ≡ Some message
-text_of message (Ok text) Cause printable h = ap Some h.0
-text_of message (Err e) Cause printable h = absurd (h.0 (IsUtf8-from_ascii message (printable_ascii message printable)))
+pub printable_utf8 : (bytes : List ℕ) → list_all is_space_or_visible bytes ≡ true → IsUtf8 bytes
+printable_utf8 bytes e = IsUtf8-from_ascii bytes (printable_ascii bytes e)
 
 -- a printable frame, from its parts
 pub printable_from : (bytes message : List ℕ) → Some message ≡ (if is_frame bytes then Some (drop 4 bytes) else None) → list_all is_space_or_visible message ≡ true → Some message ≡ (if is_printable_frame bytes then Some (drop 4 bytes) else None)

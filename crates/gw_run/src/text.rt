@@ -1,5 +1,5 @@
 //! The text of a log.
-ghost use Rattle.std.specs.Prelude.{◌≡◌, ◌≤◌, ◌++◌, ◌∷◌, [], drop, string_bytes, codes, if◌then◌else◌, IsErrOf, OnOk, Some, None};
+ghost use Rattle.std.specs.Prelude.{◌≡◌, ◌≤◌, ◌++◌, ◌∷◌, [], drop, string_bytes, codes, if◌then◌else◌, IsErrOf, OnOk, Some, None, true};
 ghost use Rattle.std.specs.Option.{option_copied};
 ghost use Rattle.std.specs.List.{list_all};
 ghost use Rattle.hex.specs.Hex.{encode_lower};
@@ -69,10 +69,19 @@ fn printable_message(bytes: &[u8]) -> Option<&str>
 {
     let message = framed_payload(bytes)?;
     if are_printable(message) {
-        str::from_utf8(message).ok()
+        Some(printable_str(message))
     } else {
         None
     }
+}
+
+/// Printable bytes as text.
+fn printable_str(bytes: &[u8]) -> &str
+    requires { list_all is_space_or_visible bytes.now ≡ true }
+    ensures { result.now ≡ bytes.now }
+{
+    // They are ASCII, so they are text, and nothing has to be tested.
+    unsafe { str::from_utf8_unchecked(bytes) }
 }
 
 /// Appends bytes in lower-case hexadecimal.
