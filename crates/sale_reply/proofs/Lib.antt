@@ -4,6 +4,7 @@ pub mod CanonicalLemmas
 pub mod LimitLemmas
 pub mod OutputLemmas
 pub mod PartLemmas
+pub mod PlainLemmas
 pub mod ReplySizeLemmas
 pub mod RequestSizeLemmas
 pub mod SizeLemmas

@@ -1,6 +1,5 @@
 //! The buffer of a message to a till.
 ghost use Rattle.std.specs.Prelude.{◌≡◌, ◌<◌, ◌≤◌, [], ◌∷◌, ◌++◌, length, drop, IfOk, flat_map, encode_utf8};
-ghost use Rattle.std.specs.Bool.{OnFalse, OnTrue};
 ghost use Rattle.sale_reply.specs.Texts.{line_text};
 ghost use Rattle.json_text.specs.Canonical.{canonical_string, canonical_byte};
 ghost use Rattle.sale_frame.specs.Grammar.{frame};
@@ -8,6 +7,7 @@ ghost use Rattle.sale_values.specs.PartBytes.{part_text, parts_text};
 ghost use Rattle.sale_reply.specs.inner.CanonicalMembers.{first_name, next_name, first_text, next_text, next_optional, next_number};
 ghost use Rattle.sale_reply.specs.inner.Appends.{Appends};
 
+use crate::plain::plain_len;
 use gw_base::{Ident, char_of_437};
 use gw_bytes::{FRAME_LENGTH_SIZE, LONGEST_PAYLOAD};
 use json_text::escaped;
@@ -95,30 +95,19 @@ impl Out {
         self.raw(escaped(byte).as_slice());
     }
 
-    /// Appends the bytes of a string: at once where none of them has to be escaped, as in most.
+    /// Appends the bytes of a string. Those up to the next that has to be escaped are copied at once.
     fn escape(&mut self, text: &[u8])
         ensures { Appends self.old self.new (flat_map canonical_byte text.now) }
     {
-        if is_plain(text) {
-            self.raw(text);
-        } else {
-            self.escape_stretches(text);
-        }
-    }
-
-    /// Appends the bytes of a string. Those between two that have to be escaped are copied at once.
-    fn escape_stretches(&mut self, text: &[u8])
-        ensures { Appends self.old self.new (flat_map canonical_byte text.now) }
-    {
         let mut start = 0;
-        for (index, byte) in text.iter().enumerate() {
-            if is_escaped(*byte) {
-                self.raw(&text[start..index]);
-                self.byte(*byte);
-                start = index + 1;
+        while start < text.len() {
+            let end = start + plain_len(&text[start..]);
+            self.raw(&text[start..end]);
+            if end < text.len() {
+                self.byte(text[end]);
             }
+            start = end + 1;
         }
-        self.raw(&text[start..]);
     }
 
     /// Appends the bytes of a string between these bytes.
@@ -224,26 +213,4 @@ impl Out {
         self.next_name(name);
         self.raw(digits);
     }
-}
-
-/// Whether a byte of a string has to be escaped (RFC 8259, section 7).
-fn is_escaped(byte: u8) -> bool
-    ensures { OnFalse result (canonical_byte byte ≡ byte ∷ []) }
-{
-    byte == b'"' || byte == b'\\' || byte < 32
-}
-
-/// Whether no byte of a string has to be escaped.
-///
-/// Each byte is looked at, also after one that has to be: without an early end many are looked at in one step.
-fn is_plain(text: &[u8]) -> bool
-    ensures { OnTrue result (flat_map canonical_byte text.now ≡ text.now) }
-{
-    let mut plain = true;
-    for byte in text {
-        if is_escaped(*byte) {
-            plain = false;
-        }
-    }
-    plain
 }

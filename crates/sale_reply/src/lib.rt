@@ -15,6 +15,7 @@ mod buffer;
 mod device;
 mod limits;
 mod outputs;
+mod plain;
 mod reply;
 #[cfg(test)]
 mod tests;

@@ -1,7 +1,17 @@
 -- Proof of the contract of `Out::escape`.
-use Rattle.std.proofs.Common.{sym}
-use Rattle.sale_reply.proofs.PartLemmas.{spelled}
+use Rattle.std.proofs.Common.{◌+◌, arith}
+use Rattle.std.proofs.lemmas.List.{take_rest}
+use Rattle.sale_reply.proofs.StretchLemmas.{stretch_appends, byte_appends, past_appends}
+use Rattle.sale_reply.proofs.buffer.Out.escape.Goals.{then-end-text, else-end-text}
 use Rattle.sale_reply.proofs.buffer.Out.escape.Goals as goal
 
-pub returns-then-is_plain : goal.returns-then-is_plain
-returns-then-is_plain c = spelled c.raw.ensures (sym c.if-is_plain.ensures)
+pub loop-start-preserved : goal.loop-start-preserved
+loop-start-preserved c =
+    let text = c.args.text.now in
+    let end = c.loop-start.start + c.plain_len.result in
+    let plain = rw (take_rest text c.loop-start.start) at c.plain_len.ensures.plain in
+    let stretch = stretch_appends text c.loop-start.start c.plain_len.result plain c.loop-start.invariant c.raw.ensures in
+    elim c.if-end-text.branch [
+      | then-end-text w ↦ rw w.self-is (byte_appends text end w.if-end-text.true stretch w.byte.ensures)
+      | else-end-text w ↦ rw w.self-is (past_appends text end (omega (arith, w.if-end-text.false)) stretch)
+    ]
