@@ -13,8 +13,8 @@ use Rattle.std.proofs.lemmas.List.Edits.{get_or-insert_below, insert-append_left
 use Rattle.std.proofs.lemmas.List.Folds.{length-flat_map-take}
 use Rattle.json_text.specs.MemberNames.{has_name}
 use Rattle.json_text.specs.inner.MemberIndex.{AreInOrder, AreMemberNumbers, ComesAt, ComesBefore, name_at, names_at}
-use Rattle.json_text.specs.inner.MemberOrder.{IsBlockFor, first_name}
-use Rattle.json_text.specs.inner.NumberBlocks.{all_numbers, number_lists, start_of}
+use Rattle.json_text.specs.inner.MemberOrder.{IsNameBlock, first_block_name, with_number}
+use Rattle.json_text.specs.inner.NumberBlocks.{all_numbers, number_lists, numbers_before}
 use Rattle.json_text.specs.declared.block.Block.{Block}
 use Rattle.json_text.proofs.IndexLemmas.{before_then, joined, or_last}
 
@@ -100,15 +100,15 @@ module _ (ls : List (List (List ℕ))) (some : All (λ l. 0 < length l) ls) (ord
             let later : 0 < k = elim (cases_lt 0 k) [ inl more ↦ more | inr none ↦ (let zero_k : k ≡ 0 = omega arith in let none_before : start ls k ≡ 0 = ap (start ls) zero_k in absurd (omega (arith, none_before, less))) ] in
             before_then (name_at all i) (name_at all (start ls k)) name (order i (start ls k) less (start_inside k inside)) (rw (first_in k inside) (first_before gap comes later))
         | inr ge ↦
-            let place : i ≡ start ls k + (i - start ls k) = omega arith in
+            let split : i ≡ start ls k + (i - start ls k) = omega arith in
             let below = comes.below (i - start ls k) (omega arith) in
-            rw place (rw (name_in k (i - start ls k) inside (omega (arith, comes.within))) below)
+            rw split (rw (name_in k (i - start ls k) inside (omega (arith, comes.within))) below)
       ];
       above = λ i ge lt. elim (cases_lt i (start ls k + length (get_or ls k []))) [
         | inl less ↦
-            let place : i ≡ start ls k + (i - start ls k) = omega arith in
+            let split : i ≡ start ls k + (i - start ls k) = omega arith in
             let above = comes.above (i - start ls k) (omega arith) (omega arith) in
-            rw place (rw (name_in k (i - start ls k) inside (omega arith)) above)
+            rw split (rw (name_in k (i - start ls k) inside (omega arith)) above)
         | inr past ↦
             let next : start ls (k + 1) ≡ start ls k + length (get_or ls k []) = start_next ls k inside in
             elim (cases_lt (k + 1) (length ls)) [
@@ -133,7 +133,7 @@ all_names ns [] = refl
 all_names ns (l ∷ lists) =
     ap (λ (rest : List (List ℕ)). names_at ns l ++ rest) (all_names ns lists) ∙ sym (map-append (λ number. name_at ns number) l (all_numbers lists))
 
-same_start : (ns : List (List ℕ)) (lists : List (List ℕ)) (k : ℕ) → start (map (names_at ns) lists) k ≡ start_of lists k
+same_start : (ns : List (List ℕ)) (lists : List (List ℕ)) (k : ℕ) → start (map (names_at ns) lists) k ≡ numbers_before lists k
 same_start ns lists k =
     ap (λ (l : List (List (List ℕ))). length (flat_map (λ (x : List (List ℕ)). x) l)) (take-map (names_at ns) k lists)
     ∙ ap length (all_names ns (take k lists)) ∙ length-map (all_numbers (take k lists)) (λ number. name_at ns number)
@@ -144,7 +144,7 @@ length-names_at ns numbers = length-map numbers (λ number. name_at ns number)
 same_block : (ns : List (List ℕ)) (lists : List (List ℕ)) (k : ℕ) → k < length lists → get_or (map (names_at ns) lists) k [] ≡ names_at ns (get_or lists k [])
 same_block ns lists k inside = get_or-map (names_at ns) lists k [] [] inside
 
-same_first : (ns : List (List ℕ)) (lists : List (List ℕ)) (k : ℕ) → All (λ l. 0 < length l) lists → k < length lists → name_at (get_or (map (names_at ns) lists) k []) 0 ≡ first_name ns lists k
+same_first : (ns : List (List ℕ)) (lists : List (List ℕ)) (k : ℕ) → All (λ l. 0 < length l) lists → k < length lists → name_at (get_or (map (names_at ns) lists) k []) 0 ≡ first_block_name ns lists k
 same_first ns lists k some inside =
     ap (λ (l : List (List ℕ)). name_at l 0) (same_block ns lists k inside) ∙ get_or-map (λ number. name_at ns number) (get_or lists k []) 0 0 [] (some k [] inside)
 
@@ -170,9 +170,9 @@ module _ (ns : List (List ℕ)) (lists : List (List ℕ)) (some : All (λ l. 0 <
   numbers_in_order k inside = rw (sym (same_block ns lists k inside))
       (block_in_order (map (names_at ns) lists) (named_some ns lists some) named_order k (omega (arith, length-map lists (names_at ns))))
 
-  -- a place in the block that a name comes into is its place among all
-  pub place_in_all : (name : List ℕ) (k gap : ℕ) → IsBlockFor ns lists name k → ComesAt (names_at ns (get_or lists k [])) name gap → ComesAt (names_at ns (all_numbers lists)) name (start_of lists k + gap)
-  place_in_all name k gap for comes =
+  -- where a name comes in its block is where it comes among all
+  pub gap_among_all : (name : List ℕ) (k gap : ℕ) → IsNameBlock ns lists name k → ComesAt (names_at ns (get_or lists k [])) name gap → ComesAt (names_at ns (all_numbers lists)) name (numbers_before lists k + gap)
+  gap_among_all name k gap for comes =
       let count = length-map lists (names_at ns) in
       rw (sym (all_names ns lists), sym (same_start ns lists k))
       (gap_in_all (map (names_at ns) lists) (named_some ns lists some) named_order name k (omega (arith, count, for.inside))
@@ -188,26 +188,26 @@ found_in_all ns lists name k inside has =
 -- the numbers of a block are members' numbers
 pub block_within : (lists : List (List ℕ)) (count k : ℕ) → AreMemberNumbers (all_numbers lists) count → k < length lists → AreMemberNumbers (get_or lists k []) count
 block_within lists count k within inside i lt =
-    let own : get_or (all_numbers lists) (start_of lists k + i) 0 ≡ get_or (get_or lists k []) i 0 = element_at lists k i 0 inside lt in
-    let small = within (start_of lists k + i) (omega (arith, within_all lists k inside, lt)) in
+    let own : get_or (all_numbers lists) (numbers_before lists k + i) 0 ≡ get_or (get_or lists k []) i 0 = element_at lists k i 0 inside lt in
+    let small = within (numbers_before lists k + i) (omega (arith, within_all lists k inside, lt)) in
     omega (arith, own, small)
 
 -- ---- one more number
 
 pub inserted_in : (lists : List (List ℕ)) (k index number : ℕ) → k < length lists → index ≤ length (get_or lists k [])
-    → all_numbers (set lists k (insert (get_or lists k []) index number)) ≡ insert (all_numbers lists) (start_of lists k + index) number
+    → all_numbers (set lists k (insert (get_or lists k []) index number)) ≡ insert (all_numbers lists) (numbers_before lists k + index) number
 inserted_in [] k index number inside within = absurd (omega arith)
 inserted_in (l ∷ lists) zero index number inside within =
     let same : index ≡ 0 + index = omega arith in
     sym (subst (λ (n : ℕ). insert (l ++ all_numbers lists) n number ≡ insert l index number ++ all_numbers lists) same (insert-append_left l (all_numbers lists) index number within))
 inserted_in (l ∷ lists) (suc k) index number inside within =
-    let len : start_of (l ∷ lists) (suc k) ≡ length l + start_of lists k = length-append l (all_numbers (take k lists)) in
-    let place : start_of lists k + index ≡ start_of (l ∷ lists) (suc k) + index - length l = omega (arith, len) in
+    let len : numbers_before (l ∷ lists) (suc k) ≡ length l + numbers_before lists k = length-append l (all_numbers (take k lists)) in
+    let index_is : numbers_before lists k + index ≡ numbers_before (l ∷ lists) (suc k) + index - length l = omega (arith, len) in
     ap (λ (rest : List ℕ). l ++ rest) (inserted_in lists k index number (omega arith) within)
-    ∙ ap (λ (n : ℕ). l ++ insert (all_numbers lists) n number) place
-    ∙ sym (insert-append_right l (all_numbers lists) (length l) (start_of (l ∷ lists) (suc k) + index) number refl (omega (arith, len)))
+    ∙ ap (λ (n : ℕ). l ++ insert (all_numbers lists) n number) index_is
+    ∙ sym (insert-append_right l (all_numbers lists) (length l) (numbers_before (l ∷ lists) (suc k) + index) number refl (omega (arith, len)))
 
--- two halves in place of a block
+-- two halves and not the block
 pub divided : (lists : List (List ℕ)) (k half : ℕ) → k < length lists
     → all_numbers (set (insert lists (suc k) (drop half (get_or lists k []))) k (take half (get_or lists k []))) ≡ all_numbers lists
 divided [] k half inside = absurd (omega arith)
@@ -232,7 +232,7 @@ lists_insert blocks k b =
 -- one more number in a block, or none
 pub edited : (blocks : List Block) (k index number : ℕ) (b new : Block) (ok : Bool) → k < length blocks → b ≡ get_or blocks k b → index ≤ length (get_or (number_lists blocks) k [])
     → new.numbers.items ≡ (if ok then insert b.numbers.items index number else b.numbers.items)
-    → all_numbers (number_lists (set blocks k new)) ≡ (if ok then insert (all_numbers (number_lists blocks)) (start_of (number_lists blocks) k + index) number else all_numbers (number_lists blocks))
+    → all_numbers (number_lists (set blocks k new)) ≡ with_number (number_lists blocks) (record { block = k; before = index }) number ok
 edited blocks k index number b new true inside is within e =
     let count = length-map blocks (λ (x : Block). x.numbers.items) in
     ap all_numbers (lists_set blocks k new)
@@ -243,7 +243,7 @@ edited blocks k index number b new false inside is within e =
     ∙ ap (λ (l : List ℕ). all_numbers (set (number_lists blocks) k l)) (e ∙ read_numbers blocks k b inside is)
     ∙ ap all_numbers (set-get_or (number_lists blocks) k [])
 
--- the two halves of a block in its place
+-- a block becomes its two halves
 pub halved : (blocks more : List Block) (k : ℕ) (b second whole first : Block) → k < length blocks → b ≡ get_or blocks k b → second.numbers.items ≡ drop 256 b.numbers.items
     → more ≡ insert blocks (k + 1) second → whole ≡ get_or more k whole → first.numbers.items ≡ take 256 whole.numbers.items → all_numbers (number_lists (set more k first)) ≡ all_numbers (number_lists blocks)
 halved blocks more k b second whole first inside is rest grown read left =

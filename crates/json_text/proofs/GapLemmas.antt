@@ -4,8 +4,8 @@ use Rattle.std.specs.Prelude.{MatchOption}
 use Rattle.json_text.specs.Grammar.{AreDistinct}
 use Rattle.json_text.specs.MemberNames.{has_name, pair_names}
 use Rattle.json_text.specs.inner.MemberIndex.{names_at}
-use Rattle.json_text.specs.inner.NumberBlocks.{all_numbers, number_lists, start_of}
-use Rattle.json_text.specs.inner.MemberOrder.{IsGap, IsPlace}
+use Rattle.json_text.specs.inner.NumberBlocks.{all_numbers, number_lists, numbers_before}
+use Rattle.json_text.specs.inner.MemberOrder.{IsGap, IsNameGap}
 use Rattle.json_text.specs.inner.ReaderStates.{pairs}
 use Rattle.json_text.specs.declared.blocks.Gap.{Gap}
 use Rattle.json_text.specs.declared.members.OpenObject.{OpenObject}
@@ -32,8 +32,8 @@ gap_distinct o k gap h =
 
 -- what the index says of a name that the first few members don't have
 pub gap_found : (o : OpenObject) (name : List ℕ) (first : List (List ℕ × Json)) (few : Bool) (result : Option Gap) → first ≡ take 12 o.members.items → few ≡ has_name name (pair_names first) → few ≡ false
-    → MatchOption result (has_name name (names_at (pair_names o.members.items) (index_of o)) ≡ true) (λ gap. IsPlace (pair_names o.members.items) (number_lists o.index.items) name gap)
+    → MatchOption result (has_name name (names_at (pair_names o.members.items) (index_of o)) ≡ true) (λ gap. IsNameGap (pair_names o.members.items) (number_lists o.index.items) name gap)
     → MatchOption result (has_name name (pair_names o.members.items) ≡ true) (λ gap. IsGap o name gap)
 gap_found o name first few None e f none h = has_later name o.members.items first (index_of o) few e f (o.known name) h
 gap_found o name first few (Some gap) e f none h =
-    record { new = is_new name o.members.items first (index_of o) few (start_of (number_lists o.index.items) gap.block + gap.index) e f (o.known name) none h.comes; place = h }
+    record { new = is_new name o.members.items first (index_of o) few (numbers_before (number_lists o.index.items) gap.block + gap.before) e f (o.known name) none h.comes; in_blocks = h }

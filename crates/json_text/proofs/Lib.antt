@@ -4,11 +4,13 @@ pub mod BlockLemmas
 pub mod CanonicalLemmas
 pub mod CharacterLemmas
 pub mod ContentLemmas
+pub mod DigitLemmas
 pub mod FollowLemmas
 pub mod GapLemmas
 pub mod GrowthLemmas
 pub mod IndexLemmas
 pub mod ListLemmas
+pub mod LaneLemmas
 pub mod LiveLemmas
 pub mod NameLemmas
 pub mod NestingLemmas

@@ -1,7 +1,7 @@
 -- What each byte of a number leaves.
 use Rattle.std.proofs.Common.{◌≡◌, ◌≢◌, ℕ, ◌≤◌, List, [], ◌∷◌, ◌++◌, refl, sym, ap, subst, ◌∙◌, arith, inl, inr, ◌⊎◌}
 use Rattle.json_text.specs.Number.{IsDigit, AreDigits, IsDigits, IsInt, IsFrac, IsSigned, IsExp, IsFraction, IsMagnitude, IsNumberText}
-use Rattle.json_text.specs.inner.NumberLeft.{DigitsThen, LeftOfNumber, IsNumberByte, LeavesNumber, EndsNumber}
+use Rattle.json_text.specs.inner.NumberLeft.{DigitsThen, LeftOfNumber, IsNumberByte, LeavesNumber, EndsNumber, TakesDigits}
 use Rattle.json_text.specs.declared.number.NumberState.{NumberState}
 use Rattle.json_text.specs.declared.number.NumberState.TheVariants as number_states
 use Rattle.json_text.proofs.ListLemmas.{head_is, tail_is, not_nil}
@@ -312,3 +312,9 @@ number_state_live number_states.Fraction = ([], fraction_whole)
 number_state_live number_states.Letter = (48 ∷ [], inl ((omega arith, omega arith), tt))
 number_state_live number_states.Sign = (48 ∷ [], ((omega arith, omega arith), tt))
 number_state_live number_states.Exponent = ([], tt)
+
+-- the states in which any number of digits may come
+pub digits_stay : (q : NumberState) → (q ≡ number_states.Digits) ⊎ ((q ≡ number_states.Fraction) ⊎ (q ≡ number_states.Exponent)) → TakesDigits q
+digits_stay q (inl e) = subst (λ (p : NumberState). TakesDigits p) (sym e) digits_digit
+digits_stay q (inr (inl e)) = subst (λ (p : NumberState). TakesDigits p) (sym e) fraction_digit
+digits_stay q (inr (inr e)) = subst (λ (p : NumberState). TakesDigits p) (sym e) exponent_digit

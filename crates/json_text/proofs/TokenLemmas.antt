@@ -4,15 +4,16 @@ use Rattle.std.specs.Char.{encode_utf8}
 use Rattle.std.proofs.lemmas.List.{append-nil, take_more, take_rest, get_or-drop, drop_more, drop_all}
 use Rattle.std.proofs.lemmas.Bool.{cases_lt}
 use Rattle.std.proofs.lemmas.Str.{encode_ascii}
+use Rattle.std.proofs.Math.Seq.{take-add}
 use Rattle.json_text.specs.Tree.{Tree, null, boolean, number, string}
 use Rattle.json_text.specs.ValueOf.{value_of}
 use Rattle.json_text.specs.MemberNames.{pair_names}
 use Rattle.json_text.specs.Grammar.{Rules, AreDistinct, is_space}
-use Rattle.json_text.specs.Number.{IsNumberText}
+use Rattle.json_text.specs.Number.{AreDigits, IsNumberText}
 use Rattle.json_text.specs.Scan.{Scan, outside, inside, scan_from, scan_step}
 use Rattle.json_text.specs.Fault.{IsJsonFault}
 use Rattle.json_text.specs.inner.CharacterLeft.{LeftOfCharacter, IsSound, LeavesNext, LeavesNone, Starts, scan_within}
-use Rattle.json_text.specs.inner.NumberLeft.{LeftOfNumber, LeavesNumber, EndsNumber}
+use Rattle.json_text.specs.inner.NumberLeft.{LeftOfNumber, LeavesNumber, EndsNumber, TakesDigits}
 use Rattle.json_text.specs.inner.ReaderStates.{Level, Role, as_value, Closed, ReaderState, value, first_element, first_name, name, colon, after, literal, number_in, string_in, character_in, Rest, LeadsTo, IsDead, LeadsOver, TextGrows, NumberGrows, scan_of, CannotEnd, IsPlain, ArePlain, literal_text, literal_tree}
 use Rattle.json_text.specs.inner.ByteFaults.{FailsAt, IsKindAt}
 use Rattle.json_text.specs.inner.ReaderProgress.{IsRoleSound, ReadTo, IsBetween, Skips, StringRead}
@@ -23,6 +24,7 @@ use Rattle.json_text.specs.declared.literal.Literal.TheVariants as literals
 use Rattle.json_text.specs.declared.fault.FaultKind.{FaultKind}
 use Rattle.json_text.specs.declared.fault.FaultKind.TheVariants as kinds
 use Rattle.json_text.specs.declared.tree.Json.TheVariants as jsons
+use Rattle.json_text.proofs.PlainLemmas.{plain_append}
 use Rattle.json_text.proofs.TreeLemmas.{value_of-Number}
 use Rattle.json_text.proofs.ListLemmas.{head_is, tail_is, not_nil}
 use Rattle.json_text.proofs.ScanLemmas.{stays_outside, space_is}
@@ -197,15 +199,30 @@ number_more p q r w c h m text =
 pub number_next : (p q r : NumberState) (b : List ℕ) (i c : ℕ) → i < length b → c ≡ get_or b i 0 → NumberGrows p (take i b) q → LeavesNumber (LeftOfNumber q) c r → NumberGrows p (take (i + 1) b) r
 number_next p q r b i c lt e h m = subst (λ (w : List ℕ). NumberGrows p w r) (sym (take_more b i 0 lt)) (subst (λ (k : ℕ). NumberGrows p (take i b ++ k ∷ []) r) e (number_more p q r (take i b) c h m))
 
-pub number_all : (p q : NumberState) (b : List ℕ) (i n : ℕ) → i ≡ n → NumberGrows p (take i b) q → NumberGrows p (take n b) q
-number_all p q b i n e h = subst (λ (k : ℕ). NumberGrows p (take k b) q) e h
+number_digits : (p q : NumberState) (w x : List ℕ) → TakesDigits q → AreDigits x → NumberGrows p w q → NumberGrows p (w ++ x) q
+number_digits p q w [] t d h = subst (λ (u : List ℕ). NumberGrows p u q) (sym (append-nil w)) h
+number_digits p q w (c ∷ x) t d h =
+    subst (λ (u : List ℕ). NumberGrows p u q) (append_assoc w (c ∷ []) x) (number_digits p q (w ++ c ∷ []) x t d.1 (number_more p q q w c h (t c d.0)))
+
+-- digits after those that have been read
+pub digits_grow : (p q : NumberState) (b : List ℕ) (len n : ℕ) → TakesDigits q → NumberGrows p (take len b) q → AreDigits (take n (take (length b - len) (drop len b))) → NumberGrows p (take (len + n) b) q
+digits_grow p q b len n t h d =
+    subst (λ (w : List ℕ). NumberGrows p w q) (sym (take-add len n b))
+    (number_digits p q (take len b) (take n (drop len b)) t (subst (λ (w : List ℕ). AreDigits (take n w)) (take_rest b len) d) h)
+
+digits_plain : (w : List ℕ) → AreDigits w → ArePlain w
+digits_plain [] d = tt
+digits_plain (c ∷ w) d =
+    (let low : 48 ≤ c = d.0.0 in let high : c ≤ 57 = d.0.1 in ((omega arith, omega arith, omega arith, omega arith), digits_plain w d.1))
+
+pub digits_stay_plain : (b : List ℕ) (len n : ℕ) → ArePlain (take len b) → AreDigits (take n (take (length b - len) (drop len b))) → ArePlain (take (len + n) b)
+digits_stay_plain b len n h d =
+    subst (λ (w : List ℕ). ArePlain w) (sym (take-add len n b))
+    (plain_append (take len b) (take n (drop len b)) h (digits_plain (take n (drop len b)) (subst (λ (w : List ℕ). AreDigits (take n w)) (take_rest b len) d)))
 
 -- a byte of a number is a character of a string by itself too
 pub number_byte_plain : (L : List ℕ → Type 0) (c : ℕ) (q : NumberState) → LeavesNumber L c q → IsPlain c
 number_byte_plain L c q m = (m.byte.printed, m.byte.ascii, m.byte.no_mark.3, m.byte.no_backslash)
-
-pub all_plain : (b : List ℕ) (i n : ℕ) → i ≡ n → ArePlain (take i b) → ArePlain (take n b)
-all_plain b i n e h = subst (λ (k : ℕ). ArePlain (take k b)) e h
 
 -- the number's bytes, of which the first is at the offset
 pub number_text : (b : List ℕ) (offset len : ℕ) → offset < length b → take (len + 1) (drop offset b) ≡ get_or b offset 0 ∷ take len (drop (offset + 1) b)

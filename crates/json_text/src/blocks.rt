@@ -1,19 +1,19 @@
 //! A list of numbers in blocks: one more number moves those of one block, and not all that come after it.
-ghost use Rattle.std.specs.Prelude.{◌≡◌, ◌<◌, ◌≤◌, ◌+◌, [], length, is_ok, if◌then◌else◌, OnOk, slice_index_or, vec_len};
-ghost use Rattle.std.specs.List.{insert};
-ghost use Rattle.json_text.specs.inner.NumberBlocks.{all_numbers, number_lists, start_of};
+ghost use Rattle.std.specs.Prelude.{◌≡◌, ◌<◌, ◌≤◌, [], length, is_ok, OnOk, slice_index_or, vec_len};
+ghost use Rattle.json_text.specs.inner.NumberBlocks.{all_numbers, number_lists};
+ghost use Rattle.json_text.specs.inner.MemberOrder.{with_number};
 
 use crate::block::Block;
 use std::alloc::{AllocError, Global};
 
-/// A place between numbers: a block, and how many of its numbers come before. After the last block there is one, too.
+/// A gap between numbers: a block, and how many of its numbers come before. There is one after the last block, too.
 #[derive(Clone, Copy, Debug)]
 pub(crate) struct Gap {
     pub block: usize,
-    pub index: usize,
+    pub before: usize,
 }
 
-/// Inserts a number at a place.
+/// Inserts a number at a gap.
 pub(crate) fn insert(
     alloc: Global,
     blocks: &mut Vec<Block>,
@@ -21,8 +21,8 @@ pub(crate) fn insert(
     number: u32,
 ) -> Result<(), AllocError>
     requires block { gap.block ≤ vec_len blocks.old }
-    requires index { gap.index ≤ length (slice_index_or (number_lists blocks.old.items) gap.block []) }
-    ensures numbers { all_numbers (number_lists blocks.new.items) ≡ (if is_ok result then insert (all_numbers (number_lists blocks.old.items)) (start_of (number_lists blocks.old.items) gap.block + gap.index) number else all_numbers (number_lists blocks.old.items)) }
+    requires before { gap.before ≤ length (slice_index_or (number_lists blocks.old.items) gap.block []) }
+    ensures numbers { all_numbers (number_lists blocks.new.items) ≡ with_number (number_lists blocks.old.items) gap number (is_ok result) }
     ensures block { OnOk result (gap.block < vec_len blocks.new) }
 {
     if gap.block < blocks.len() {
@@ -36,11 +36,11 @@ pub(crate) fn insert(
 /// Inserts a number in a block.
 fn insert_in(blocks: &mut Vec<Block>, gap: Gap, number: u32) -> Result<(), AllocError>
     requires block { gap.block < vec_len blocks.old }
-    requires index { gap.index ≤ length (slice_index_or (number_lists blocks.old.items) gap.block []) }
-    ensures numbers { all_numbers (number_lists blocks.new.items) ≡ (if is_ok result then insert (all_numbers (number_lists blocks.old.items)) (start_of (number_lists blocks.old.items) gap.block + gap.index) number else all_numbers (number_lists blocks.old.items)) }
+    requires before { gap.before ≤ length (slice_index_or (number_lists blocks.old.items) gap.block []) }
+    ensures numbers { all_numbers (number_lists blocks.new.items) ≡ with_number (number_lists blocks.old.items) gap number (is_ok result) }
     ensures len { vec_len blocks.new ≡ vec_len blocks.old }
 {
-    blocks[gap.block].insert(gap.index, number)
+    blocks[gap.block].insert(gap.before, number)
 }
 
 /// Makes two blocks of this one if it is full.

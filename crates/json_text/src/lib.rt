@@ -15,6 +15,7 @@ mod block;
 mod blocks;
 mod character;
 mod content;
+mod digits;
 mod fault;
 mod laws;
 mod literal;

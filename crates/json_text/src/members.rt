@@ -29,7 +29,7 @@ pub(crate) struct OpenObject {
 }
 
 impl OpenObject {
-    ghost use Rattle.json_text.specs.inner.MemberOrder.{IsBlockFor, IsGap, IsPlace};
+    ghost use Rattle.json_text.specs.inner.MemberOrder.{IsNameBlock, IsGap, IsNameGap};
 
     /// An object without members, and with room for two.
     pub(crate) fn new(alloc: Global) -> Result<OpenObject, AllocError>
@@ -61,22 +61,25 @@ impl OpenObject {
     /// Where the name comes in the index; `None` where the index has it.
     fn gap_in_index(&self, name: &[u8]) -> Option<Gap>
         ensures { MatchOption result (has_name name.now (names_at (pair_names self.now.members.items) (all_numbers (number_lists self.now.index.items))) ≡ true)
-            (λ gap. IsPlace (pair_names self.now.members.items) (number_lists self.now.index.items) name.now gap) }
+            (λ gap. IsNameGap (pair_names self.now.members.items) (number_lists self.now.index.items) name.now gap) }
     {
         if self.index.is_empty() {
-            return Some(Gap { block: 0, index: 0 });
+            return Some(Gap {
+                block: 0,
+                before: 0,
+            });
         }
         let block = self.block_for(name);
-        match self.gap_in(self.index[block].as_slice(), name) {
+        match self.before_in(self.index[block].as_slice(), name) {
             None => None,
-            Some(index) => Some(Gap { block, index }),
+            Some(before) => Some(Gap { block, before }),
         }
     }
 
     /// The block that the name comes into.
     fn block_for(&self, name: &[u8]) -> usize
         requires { 0 < vec_len self.now.index }
-        ensures { IsBlockFor (pair_names self.now.members.items) (number_lists self.now.index.items) name.now result }
+        ensures { IsNameBlock (pair_names self.now.members.items) (number_lists self.now.index.items) name.now result }
     {
         let mut block = 0;
         let mut end = self.index.len();
@@ -91,8 +94,8 @@ impl OpenObject {
         block
     }
 
-    /// Where the name comes among those of these numbers; `None` where it is one of them.
-    fn gap_in(&self, numbers: &[u32], name: &[u8]) -> Option<usize>
+    /// How many of these numbers have a name before this one; `None` where one of them has this name.
+    fn before_in(&self, numbers: &[u32], name: &[u8]) -> Option<usize>
         requires within { AreMemberNumbers numbers.now (length self.now.members.items) }
         requires ordered { AreInOrder (names_at (pair_names self.now.members.items) numbers.now) }
         ensures { MatchOption result (has_name name.now (names_at (pair_names self.now.members.items) numbers.now) ≡ true)

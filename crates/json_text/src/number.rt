@@ -1,7 +1,8 @@
 //! The text of a number, byte by byte.
 ghost use Rattle.std.specs.Prelude.{◌≡◌, [], MatchOption, MatchBool};
+ghost use Rattle.std.specs.Bool.{OnTrue};
 ghost use Rattle.json_text.specs.Number.{IsNumberText};
-ghost use Rattle.json_text.specs.inner.NumberLeft.{LeftOfNumber, LeavesNumber, EndsNumber};
+ghost use Rattle.json_text.specs.inner.NumberLeft.{LeftOfNumber, LeavesNumber, EndsNumber, TakesDigits};
 
 /// What has been read of a number.
 #[derive(Clone, Copy, Debug)]
@@ -46,6 +47,20 @@ impl NumberState {
             NumberState::Letter => after_letter(byte),
             NumberState::Sign => after_sign(byte),
             NumberState::Exponent => after_exponent(byte),
+        }
+    }
+
+    /// Whether each digit that comes next leaves the state as it is.
+    pub(crate) fn takes_digits(self) -> bool
+        ensures { OnTrue result (TakesDigits self) }
+    {
+        match self {
+            NumberState::Digits | NumberState::Fraction | NumberState::Exponent => true,
+            NumberState::Minus
+            | NumberState::Zero
+            | NumberState::Point
+            | NumberState::Letter
+            | NumberState::Sign => false,
         }
     }
 

@@ -19,7 +19,7 @@ use std::alloc::Global;
 /// The tree that the bytes spell, all of the bytes.
 ///
 /// Takes time in the number of bytes, times the logarithm of the greatest number of members of one object. Beyond twelve
-/// members a name also moves four bytes for each name of its object that comes after it in the order of names. As much
+/// members a name also moves at most 2,048 bytes, whatever the order of the names. As much
 /// stack is taken as arrays and objects are open at once: at most 32.
 pub fn read(alloc: Global, bytes: &[u8]) -> Result<Json, ReadError>
     // The bytes are a text of the tree, and of no other.

@@ -12,12 +12,16 @@ ghost use Rattle.json_text.specs.inner.ReaderProgress.{CharacterEnds, CharacterR
 
 use crate::character::{self, CharacterState, CharacterStep};
 use crate::content::plain_str;
+use crate::digits::digits_len;
 use crate::fault::{FaultKind, ReadError, fault, not_json};
 use crate::literal::Literal;
 use crate::number::NumberState;
 use crate::plain::plain_len;
 use crate::tree::{Chars, Json, Numeral};
 use std::alloc::{AllocError, Global};
+
+/// How many bytes a text has room for at first where it isn't copied at once: most have fewer.
+const USUAL: usize = 32;
 
 /// White space between tokens (RFC 8259, section 2).
 fn is_white(byte: u8) -> bool
@@ -111,7 +115,7 @@ fn read_in_parts(alloc: Global, bytes: &[u8], offset: &mut usize) -> Result<Char
     ensures forward { OnOk result (offset.old ≤ offset.new) }
     ensures refused { IfErr result (λ error. RefusedString bytes.now offset.old [] error) }
 {
-    let mut text = String::new(alloc);
+    let mut text = String::with_capacity(alloc, USUAL)?;
     loop {
         take_plain(&mut text, bytes, offset)?;
         if *offset >= bytes.len() {
@@ -222,14 +226,19 @@ fn number_len(begun: NumberState, bytes: &[u8]) -> (usize, NumberState)
     ensures plain { ArePlain (take result.0 bytes.now) }
     ensures ends { result.0 < length bytes.now → EndsNumber (LeftOfNumber result.1) (slice_index bytes.now result.0) }
 {
+    let mut len = 0;
     let mut last = begun;
-    for (i, byte) in bytes.iter().enumerate() {
-        match last.next(*byte) {
+    while len < bytes.len() {
+        match last.next(bytes[len]) {
             Some(next) => last = next,
-            None => return (i, last),
+            None => return (len, last),
+        }
+        len += 1;
+        if last.takes_digits() {
+            len += digits_len(&bytes[len..]);
         }
     }
-    (bytes.len(), last)
+    (len, last)
 }
 
 /// The number that comes next, which begins so.

@@ -12,5 +12,5 @@ abbrev pub all_numbers : List (List ℕ) → List ℕ
 all_numbers lists = flat_map (λ numbers. numbers) lists
 
 -- how many numbers the blocks before this one have
-abbrev pub start_of : List (List ℕ) → ℕ → ℕ
-start_of lists block = length (all_numbers (take block lists))
+abbrev pub numbers_before : List (List ℕ) → ℕ → ℕ
+numbers_before lists block = length (all_numbers (take block lists))

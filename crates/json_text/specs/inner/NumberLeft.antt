@@ -1,6 +1,6 @@
 -- Inner: what is left of a number's text, in each state of its reader.
 use Rattle.std.specs.Prelude.{◌≡◌, ◌≢◌, ℕ, List, ◌∷◌, ◌++◌, ◌<◌, ◌≤◌, ◌⊎◌}
-use Rattle.json_text.specs.Number.{AreDigits, IsDigits, IsFraction, IsSigned, IsExp, IsMagnitude}
+use Rattle.json_text.specs.Number.{AreDigits, IsDigit, IsDigits, IsFraction, IsSigned, IsExp, IsMagnitude}
 use Rattle.json_text.specs.declared.number.NumberState.{NumberState}
 use Rattle.json_text.specs.declared.number.NumberState.TheVariants as number_states
 
@@ -40,3 +40,7 @@ pub record LeavesNumber (L : List ℕ → Type 0) (c : ℕ) (q : NumberState) : 
 -- no number goes on with the byte c
 abbrev pub EndsNumber : (List ℕ → Type 0) → ℕ → Type 0
 EndsNumber L c = (s : List ℕ) → L (c ∷ s) → ⊥
+
+-- each digit leaves the state as it is
+abbrev pub TakesDigits : NumberState → Type 0
+TakesDigits q = (c : ℕ) → IsDigit c → LeavesNumber (LeftOfNumber q) c q

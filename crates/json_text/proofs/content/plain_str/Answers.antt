@@ -1,4 +1,4 @@
--- Proof of the contract of `Content::of_plain`.
+-- Proof of the contract of `plain_str`.
 use Rattle.json_text.proofs.ContentLemmas.{plain_utf8}
 use Rattle.json_text.proofs.content.plain_str.Goals as goal
 

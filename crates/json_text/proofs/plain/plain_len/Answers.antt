@@ -1,16 +1,16 @@
 -- Proof of the contract of `plain_len`.
 use Rattle.std.proofs.Common.{refl, rules, arith}
-use Rattle.json_text.proofs.PlainLemmas.{one_more_plain, lanes_after, all_lanes_after}
+use Rattle.json_text.proofs.PlainLemmas.{one_more_plain, plain_after, all_plain_after}
 use Rattle.json_text.proofs.plain.plain_len.Goals as goal
 
 pub returns-then-plain-lt-LANES-clause-plain : goal.returns-then-plain-lt-LANES-clause-plain
 returns-then-plain-lt-LANES-clause-plain c =
-    lanes_after c.args.bytes.now c.loop-len.len c.plain_lanes-plain.result (omega (arith, c.loop-len-test.true, c.loop-len.invariant.within)) c.if-plain-lt-LANES.true c.loop-len.invariant.plain c.plain_lanes-plain.ensures
+    plain_after c.args.bytes.now c.loop-len.len c.plain_lanes-plain.result (omega (arith, c.loop-len-test.true, c.loop-len.invariant.within)) c.if-plain-lt-LANES.true c.loop-len.invariant.plain c.plain_lanes-plain.ensures
 
 pub loop-len-preserved : goal.loop-len-preserved
 loop-len-preserved c = record {
   within = omega (arith, c.loop-len-test.true, c.loop-len.invariant.within);
-  plain = all_lanes_after c.args.bytes.now c.loop-len.len c.plain_lanes-plain.result (omega (arith, c.loop-len-test.true, c.loop-len.invariant.within)) (omega (arith, c.if-plain-lt-LANES.false)) c.loop-len.invariant.plain c.plain_lanes-plain.ensures;
+  plain = all_plain_after c.args.bytes.now c.loop-len.len c.plain_lanes-plain.result (omega (arith, c.loop-len-test.true, c.loop-len.invariant.within)) (omega (arith, c.if-plain-lt-LANES.false)) c.loop-len.invariant.plain c.plain_lanes-plain.ensures;
 }
 
 pub loop-len-2-preserved : goal.loop-len-2-preserved

@@ -6,19 +6,19 @@ use Rattle.json_text.specs.inner.MemberIndex.{AreInOrder, AreMemberNumbers, Come
 use Rattle.json_text.specs.inner.NumberBlocks.{number_lists}
 use Rattle.json_text.specs.declared.block.Block.{Block}
 use Rattle.json_text.specs.declared.members.OpenObject.{OpenObject}
-use Rattle.json_text.proofs.BlockLemmas.{block_within, filled, found_in_all, length-names_at, numbers_in_order, place_in_all, read_numbers}
+use Rattle.json_text.proofs.BlockLemmas.{block_within, filled, found_in_all, length-names_at, numbers_in_order, gap_among_all, read_numbers}
 use Rattle.json_text.proofs.members.OpenObject.gap_in_index.Goals as goal
 
-pub gap_in-requires-clause-within : goal.gap_in-requires-clause-within
-gap_in-requires-clause-within c =
+pub before_in-requires-clause-within : goal.before_in-requires-clause-within
+before_in-requires-clause-within c =
     let o : OpenObject = c.args.self.now in
     let listed = c.block_for-block.ensures.inside in
     let inside : c.block_for-block.result < length o.index.items = omega (arith, listed, length-map o.index.items (λ (b : Block). b.numbers.items)) in
     let own = c.as_slice.ensures.value ∙ read_numbers o.index.items c.block_for-block.result c.index.result.now inside c.index.ensures in
     subst (λ (l : List ℕ). AreMemberNumbers l (length o.members.items)) (sym own) (block_within (number_lists o.index.items) (length o.members.items) c.block_for-block.result o.within listed)
 
-pub gap_in-requires-clause-ordered : goal.gap_in-requires-clause-ordered
-gap_in-requires-clause-ordered c =
+pub before_in-requires-clause-ordered : goal.before_in-requires-clause-ordered
+before_in-requires-clause-ordered c =
     let o : OpenObject = c.args.self.now in
     let listed = c.block_for-block.ensures.inside in
     let inside : c.block_for-block.result < length o.index.items = omega (arith, listed, length-map o.index.items (λ (b : Block). b.numbers.items)) in
@@ -43,9 +43,9 @@ returns-in-Some c =
     let inside : c.block_for-block.result < length o.index.items = omega (arith, listed, length-map o.index.items (λ (b : Block). b.numbers.items)) in
     let own = c.as_slice.ensures.value ∙ read_numbers o.index.items c.block_for-block.result c.index.result.now inside c.index.ensures in
     let numbers : List ℕ = get_or (number_lists o.index.items) c.block_for-block.result [] in
-    let comes : ComesAt (names_at ns numbers) c.args.name.now c.in-Some.index = subst (λ (l : List ℕ). ComesAt (names_at ns l) c.args.name.now c.in-Some.index) own c.in-Some.ensures in
+    let comes : ComesAt (names_at ns numbers) c.args.name.now c.in-Some.before = subst (λ (l : List ℕ). ComesAt (names_at ns l) c.args.name.now c.in-Some.before) own c.in-Some.ensures in
     record {
       block = omega (arith, listed);
-      index = (let w : c.in-Some.index ≤ length (names_at ns numbers) = comes.within in omega (arith, w, length-names_at ns numbers));
-      comes = place_in_all ns (number_lists o.index.items) (filled o.index.items) o.ordered c.args.name.now c.block_for-block.result c.in-Some.index c.block_for-block.ensures comes;
+      before = (let w : c.in-Some.before ≤ length (names_at ns numbers) = comes.within in omega (arith, w, length-names_at ns numbers));
+      comes = gap_among_all ns (number_lists o.index.items) (filled o.index.items) o.ordered c.args.name.now c.block_for-block.result c.in-Some.before c.block_for-block.ensures comes;
     }

@@ -1,11 +1,11 @@
--- Proof of the contract of `OpenObject::gap_in`.
+-- Proof of the contract of `OpenObject::before_in`.
 use Rattle.std.proofs.Common.{◌+◌, ◌-◌, ◌/◌, ◌<◌, ◌∙◌, List, ℕ, ap, length, sym, arith}
 use Rattle.std.specs.Ordering.{nat_cmp}
 use Rattle.std.specs.Cmp.Lexicographic.{slice_cmp}
 use Rattle.json_text.specs.MemberNames.{pair_names}
 use Rattle.json_text.specs.inner.MemberIndex.{names_at}
 use Rattle.json_text.proofs.IndexLemmas.{all_below, all_above, index_has, named_at}
-use Rattle.json_text.proofs.members.OpenObject.gap_in.Goals as goal
+use Rattle.json_text.proofs.members.OpenObject.before_in.Goals as goal
 
 pub loop-low-preserved-in-Less : goal.loop-low-preserved-in-Less
 loop-low-preserved-in-Less c =

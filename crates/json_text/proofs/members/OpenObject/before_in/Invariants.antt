@@ -1,8 +1,8 @@
--- What the loop of `OpenObject::gap_in` keeps, and why it ends.
+-- What the loop of `OpenObject::before_in` keeps, and why it ends.
 use Rattle.std.proofs.Common.{ℕ, ◌<◌, ◌≤◌, ◌-◌, length}
 use Rattle.json_text.specs.MemberNames.{pair_names}
 use Rattle.json_text.specs.inner.MemberIndex.{ComesBefore, name_at, names_at}
-use Rattle.json_text.proofs.members.OpenObject.gap_in.Given as goal
+use Rattle.json_text.proofs.members.OpenObject.before_in.Given as goal
 
 abbrev pub invariant-loop-low : goal.invariant-loop-low
 invariant-loop-low l = record {
