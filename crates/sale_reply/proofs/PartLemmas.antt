@@ -12,6 +12,7 @@ use Rattle.json_text.specs.Canonical.{canonical, canonical_first, canonical_more
 use Rattle.gw_base.specs.Text437.{char_of}
 use Rattle.sale_reply.specs.declared.reply.Shown.{Shown}
 use Rattle.sale_reply.specs.inner.Appends.{Appends}
+use Rattle.sale_reply.specs.inner.ShownByte.{shown_byte}
 use Rattle.sale_reply.specs.Texts.{line_text}
 use Rattle.sale_reply.specs.Reply.{output_result_tree, text_tree, line_trees}
 use Rattle.sale_reply.specs.inner.CanonicalMembers.{next_optional, more_outputs, more_lines, canonical_outputs, canonical_lines}
@@ -39,10 +40,6 @@ pub next_optional_none : (name : List ℕ) (text : Option (List ℕ)) → ((x : 
 unfolding next_optional
 next_optional_none name None none = refl
 next_optional_none name (Some text) none = absurd (none text refl)
-
--- what is written of a byte of a terminal's line: its character
-abbrev pub shown_byte : ℕ → List ℕ
-shown_byte byte = flat_map canonical_byte (encode_utf8 (char_of byte))
 
 shown_bytes_is : (line : List ℕ) → flat_map canonical_byte (encode_utf8_all (map char_of line)) ≡ flat_map shown_byte line
 shown_bytes_is [] = refl

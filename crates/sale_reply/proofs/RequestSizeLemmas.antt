@@ -15,8 +15,9 @@ use Rattle.json_text.specs.FaultText.{kind_text}
 use Rattle.sale_reply.specs.Texts.{line_text, intermediate_text, detail_text}
 use Rattle.sale_reply.specs.Limits.{IsDetailWithinLimits}
 use Rattle.sale_reply.specs.inner.CanonicalMembers.{content_prefix, more_lines, canonical_lines}
+use Rattle.sale_reply.specs.inner.ShownByte.{shown_byte}
 use Rattle.sale_reply.specs.Reply.{text_tree, display_request_body, print_request_body, event_body}
-use Rattle.sale_reply.proofs.PartLemmas.{shown_byte, line_is}
+use Rattle.sale_reply.proofs.PartLemmas.{line_is}
 use Rattle.sale_reply.proofs.CanonicalLemmas.{text_parts, show_parts, paper_parts, content_prefix_parts, event_body_parts}
 use Rattle.sale_reply.proofs.SizeLemmas.{IsAtMost, within, same_size, sized, both, known, first_name_size, next_name_size, first_text_size, next_text_size, decimal_size}
 use Rattle.sale_reply.proofs.BodySizeLemmas.{StampSizes, ident_size, fault_size}

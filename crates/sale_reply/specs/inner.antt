@@ -1,3 +1,4 @@
 -- Definitions that serve private functions alone.
 pub mod Appends
 pub mod CanonicalMembers
+pub mod ShownByte

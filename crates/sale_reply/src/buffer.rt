@@ -6,8 +6,9 @@ ghost use Rattle.sale_frame.specs.Grammar.{frame};
 ghost use Rattle.sale_values.specs.PartBytes.{part_text, parts_text};
 ghost use Rattle.sale_reply.specs.inner.CanonicalMembers.{first_name, next_name, first_text, next_text, next_optional, next_number};
 ghost use Rattle.sale_reply.specs.inner.Appends.{Appends};
+ghost use Rattle.sale_reply.specs.inner.ShownByte.{shown_byte};
 
-use crate::plain::plain_len;
+use crate::plain::{ascii_len, plain_len};
 use gw_base::{Ident, char_of_437};
 use gw_bytes::{FRAME_LENGTH_SIZE, LONGEST_PAYLOAD};
 use json_text::escaped;
@@ -154,10 +155,24 @@ impl Out {
         ensures { Appends self.old self.new (canonical_string (line_text line.now)) }
     {
         self.raw(b"\"");
-        for byte in line {
-            self.character(char_of_437(*byte));
-        }
+        self.characters(line);
         self.raw(b"\"");
+    }
+
+    /// Appends the characters of a terminal's line. Those of ASCII up to the next that isn't, or that has to be escaped,
+    /// are copied at once.
+    fn characters(&mut self, line: &[u8])
+        ensures { Appends self.old self.new (flat_map shown_byte line.now) }
+    {
+        let mut start = 0;
+        while start < line.len() {
+            let end = start + ascii_len(&line[start..]);
+            self.raw(&line[start..end]);
+            if end < line.len() {
+                self.character(char_of_437(line[end]));
+            }
+            start = end + 1;
+        }
     }
 
     /// Appends a character of a string, escaped where it has to be.

@@ -1,7 +1,8 @@
-//! Plain bytes: those of a string that need no escape.
+//! Plain bytes: those of a string, and those of a terminal's line, that are written as they are.
 ghost use Rattle.std.specs.Prelude.{◌≡◌, ◌≤◌, ◌∷◌, [], length, take, flat_map};
 ghost use Rattle.std.specs.Bool.{OnFalse};
 ghost use Rattle.json_text.specs.Canonical.{canonical_byte};
+ghost use Rattle.sale_reply.specs.inner.ShownByte.{shown_byte};
 
 use std::simd::prelude::*;
 
@@ -43,4 +44,43 @@ fn is_escaped(byte: u8) -> bool
     ensures { OnFalse result (canonical_byte byte ≡ byte ∷ []) }
 {
     byte == b'"' || byte == b'\\' || byte < 32
+}
+
+/// How many bytes at the beginning of a terminal's line are ASCII that needs no escape: those before the first that is
+/// written in another way.
+pub(crate) fn ascii_len(bytes: &[u8]) -> usize
+    ensures within { result ≤ length bytes.now }
+    ensures plain { flat_map shown_byte (take result bytes.now) ≡ take result bytes.now }
+{
+    let mut len = 0;
+    while bytes.len() - len >= LANES {
+        let plain = ascii_lanes(u8x16::from_slice(&bytes[len..]));
+        if plain < LANES {
+            return len + plain;
+        }
+        len += LANES;
+    }
+    while len < bytes.len() && !is_respelled(bytes[len]) {
+        len += 1;
+    }
+    len
+}
+
+/// How many lanes at the beginning are ASCII that needs no escape; more than there are where all of them are.
+#[inline(always)]
+fn ascii_lanes(lanes: u8x16) -> usize
+    ensures { flat_map shown_byte (take result lanes) ≡ take result lanes }
+{
+    let respelled = lanes.simd_eq(u8x16::splat(b'"'))
+        | lanes.simd_eq(u8x16::splat(b'\\'))
+        | lanes.simd_lt(u8x16::splat(b' '))
+        | lanes.simd_gt(u8x16::splat(b'~'));
+    respelled.to_bitmask().trailing_zeros() as usize
+}
+
+/// Whether a byte of a terminal's line is written in another way: as a character that isn't ASCII, or escaped.
+fn is_respelled(byte: u8) -> bool
+    ensures { OnFalse result (shown_byte byte ≡ byte ∷ []) }
+{
+    byte == b'"' || byte == b'\\' || byte < b' ' || byte > b'~'
 }

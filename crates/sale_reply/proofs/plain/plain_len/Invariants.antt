@@ -1,12 +1,13 @@
 -- What the loops of `plain_len` keep, and why they end.
 use Rattle.std.proofs.Common.{◌-◌, ◌≤◌, length, take}
+use Rattle.json_text.specs.Canonical.{canonical_byte}
 use Rattle.sale_reply.proofs.PlainLemmas.{ArePlain}
 use Rattle.sale_reply.proofs.plain.plain_len.Given as goal
 
 abbrev pub invariant-loop-len : goal.invariant-loop-len
 invariant-loop-len l = record {
   within : l.len ≤ length l.bytes;
-  plain : ArePlain (take l.len l.bytes);
+  plain : ArePlain canonical_byte (take l.len l.bytes);
 }
 
 abbrev pub decreases-loop-len : goal.decreases-loop-len
@@ -15,7 +16,7 @@ decreases-loop-len l = length l.bytes - l.len
 abbrev pub invariant-loop-len-2 : goal.invariant-loop-len-2
 invariant-loop-len-2 l = record {
   within : l.len ≤ length l.bytes;
-  plain : ArePlain (take l.len l.bytes);
+  plain : ArePlain canonical_byte (take l.len l.bytes);
 }
 
 abbrev pub decreases-loop-len-2 : goal.decreases-loop-len-2

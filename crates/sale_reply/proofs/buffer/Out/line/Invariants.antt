@@ -1,9 +1,0 @@
--- What the loop of `Out::line` keeps.
-use Rattle.std.proofs.Common.{◌∷◌, take}
-use Rattle.std.specs.Prelude.{flat_map}
-use Rattle.sale_reply.specs.inner.Appends.{Appends}
-use Rattle.sale_reply.proofs.PartLemmas.{shown_byte}
-use Rattle.sale_reply.proofs.buffer.Out.line.Given as goal
-
-abbrev pub invariant-loop-byte : goal.invariant-loop-byte
-invariant-loop-byte l = Appends l.fn.self l.self (34 ∷ flat_map shown_byte (take l.byte-index l.line))
