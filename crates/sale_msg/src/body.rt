@@ -17,7 +17,7 @@ use crate::members::{
     amount, amount_or_none, currency, ident, ident_or_none, member, period, text_or_none,
 };
 use crate::outputs::outputs;
-use crate::path::find;
+use crate::path::find_under;
 use crate::tabled_objects::{STATUS_REFERENCE, parts};
 use crate::{Category, paths};
 use gw_base::Ident;
@@ -94,15 +94,15 @@ fn reference(service: Option<&Json>, sale: Option<&Json>, poi: Option<&Json>) ->
 }
 
 /// The reference that an object is.
-#[tactic(auto, unfolding(crate::specs::Flaw::IsMet))]
+#[tactic(auto, unfolding(crate::specs::Flaw::IsMet, crate::specs::Path::tree_at))]
 fn reference_in(object: &Json) -> Reference
     requires { AreMet status_reference_rows (value_of object.now) }
     ensures { IsReference (value_of object.now) result }
 {
     reference(
-        find(object, paths::SERVICE),
-        find(object, paths::SALE),
-        find(object, paths::POI),
+        find_under(object, paths::SERVICE_NAMES),
+        find_under(object, paths::SALE_NAMES),
+        find_under(object, paths::POI_NAMES),
     )
 }
 

@@ -2,15 +2,16 @@
 ghost use Rattle.std.specs.Prelude.{◌≡◌, ◌↔◌, ◌<◌, All, map, true, IsTrue, MatchResult, Some, None, get_or, length};
 ghost use Rattle.std.specs.List.{list_all};
 ghost use Rattle.std.specs.Option.{option_and_then};
+ghost use Rattle.json_text.specs.Tree.{string_of};
 ghost use Rattle.json_text.specs.ValueOf.{value_of};
 ghost use Rattle.sale_msg.specs.Flaw.{AreMet, IsFirstAmong, IsFirstFlaw, IsFlaw, IsMet, MayBeAbsent};
 ghost use Rattle.sale_msg.specs.Grammar.{IsBodyFlaw};
-ghost use Rattle.sale_msg.specs.Path.{text_at, tree_at, tree_under};
+ghost use Rattle.sale_msg.specs.Path.{tree_at, tree_under};
 ghost use Rattle.sale_msg.specs.inner.RowValue.{AreFound, HaveParents, IsBodyFound, is_path, member_value, own_names, row_value};
 
 use crate::flaw::Flaw;
 use crate::form::has_form;
-use crate::path::{find, find_under};
+use crate::path::find_under;
 use crate::table::{MemberRow, Presence, body_table, part_table};
 use crate::tabled_objects::parts;
 use crate::{Category, paths};
@@ -113,6 +114,7 @@ fn check_row<'a>(
 }
 
 /// Whether a member of this presence may be absent.
+#[tactic(auto, unfolding(crate::specs::Path::tree_at))]
 fn may_be_absent(presence: Presence, tree: &Json) -> bool
     ensures { IsTrue result ↔ MayBeAbsent presence (value_of tree.now) }
 {
@@ -120,17 +122,17 @@ fn may_be_absent(presence: Presence, tree: &Json) -> bool
         Presence::Required => false,
         Presence::Optional => true,
         Presence::ByHeader => {
-            is_text(tree, paths::HEADER_CLASS, b"Device")
-                || is_text(tree, paths::HEADER_TYPE, b"Notification")
+            is_text(tree, paths::HEADER_CLASS_NAMES, b"Device")
+                || is_text(tree, paths::HEADER_TYPE_NAMES, b"Notification")
         }
     }
 }
 
-/// Whether the value at the path is this text.
-fn is_text(tree: &Json, path: &str, text: &[u8]) -> bool
-    ensures { IsTrue result ↔ (text_at path.now (value_of tree.now) ≡ Some text.now) }
+/// Whether the value under these names is this text.
+fn is_text(tree: &Json, names: &[&str], text: &[u8]) -> bool
+    ensures { IsTrue result ↔ (option_and_then string_of (tree_under (map (λ name. name.now) names.now) (value_of tree.now)) ≡ Some text.now) }
 {
-    match find(tree, path) {
+    match find_under(tree, names) {
         None => false,
         Some(value) => match value.as_str() {
             None => false,

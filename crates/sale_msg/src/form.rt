@@ -5,7 +5,7 @@ ghost use Rattle.json_text.specs.ValueOf.{value_of};
 ghost use Rattle.sale_values.specs.Names.{kind_name};
 ghost use Rattle.sale_msg.specs.Form.{HasForm, HasTextMember, IsAmountNumber, IsJsonObject, IsCapital, IsLetter, IsOutputList, IsTextList, TextHasForm};
 
-use crate::path::find;
+use crate::path::find_under;
 use crate::paths;
 use crate::table::Form;
 use gw_base::minor_of;
@@ -112,10 +112,11 @@ fn have_texts(elements: &[Json]) -> bool
 }
 
 /// Whether it is an object with a text as its `Text`.
+#[tactic(auto, unfolding(crate::specs::Path::tree_at))]
 fn has_text(element: &Json) -> bool
     ensures { IsTrue result ↔ HasTextMember (value_of element.now) }
 {
-    match find(element, paths::TEXT) {
+    match find_under(element, paths::TEXT_NAMES) {
         None => false,
         Some(text) => text.as_str().is_some(),
     }

@@ -1,5 +1,5 @@
-//! The members of a till's message by their paths, each stated once: the tables and faults have them, and the reader looks
-//! for a few by them.
+//! The members of a till's message by their paths, each stated once: the tables and faults have them. The reader looks for
+//! a few by their names.
 //!
 //! A path is names divided by points, from the body object on: the object in which the header and a body are. The members
 //! of an object within a body that has a table of its own have a path from that object on too.
@@ -145,3 +145,25 @@ pub(crate) const OUTPUT_FORMAT: &str = "OutputContent.OutputFormat";
 pub(crate) const OUTPUT_TEXTS: &str = "OutputContent.OutputText";
 
 pub(crate) const TEXT: &str = "Text";
+
+// The names of the members that are looked for by themselves, and not row by row: no path is split for them.
+
+pub(crate) const HEADER_CLASS_NAMES: &[&str] = &["MessageHeader", "MessageClass"];
+
+pub(crate) const HEADER_TYPE_NAMES: &[&str] = &["MessageHeader", "MessageType"];
+
+pub(crate) const SERVICE_NAMES: &[&str] = &["ServiceID"];
+
+pub(crate) const SALE_NAMES: &[&str] = &["SaleID"];
+
+pub(crate) const POI_NAMES: &[&str] = &["POIID"];
+
+pub(crate) const OUTPUT_DEVICE_NAMES: &[&str] = &["Device"];
+
+pub(crate) const OUTPUT_QUALIFY_NAMES: &[&str] = &["InfoQualify"];
+
+pub(crate) const OUTPUT_FLAG_NAMES: &[&str] = &["ResponseRequiredFlag"];
+
+pub(crate) const OUTPUT_TEXTS_NAMES: &[&str] = &["OutputContent", "OutputText"];
+
+pub(crate) const TEXT_NAMES: &[&str] = &["Text"];
