@@ -7,7 +7,7 @@ use std::simd::prelude::*;
 /// So many bytes are tested at once.
 const LANES: usize = 16;
 
-/// How many bytes at the beginning are digits, at least as far as there are as many bytes as are tested at once.
+/// How many bytes at the beginning are digits. Of the last bytes, fewer than are tested at once, none is counted.
 pub(crate) fn digits_len(bytes: &[u8]) -> usize
     ensures within { result ≤ length bytes.now }
     ensures digits { AreDigits (take result bytes.now) }

@@ -50,7 +50,7 @@ impl NumberState {
         }
     }
 
-    /// Whether each digit that comes next leaves the state as it is.
+    /// Whether a digit that comes next leaves the state as it is.
     pub(crate) fn takes_digits(self) -> bool
         ensures { OnTrue result (TakesDigits self) }
     {

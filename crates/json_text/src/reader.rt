@@ -19,8 +19,9 @@ use std::alloc::Global;
 /// The tree that the bytes spell, all of the bytes.
 ///
 /// Takes time in the number of bytes, times the logarithm of the greatest number of members of one object. Beyond twelve
-/// members a name also moves at most 2,048 bytes, whatever the order of the names. As much
-/// stack is taken as arrays and objects are open at once: at most 32.
+/// members a name also moves at most 2,044 bytes of an index, whatever the order of the names; one in some 256 divides a
+/// block of the index, and moves the blocks after it, 24 bytes each. As much stack is taken as arrays and objects are
+/// open at once: at most 32.
 pub fn read(alloc: Global, bytes: &[u8]) -> Result<Json, ReadError>
     // The bytes are a text of the tree, and of no other.
     ensures spelled { IfOk result (λ j. Spells (value_of j) bytes.now) }

@@ -159,7 +159,7 @@ impl Out {
         self.raw(b"\"");
     }
 
-    /// Appends the characters of a terminal's line. Those of ASCII up to the next that isn't, or that has to be escaped,
+    /// Appends the characters of a terminal's line. Those between two that aren't printable ASCII, or have to be escaped,
     /// are copied at once.
     fn characters(&mut self, line: &[u8])
         ensures { Appends self.old self.new (flat_map shown_byte line.now) }

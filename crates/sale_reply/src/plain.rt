@@ -46,8 +46,8 @@ fn is_escaped(byte: u8) -> bool
     byte == b'"' || byte == b'\\' || byte < 32
 }
 
-/// How many bytes at the beginning of a terminal's line are ASCII that needs no escape: those before the first that is
-/// written in another way.
+/// How many bytes at the beginning of a terminal's line are written as themselves: they are printable ASCII, and need no
+/// escape.
 pub(crate) fn ascii_len(bytes: &[u8]) -> usize
     ensures within { result ≤ length bytes.now }
     ensures plain { flat_map shown_byte (take result bytes.now) ≡ take result bytes.now }
@@ -66,7 +66,7 @@ pub(crate) fn ascii_len(bytes: &[u8]) -> usize
     len
 }
 
-/// How many lanes at the beginning are ASCII that needs no escape; more than there are where all of them are.
+/// How many lanes at the beginning are written as themselves; more than there are where all of them are.
 #[inline(always)]
 fn ascii_lanes(lanes: u8x16) -> usize
     ensures { flat_map shown_byte (take result lanes) ≡ take result lanes }
@@ -78,7 +78,7 @@ fn ascii_lanes(lanes: u8x16) -> usize
     respelled.to_bitmask().trailing_zeros() as usize
 }
 
-/// Whether a byte of a terminal's line is written in another way: as a character that isn't ASCII, or escaped.
+/// Whether a byte of a terminal's line isn't written as itself: it isn't printable ASCII, or has to be escaped.
 fn is_respelled(byte: u8) -> bool
     ensures { OnFalse result (shown_byte byte ≡ byte ∷ []) }
 {

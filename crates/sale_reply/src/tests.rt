@@ -88,7 +88,7 @@ const SHOW: &str =
     r#"{"SaleToPOIRequest":{"MessageHeader":{"ProtocolVersion":"3.0","MessageClass":"Device","MessageCategory":"Display","MessageType":"Request","ServiceID":"1","DeviceID":"0","SaleID":"S1","POIID":"T1"},"DisplayRequest":{"DisplayOutput":[{"ResponseRequiredFlag":false,"Device":"CashierDisplay","InfoQualify":"Status","OutputContent":{"OutputFormat":"Text","OutputText":[{"Text":"ZVT status 0A"}]}}]}}}"#;
 
 const PAPER: &str =
-    r#"{"SaleToPOIRequest":{"MessageHeader":{"ProtocolVersion":"3.0","MessageClass":"Device","MessageCategory":"Print","MessageType":"Request","ServiceID":"1","DeviceID":"0","SaleID":"S1","POIID":"T1"},"PrintRequest":{"PrintOutput":{"DocumentQualifier":"Document","ResponseMode":"NotRequired","OutputContent":{"OutputFormat":"Text","OutputText":[{"Text":"ä?"},{"Text":""},{"Text":"\"\\"}]}}}}}"#;
+    r#"{"SaleToPOIRequest":{"MessageHeader":{"ProtocolVersion":"3.0","MessageClass":"Device","MessageCategory":"Print","MessageType":"Request","ServiceID":"1","DeviceID":"0","SaleID":"S1","POIID":"T1"},"PrintRequest":{"PrintOutput":{"DocumentQualifier":"Document","ResponseMode":"NotRequired","OutputContent":{"OutputFormat":"Text","OutputText":[{"Text":"ä?"},{"Text":""},{"Text":"\"\\"},{"Text":"Kartenzahlung ä und \"mehr\" als sechzehn? Zeichen in einer Zeile"}]}}}}}"#;
 
 const REJECT: &str =
     r#"{"SaleToPOIRequest":{"MessageHeader":{"ProtocolVersion":"3.0","MessageClass":"Event","MessageCategory":"Event","MessageType":"Notification","SaleID":"0","POIID":"GATEWAY"},"EventNotification":{"TimeStamp":"1970-01-01T00:00:00Z","EventToNotify":"Reject","EventDetails":"header SaleToPOIRequest"}}}"#;
@@ -278,7 +278,12 @@ fn device_requests_and_events(rt: HostRuntime) -> Result<(), Fail> {
         code: 0x0A,
     };
     is_written_as(&rt, &mut out, &show, SHOW);
-    let lines = [[0x84, 0xFF].as_slice(), b"".as_slice(), b"\"\\".as_slice()];
+    let lines = [
+        [0x84, 0xFF].as_slice(),
+        b"".as_slice(),
+        b"\"\\".as_slice(),
+        b"Kartenzahlung \x84 und \"mehr\" als sechzehn\x1F Zeichen in einer Zeile".as_slice(),
+    ];
     let paper = SaleReply::PrintRequest {
         header: Header {
             device: Ident::of(b"0"),
