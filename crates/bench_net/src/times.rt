@@ -1,5 +1,6 @@
 //! Times of the site's work and of the system's, side by side.
-use std::time::{Clock, Duration, Instant};
+use std::io;
+use std::time::{Duration, Instant};
 
 /// What the site took, and what the system's own calls took for the same, in the same rounds.
 #[derive(Clone, Copy)]
@@ -15,7 +16,7 @@ pub(crate) const NONE: Times = Times {
 };
 
 /// Adds what passed since `start`.
-pub(crate) fn add<R: Clock>(rt: &R, sum: &mut Duration, start: Instant) -> std::io::Result<()> {
+pub(crate) fn add(rt: &HostRuntime, sum: &mut Duration, start: Instant) -> io::Result<()> {
     *sum = sum.saturating_add(start.elapsed(rt)?);
     Ok(())
 }
@@ -26,19 +27,22 @@ pub(crate) fn nanoseconds_each(all: Duration, count: u64) -> u64 {
 }
 
 /// How many times as long the site took, in hundredths.
-pub(crate) fn ratio(times: Times) -> u64 {
+fn ratio(times: Times) -> u64 {
     let site = times.site.as_nanos().saturating_mul(100);
     u64::try_from(site / times.plain.as_nanos().max(1)).unwrap_or(u64::MAX)
 }
 
-/// Prints the times of so many.
-pub(crate) fn print<R: Print>(rt: &R, times: Times, count: u64) -> std::io::Result<()> {
-    let ratio = ratio(times);
+fn print_each(rt: &HostRuntime, site: u64, plain: u64, ratio: u64) -> io::Result<()> {
     println!(rt;
-        "  each: {} ns by the site, {} ns by the system's own calls, ratio {}.{:02}",
-        nanoseconds_each(times.site, count),
-        nanoseconds_each(times.plain, count),
+        "  each: {site} ns by the site, {plain} ns by the system's own calls, ratio {}.{:02}",
         ratio / 100,
         ratio % 100
     )
+}
+
+/// Prints the times of so many.
+pub(crate) fn print(rt: &HostRuntime, times: Times, count: u64) -> io::Result<()> {
+    let site = nanoseconds_each(times.site, count);
+    let plain = nanoseconds_each(times.plain, count);
+    print_each(rt, site, plain, ratio(times))
 }
