@@ -26,6 +26,3 @@ pub use owned::{Bodies, Bytes, Text};
 pub use setup::{Pt, Pts, Setup};
 pub use text_437::{byte_of_437, char_of_437, law_text_437};
 pub use transaction::{law_transaction_examples, law_transaction_texts, transaction_text};
-
-#[cfg(test)]
-mod tests;

@@ -98,7 +98,7 @@ impl Text {
 }
 
 /// The bodies of the records that a journal holds, oldest first. A contract sees a list of byte lists.
-#[derive(Clone, Debug, Drop)]
+#[derive(Clone, Drop)]
 pub struct Bodies {
     inner: Vec<[u8; 255]>,
 }

@@ -9,7 +9,7 @@ use gw_bytes::{
 use std::marker::Model;
 
 /// One terminal, which a POIID names.
-#[derive(Clone, Debug, Drop)]
+#[derive(Clone, Drop)]
 pub struct Pt {
     pub poi: Ident<40>,
     /// The address at which it listens, as `host:port`.
@@ -47,7 +47,7 @@ impl Pt {
 }
 
 /// The terminals, in the order of their numbers. A contract sees a list.
-#[derive(Clone, Debug, Drop)]
+#[derive(Clone, Drop)]
 pub struct Pts {
     inner: Vec<Pt>,
 }
@@ -87,7 +87,7 @@ impl Pts {
 }
 
 /// A gateway's setup.
-#[derive(Clone, Debug, Drop)]
+#[derive(Clone, Drop)]
 pub struct Setup {
     /// The gateway's name, given as POIID where a message's own was not read.
     pub name: Ident<40>,

@@ -56,7 +56,7 @@ pub enum Act<'a> {
 }
 
 /// What a message of a terminal prints, in the bytes of the message.
-#[derive(Clone, Copy, Debug)]
+#[derive(Clone, Copy)]
 pub enum Printed<'a> {
     /// The text of a line.
     Line(&'a [u8]),

@@ -2,7 +2,7 @@
 use gw_base::Ident;
 
 /// What the setup of a run says of the gateway itself.
-#[derive(Clone, Copy, Debug)]
+#[derive(Clone, Copy)]
 pub struct Gateway {
     /// Under which it rejects messages.
     pub name: Ident<40>,

@@ -126,6 +126,7 @@ fn given_to_abort(
 }
 
 /// What a request gets: its reply, or else it begins at a terminal or waits for it.
+#[inline(never)]
 fn asked(
     alloc: Global,
     core: &Core,
@@ -155,6 +156,25 @@ fn asked(
             let verdict = refusal(Condition::UnavailableDevice);
             Ok(Given::Reply(printed(&header, &qualifier, verdict)))
         }
+    }
+}
+
+/// As [`asked`], which has every request; a payment takes no room on the stack here for what others get.
+fn given_to_request(
+    alloc: Global,
+    core: &Core,
+    gateway: &Gateway,
+    ledger: &Ledger,
+    now: i64,
+    header: Header,
+    request: SaleRequest,
+) -> Result<Given, AllocError>
+    requires { HasFewOutputs request }
+    ensures { (known : Known) → IsKnownAt gateway.now ledger.now.records core.now (moment_of now) known → IfOk result (IsGivenFor known (Request header request)) }
+{
+    match request {
+        SaleRequest::Payment(_) => Ok(service(core, gateway, ledger, header, request)),
+        _ => asked(alloc, core, gateway, ledger, now, header, request),
     }
 }
 
@@ -190,7 +210,7 @@ fn given_to_tree(
 {
     match read_message(alloc, json) {
         Ok(Incoming::Request(header, request)) => {
-            asked(alloc, core, gateway, ledger, now, header, request)
+            given_to_request(alloc, core, gateway, ledger, now, header, request)
         }
         Ok(Incoming::Silent) => Ok(Given::Nothing),
         Err(MessageError::Fault(fault)) => {
@@ -209,6 +229,7 @@ fn reply_to_no_text(name: &Ident<40>, now: i64, fault: JsonFault) -> SaleReply<'
 }
 
 /// What a message gets.
+#[inline(never)]
 fn given_to_message(
     alloc: Global,
     core: &Core,

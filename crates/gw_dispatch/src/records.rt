@@ -51,7 +51,7 @@ impl fmt::Display for Unopened {
 impl Error for Unopened {}
 
 /// The journal of a run, and the ledger of its records.
-#[derive(Debug, Drop)]
+#[derive(Drop)]
 pub struct Records {
     pub(crate) journal: Journal,
     pub(crate) ledger: Ledger,

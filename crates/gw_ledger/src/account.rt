@@ -14,7 +14,7 @@ use gw_base::{Currency, Ident};
 use jrn_record::{Deal, Intent, Outcome};
 
 /// A terminal as its records leave it.
-#[derive(Clone, Copy, Debug)]
+#[derive(Clone, Copy)]
 pub struct Account {
     /// The slot of its open Intent.
     pub unresolved: Option<u32>,
@@ -25,14 +25,14 @@ pub struct Account {
 }
 
 /// The count and the minor units of approved payments, and of approved reversals.
-#[derive(Clone, Copy, Debug)]
+#[derive(Clone, Copy)]
 pub struct Sums {
     pub debit: (u32, u64),
     pub reversed: (u32, u64),
 }
 
 /// A terminal, with the sums since its last Settled by currency.
-#[derive(Clone, Copy, Debug)]
+#[derive(Clone, Copy)]
 pub struct Desk {
     pub account: Account,
     pub sums: [Sums; 9],

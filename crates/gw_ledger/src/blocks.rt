@@ -23,7 +23,7 @@ const FILLED: usize = 96;
 
 /// Slots next to one another.
 // The key of the first is beside them, so that a search among the blocks reads no record.
-#[derive(Debug, Drop)]
+#[derive(Drop)]
 struct Block {
     key: Key,
     slots: ArrayVec<u32, 128>,
@@ -98,7 +98,7 @@ impl Block {
 /// The slots in blocks, none of which is empty or full.
 ///
 /// A contract sees the slots, the key of each block with its first slot, and for how many more slots there is room at least.
-#[derive(Debug, Drop)]
+#[derive(Drop)]
 pub struct Blocks {
     blocks: Vec<Block>,
 }

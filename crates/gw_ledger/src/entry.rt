@@ -3,7 +3,7 @@ use crate::totals::Totals;
 use jrn_record::{Intent, Outcome, Settled};
 
 /// A payment or reversal: its Intent with that record's slot, and its Outcome once it has one.
-#[derive(Clone, Copy, PartialEq, Eq, Debug)]
+#[derive(Clone, Copy, PartialEq, Eq)]
 pub struct Entry {
     pub slot: u32,
     pub intent: Intent,
@@ -11,7 +11,7 @@ pub struct Entry {
 }
 
 /// A reconciliation, with the totals up to it.
-#[derive(Clone, Copy, PartialEq, Eq, Debug)]
+#[derive(Clone, Copy, PartialEq, Eq)]
 pub struct Closed {
     pub slot: u32,
     pub settled: Settled,
@@ -19,7 +19,7 @@ pub struct Closed {
 }
 
 /// What has a key.
-#[derive(Clone, Copy, PartialEq, Eq, Debug)]
+#[derive(Clone, Copy, PartialEq, Eq)]
 pub enum Found {
     Entry(Entry),
     Closed(Closed),

@@ -27,7 +27,7 @@ use std::marker::Model;
 /// The fold of the records of a journal.
 ///
 /// A contract sees the records, and for how many more Intents or Settled it has room.
-#[derive(Debug, Drop)]
+#[derive(Drop)]
 pub struct Ledger {
     tables: Tables,
     /// The slots of the records that have a key, sorted by it.

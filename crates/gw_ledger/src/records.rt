@@ -15,7 +15,7 @@ use std::cmp::Ordering;
 use std::marker::Model;
 
 /// The index of a slot's record among those of its kind.
-#[derive(Clone, Copy, Debug)]
+#[derive(Clone, Copy)]
 pub enum Index {
     Intent(u32),
     Outcome(u32),
@@ -24,7 +24,7 @@ pub enum Index {
 
 /// The records of a journal.
 // An Intent takes eight times the memory of an Outcome, so one vector of records would waste most of each second element.
-#[derive(Debug, Drop)]
+#[derive(Drop)]
 pub struct Records {
     /// By slot.
     indices: Vec<Index>,

@@ -32,7 +32,7 @@ pub fn tables_of(alloc: Global, bodies: &Bodies) -> Result<Tables, AllocError>
 
 /// A key with its slot, short: the till and the terminal are those of a row of a table.
 // It takes 40 bytes where a key with its slot takes 128: a sort compares and moves each row some twenty times.
-#[derive(Clone, Copy, PartialEq, Eq, PartialOrd, Ord, Debug)]
+#[derive(Clone, Copy, PartialEq, Eq, PartialOrd, Ord)]
 pub struct ShortRow {
     /// The index of the till and the terminal.
     pair: usize,
@@ -43,7 +43,7 @@ pub struct ShortRow {
 /// The keys of the records, each with its slot, sorted.
 ///
 /// A contract sees the list of them.
-#[derive(Debug, Drop)]
+#[derive(Drop)]
 pub struct SortedKeys {
     /// By till and terminal, a slot.
     pairs: Vec<((Ident<40>, Ident<40>), u32)>,

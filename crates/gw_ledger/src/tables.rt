@@ -30,7 +30,7 @@ use std::cmp::Ordering;
 use std::marker::Model;
 
 /// Where the Outcome of a slot's Intent is, and whether that is reversed.
-#[derive(Clone, Copy, Debug)]
+#[derive(Clone, Copy)]
 pub struct Mark {
     pub ended: Ended,
     pub reversed: bool,
@@ -47,7 +47,7 @@ impl Mark {
 /// The records with what each leaves at its slot and at its terminal, whatever their keys.
 // The tables are sorted vectors, since their room can be reserved: a record is written to the journal only once nothing
 // that follows can be refused memory.
-#[derive(Debug, Drop)]
+#[derive(Drop)]
 pub struct Tables {
     records: Records,
     /// By slot.

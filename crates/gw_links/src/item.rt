@@ -8,7 +8,7 @@ use sale_values::{Header, SaleRequest};
 use std::marker::Model;
 
 /// A request of a till that waits for its terminal.
-#[derive(Clone, Debug, Drop)]
+#[derive(Clone, Drop)]
 pub struct Item {
     /// The key of the request.
     pub key: Key,

@@ -10,7 +10,7 @@ use slab::Slab;
 use std::sync::ledger::Ledger;
 
 /// Which of the three lists a waiting request is on.
-#[derive(Clone, Copy, PartialEq, Eq, Debug)]
+#[derive(Clone, Copy, PartialEq, Eq)]
 pub(crate) enum Order {
     Till,
     Terminal,
@@ -19,7 +19,7 @@ pub(crate) enum Order {
 
 /// The places before and after one on a list, where `None` is the list's end. The link of the end itself has the last
 /// place and the first.
-#[derive(Clone, Copy, PartialEq, Eq, Debug)]
+#[derive(Clone, Copy, PartialEq, Eq)]
 pub(crate) struct Link {
     pub(crate) prev: Option<usize>,
     pub(crate) next: Option<usize>,
@@ -34,7 +34,7 @@ impl Link {
 }
 
 /// The links of a request on its three lists.
-#[derive(Clone, Copy, PartialEq, Eq, Debug)]
+#[derive(Clone, Copy, PartialEq, Eq)]
 pub(crate) struct Links {
     till: Link,
     terminal: Link,

@@ -5,7 +5,7 @@ use sale_values::{Header, Period};
 use zvt_talk::Talk;
 
 /// What a terminal serves.
-#[derive(Debug, Drop)]
+#[derive(Drop)]
 pub enum Service {
     /// A payment or a reversal, by the slot of its Intent.
     Transaction {
@@ -23,7 +23,7 @@ pub enum Service {
 }
 
 /// The standing of a terminal.
-#[derive(Debug, Drop)]
+#[derive(Drop)]
 pub enum Standing {
     /// It is linked again at this moment; `None`: at once.
     Unlinked { due: Option<u64> },

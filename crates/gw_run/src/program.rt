@@ -28,6 +28,7 @@ use gw_site::{Sink, Site, Source};
 use sim_script::ScriptFault;
 use sim_site::SimSite;
 use std::alloc::{AllocError, Global};
+use std::mem;
 
 /// The site that plays the script of this text; else what is reported of the text.
 fn site_of(alloc: Global, text: &[u8]) -> Result<SimSite, Ending>
@@ -55,6 +56,8 @@ fn site_of_input(alloc: Global, text: Vec<u8>) -> Result<SimSite, Ending>
 }
 
 /// Plays the script of this text, or reports what is wrong with it.
+///
+/// The process ends after it, and gives all memory back at once: that of the site isn't given back turn by turn before.
 fn play_text<O: Sink>(alloc: Global, text: Vec<u8>, out: &mut O) -> Ending
     requires within { length text.items ≤ script_limit }
     ensures printed { Adds (O.written out.old) (O.written out.new) (TextPrinted text.items result) }
@@ -63,7 +66,11 @@ fn play_text<O: Sink>(alloc: Global, text: Vec<u8>, out: &mut O) -> Ending
     ensures later { O.faults out.old ≤ O.faults out.new }
 {
     match site_of_input(alloc, text) {
-        Ok(mut site) => play(alloc, &mut site, out),
+        Ok(mut site) => {
+            let ending = play(alloc, &mut site, out);
+            mem::forget(site);
+            ending
+        }
         Err(fault) => write_last_lines(alloc, fault, out),
     }
 }

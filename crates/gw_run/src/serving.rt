@@ -25,7 +25,7 @@ use gw_site::{Failed, Sink, Site, Source};
 use std::alloc::{AllocError, Global};
 
 /// How the mode `serve` ends.
-#[derive(Debug, Drop)]
+#[derive(Drop)]
 pub enum ServeEnding {
     /// The configuration has this fault: 65.
     Config(ConfigFault),

@@ -13,7 +13,7 @@ use gw_bytes::MOST_DRILL_PAYMENTS;
 use std::alloc::{AllocError, Global};
 
 /// What the gateway is to do.
-#[derive(Clone, Copy, Debug, PartialEq, Eq)]
+#[derive(Clone, Copy, PartialEq, Eq)]
 pub enum Mode {
     /// Serve tills and terminals, over the site that is handed in.
     Serve,
@@ -22,7 +22,7 @@ pub enum Mode {
 }
 
 /// What the words ask for.
-#[derive(Clone, Copy, Debug, PartialEq, Eq)]
+#[derive(Clone, Copy, PartialEq, Eq)]
 pub struct Order {
     pub mode: Mode,
     /// So many polls may be made.

@@ -44,7 +44,7 @@ fn give(buf: &mut [u8; 4096], bytes: &[u8], offset: usize) -> usize
 }
 
 /// A source of bytes that are there already.
-#[derive(Debug, Drop)]
+#[derive(Drop)]
 pub struct MemSource {
     bytes: Bytes,
     /// The offset of the first byte that is left: no byte is moved by a read.
@@ -127,7 +127,7 @@ fn take_part(stored: &mut Bytes, bytes: &[u8], most: usize)
 }
 
 /// A sink that keeps what is written.
-#[derive(Debug, Drop)]
+#[derive(Drop)]
 pub struct MemSink {
     bytes: Bytes,
     calls: u64,

@@ -6,7 +6,7 @@ use crate::{Failed, Polled, Site, What};
 use gw_base::Setup;
 
 /// Every call that can fail fails, and a poll brings `Stopped` at the moment 0. A proof observes no log of it.
-#[derive(Debug, Drop)]
+#[derive(Drop)]
 pub struct NoSite {
     faults: u64,
 }

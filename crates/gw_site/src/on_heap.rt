@@ -7,7 +7,7 @@ use std::marker::Model;
 use std::rc::Rc;
 
 /// A setup on the heap. A contract sees the setup.
-#[derive(Debug, Drop)]
+#[derive(Drop)]
 pub struct BoxedSetup {
     inner: Box<Setup>,
 }
@@ -40,7 +40,7 @@ impl BoxedSetup {
 }
 
 /// Bytes that are there once, however many hold them. A contract sees a list.
-#[derive(Debug, Drop)]
+#[derive(Drop)]
 pub struct SharedBytes {
     inner: Rc<Bytes>,
 }

@@ -15,7 +15,7 @@ use gw_base::Setup;
 pub struct Failed;
 
 /// What a poll brings. A count is that of the first bytes of the buffer.
-#[derive(Clone, Copy, Debug, PartialEq, Eq)]
+#[derive(Clone, Copy, PartialEq, Eq)]
 pub enum What {
     TillOpened(u64),
     TillBytes(u64, usize),
@@ -27,7 +27,7 @@ pub enum What {
 }
 
 /// What a poll brings, and when, in seconds since 1970-01-01T00:00:00Z.
-#[derive(Clone, Copy, Debug, PartialEq, Eq)]
+#[derive(Clone, Copy, PartialEq, Eq)]
 pub struct Polled {
     pub now: i64,
     pub what: What,

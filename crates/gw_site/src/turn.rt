@@ -6,7 +6,7 @@ use std::alloc::AllocError;
 use std::marker::Model;
 
 /// One thing that went in or out.
-#[derive(Debug, Drop)]
+#[derive(Drop)]
 pub enum Turn {
     /// A run begins with this setup.
     Start(BoxedSetup),
@@ -73,7 +73,7 @@ pub enum Turn {
 }
 
 /// The turns of a log, oldest first. A contract sees a list.
-#[derive(Debug, Drop)]
+#[derive(Drop)]
 pub struct Turns {
     inner: Vec<Turn>,
 }

@@ -80,7 +80,7 @@ fn sized_bodies<S: Site>(
 ///
 /// Its file is slots of 256 bytes, each a gate and a body of 255. A slot is open where its gate is `A5` and every slot
 /// below is open. The bodies of the open slots are the journal's.
-#[derive(Debug, Drop)]
+#[derive(Drop)]
 pub struct Journal {
     len: u32,
     slots: u32,

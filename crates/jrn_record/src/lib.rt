@@ -13,6 +13,3 @@ pub use laws::law_bodies;
 pub use read::from_body;
 pub use records::{Deal, How, Intent, Outcome, Record, Settled};
 pub use write::to_body;
-
-#[cfg(test)]
-mod tests;

@@ -7,7 +7,7 @@ use crate::block::Block;
 use std::alloc::{AllocError, Global};
 
 /// A gap between numbers: a block, and how many of its numbers come before. There is one after the last block, too.
-#[derive(Clone, Copy, Debug)]
+#[derive(Clone, Copy)]
 pub(crate) struct Gap {
     pub block: usize,
     pub before: usize,

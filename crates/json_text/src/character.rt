@@ -6,7 +6,7 @@ ghost use Rattle.json_text.specs.Scan.{inside, escaped, owes};
 ghost use Rattle.json_text.specs.inner.CharacterLeft.{LeftOfCharacter, IsSound, IsCharacterStep, Starts, scan_within, FirstBounds, SecondBounds};
 
 /// What has been read of a character's spelling.
-#[derive(Clone, Copy, Debug)]
+#[derive(Clone, Copy)]
 pub(crate) enum CharacterState {
     /// So many bytes of UTF-8 are owed, the next of them from `low` to `high`.
     Utf8 {
@@ -39,7 +39,7 @@ pub(crate) enum CharacterState {
 }
 
 /// What a byte does.
-#[derive(Clone, Copy, Debug)]
+#[derive(Clone, Copy)]
 pub(crate) enum CharacterStep {
     /// It completes the character.
     Whole(char),

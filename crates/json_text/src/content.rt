@@ -11,7 +11,7 @@ use std::str;
 const MOST_INLINE: usize = 16;
 
 /// A text in UTF-8.
-#[derive(Debug, Drop)]
+#[derive(Drop)]
 pub(crate) enum Content {
     /// A few bytes; with its length it is as large as a `String`.
     Inline(ArrayString<MOST_INLINE>),

@@ -23,8 +23,6 @@ mod members;
 mod number;
 mod plain;
 mod reader;
-#[cfg(test)]
-mod tests;
 mod tokens;
 mod tree;
 mod writer;

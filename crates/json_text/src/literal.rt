@@ -6,7 +6,7 @@ ghost use Rattle.json_text.specs.inner.ReaderStates.{literal_text, literal_tree}
 use crate::tree::Json;
 
 /// A literal name: `null`, `true` or `false`.
-#[derive(Clone, Copy, Debug)]
+#[derive(Clone, Copy)]
 pub(crate) enum Literal {
     Null,
     True,

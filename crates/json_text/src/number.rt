@@ -5,7 +5,7 @@ ghost use Rattle.json_text.specs.Number.{IsNumberText};
 ghost use Rattle.json_text.specs.inner.NumberLeft.{LeftOfNumber, LeavesNumber, EndsNumber, TakesDigits};
 
 /// What has been read of a number.
-#[derive(Clone, Copy, Debug)]
+#[derive(Clone, Copy)]
 pub(crate) enum NumberState {
     Minus,
     /// The digit 0, after which no digit may come.

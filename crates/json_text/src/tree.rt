@@ -10,7 +10,7 @@ use std::alloc::{AllocError, Global};
 use std::marker::Model;
 
 /// The text of a string or of a member's name, in UTF-8, its escapes decoded.
-#[derive(Debug, Drop)]
+#[derive(Drop)]
 pub struct Chars {
     text: Content,
 }
@@ -58,7 +58,7 @@ impl Chars {
 }
 
 /// The text of a number, as it was read.
-#[derive(Debug, Drop)]
+#[derive(Drop)]
 pub struct Numeral {
     text: Content,
 }
@@ -91,7 +91,7 @@ impl Numeral {
 }
 
 /// A JSON value. The members of an object are in the order of the text.
-#[derive(Debug, Drop)]
+#[derive(Drop)]
 pub enum Json {
     Null,
     Bool(bool),

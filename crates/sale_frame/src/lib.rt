@@ -23,6 +23,3 @@ pub use laws::{
     reading, refused_for_good,
 };
 pub use reader::{FrameReader, frame_length, framed_payload};
-
-#[cfg(test)]
-mod tests;

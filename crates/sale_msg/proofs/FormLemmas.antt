@@ -1,7 +1,7 @@
 -- Forms, by the variants of a tree.
-use Rattle.std.proofs.Common.{◌≡◌, ℕ, ◌≤◌, List, Option, Some, None, Bool, sym, ap, subst, ◌∙◌, All, length, map, MatchOption, ◌↔◌, [], ◌∷◌, arith, IsTrue, true≢false}
-use Rattle.std.proofs.lemmas.List.{length-map}
-use Rattle.std.proofs.lemmas.List.Elements.{All-nil, All-cons, All-head, All-tail, All-map}
+use Rattle.std.proofs.Common.{◌≡◌, ℕ, ◌≤◌, List, Option, Some, None, Bool, sym, ap, subst, ◌∙◌, All, length, map, MatchOption, ◌↔◌, [], ◌∷◌, ◌++◌, ◌+◌, ◌<◌, ◌&&◌, true, false, refl, take, get_or, arith, IsTrue, true≢false}
+use Rattle.std.proofs.lemmas.List.{length-map, take_more}
+use Rattle.std.proofs.lemmas.List.Elements.{All-nil, All-cons, All-head, All-tail, All-map, All-more}
 use Rattle.std.specs.Option.{is_some, option_and_then, IsSome}
 use Rattle.gw_base.specs.Amount.{minor_units, SpellsAmount}
 use Rattle.gw_base.proofs.AmountLemmas.{minor_units-text}
@@ -53,3 +53,22 @@ amount_has_units (Some tree) h = by (numeral_of tree) h
     by : (numeral : Option (List ℕ)) → MatchOption numeral ⊥ (λ text. (m : ℕ) × SpellsAmount text m) → IsSome (option_and_then minor_units numeral)
     by None k = absurd k
     by (Some text) k = ap is_some (minor_units-text text k.0 k.1)
+
+-- ---- a test of each element, without an early end
+
+before_and_last : {A : Type 0} (P : A → Type 0) (xs : List A) (x : A) → All P (xs ++ x ∷ []) → All P xs × P x
+before_and_last P [] x h = (All-nil P, All-head P x [] h)
+before_and_last P (y ∷ ys) x h =
+    let rest = before_and_last P ys x (All-tail P y (ys ++ x ∷ []) h) in
+    (All-cons P y ys (All-head P y (ys ++ x ∷ []) h) rest.0, rest.1)
+
+pub one_more : {A : Type 0} (P : A → Type 0) (xs : List A) (i : ℕ) (d : A) (so_far this : Bool) → i < length xs
+    → IsTrue so_far ↔ All P (take i xs) → IsTrue this ↔ P (get_or xs i d) → IsTrue (so_far && this) ↔ All P (take (i + 1) xs)
+one_more P xs i d true this inside before here = (
+  λ t. All-more P xs i d inside (before.0 refl) (here.0 t),
+  λ all. here.1 (before_and_last P (take i xs) (get_or xs i d) (subst (All P) (take_more xs i d inside) all)).1,
+)
+one_more P xs i d false this inside before here = (
+  λ t. absurd (true≢false (sym t)),
+  λ all. absurd (true≢false (sym (before.1 (before_and_last P (take i xs) (get_or xs i d) (subst (All P) (take_more xs i d inside) all)).0))),
+)

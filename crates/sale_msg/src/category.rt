@@ -4,7 +4,7 @@ ghost use Rattle.sale_msg.specs.declared.category.Category.{Category};
 ghost use Rattle.sale_msg.specs.Category.{category_name};
 
 /// The values of nexo's `MessageCategory` that this profile serves.
-#[derive(Clone, Copy, PartialEq, Eq, Debug)]
+#[derive(Clone, Copy, PartialEq, Eq)]
 pub enum Category {
     Login,
     Logout,

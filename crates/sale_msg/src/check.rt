@@ -41,6 +41,7 @@ pub(crate) fn find_members<'a>(tree: &'a Json, rows: &[MemberRow]) -> Result<Row
 }
 
 /// The member that the row names, in its parent.
+#[inline]
 fn member_of<'a>(found: &[Option<&'a Json>], row: &MemberRow) -> Option<&'a Json>
     requires { row.now.parent < length found.now }
     ensures { member_value result ≡ option_and_then (tree_under (own_names row.now)) (get_or (map member_value found.now) row.now.parent None) }
@@ -129,6 +130,7 @@ fn may_be_absent(presence: Presence, tree: &Json) -> bool
 }
 
 /// Whether the value under these names is this text.
+#[inline(never)]
 fn is_text(tree: &Json, names: &[&str], text: &[u8]) -> bool
     ensures { IsTrue result ↔ (option_and_then string_of (tree_under (map (λ name. name.now) names.now) (value_of tree.now)) ≡ Some text.now) }
 {
@@ -142,6 +144,7 @@ fn is_text(tree: &Json, names: &[&str], text: &[u8]) -> bool
 }
 
 /// The path, as a fault has it.
+#[inline(never)]
 pub(crate) fn reported_path(path: &'static str) -> Ident<100>
     requires { is_path path.now ≡ true }
     ensures { result ≡ path.now }

@@ -3,7 +3,7 @@ use gw_base::Ident;
 use sale_values::{Header, SaleFault};
 
 /// Why an object doesn't meet a table, with the path of the member.
-#[derive(Clone, Copy, PartialEq, Eq, Debug)]
+#[derive(Clone, Copy, PartialEq, Eq)]
 pub(crate) enum Flaw {
     Missing(Ident<100>),
     Wrong(Ident<100>),

@@ -1,6 +1,6 @@
 //! What values are.
 ghost use Rattle.std.specs.Prelude.{◌≡◌, ◌↔◌, ℕ, ◌≤◌, ◌++◌, List, All, IsTrue, length, codes, ◌⊎◌};
-ghost use Rattle.gw_base.specs.Ident.{IsIdent};
+ghost use Rattle.gw_base.specs.Ident.{IsIdent, IsPrintable};
 ghost use Rattle.json_text.specs.ValueOf.{value_of};
 ghost use Rattle.sale_values.specs.Names.{kind_name};
 ghost use Rattle.sale_msg.specs.Form.{HasForm, HasTextMember, IsAmountNumber, IsJsonObject, IsCapital, IsLetter, IsOutputList, IsTextList, TextHasForm};
@@ -19,6 +19,11 @@ pub(crate) fn has_form(form: Form, value: &Json) -> bool
 {
     match form {
         Form::Object => value.is_object(),
+        // Most texts are of this form: no second match for them.
+        Form::Ident(most) => match value.as_str() {
+            None => false,
+            Some(text) => is_ident(text.as_bytes(), most),
+        },
         Form::Amount => is_amount(value),
         Form::Flag => value.as_bool().is_some(),
         Form::Outputs => is_output_list(value),
@@ -51,7 +56,26 @@ fn text_has_form(form: Form, text: &[u8]) -> bool
 fn is_ident(text: &[u8], most: usize) -> bool
     ensures { IsTrue result ↔ IsIdent most text.now }
 {
-    (1..=most).contains(&text.len()) && text.iter().all(|byte| (0x20..=0x7E).contains(byte))
+    (1..=most).contains(&text.len()) && are_printable(text)
+}
+
+/// Whether each byte is a space or visible ASCII.
+///
+/// Each is looked at, also after one that isn't: without an early end many are looked at in one step.
+fn are_printable(text: &[u8]) -> bool
+    ensures { IsTrue result ↔ All IsPrintable text.now }
+{
+    let mut printable = true;
+    for byte in text {
+        printable &= is_printable(*byte);
+    }
+    printable
+}
+
+fn is_printable(byte: u8) -> bool
+    ensures { IsTrue result ↔ IsPrintable byte }
+{
+    (0x20..=0x7E).contains(&byte)
 }
 
 fn are_letters(text: &[u8]) -> bool

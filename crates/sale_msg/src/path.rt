@@ -20,7 +20,20 @@ pub fn find<'a>(tree: &'a Json, path: &str) -> Option<&'a Json>
 }
 
 /// The value under these names, of which each is a member of the object before.
+#[inline]
 pub(crate) fn find_under<'a>(tree: &'a Json, names: &[&str]) -> Option<&'a Json>
+    ensures { option_map (λ v. value_of v.now) result ≡ tree_under (map (λ name. name.now) names.now) (value_of tree.now) }
+{
+    match names {
+        // Nearly all members are looked for by one name.
+        [name] => tree.get(name.as_bytes()),
+        _ => find_each(tree, names),
+    }
+}
+
+/// The value under these names, one after the other.
+#[inline(never)]
+fn find_each<'a>(tree: &'a Json, names: &[&str]) -> Option<&'a Json>
     ensures { option_map (λ v. value_of v.now) result ≡ tree_under (map (λ name. name.now) names.now) (value_of tree.now) }
 {
     let mut value = tree;

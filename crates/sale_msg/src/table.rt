@@ -6,7 +6,7 @@ ghost use Rattle.sale_msg.specs.inner.RowValue.{IsTableOf};
 use crate::{Category, paths};
 
 /// Whether a member may be absent.
-#[derive(Clone, Copy, PartialEq, Eq, Debug)]
+#[derive(Clone, Copy, PartialEq, Eq)]
 pub(crate) enum Presence {
     Required,
     Optional,
@@ -15,7 +15,7 @@ pub(crate) enum Presence {
 }
 
 /// What a member is to be.
-#[derive(Clone, Copy, PartialEq, Eq, Debug)]
+#[derive(Clone, Copy, PartialEq, Eq)]
 pub(crate) enum Form {
     Object,
     Text,
@@ -41,7 +41,7 @@ pub(crate) enum Form {
 }
 
 /// The member that a message is in: `SaleToPOIRequest` or `SaleToPOIResponse`.
-#[derive(Clone, Copy, PartialEq, Eq, Debug)]
+#[derive(Clone, Copy, PartialEq, Eq)]
 pub enum Envelope {
     Request,
     Response,

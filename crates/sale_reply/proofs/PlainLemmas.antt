@@ -1,14 +1,14 @@
 -- Bytes that are written as they are, one by one and in the lanes of a vector.
-use Rattle.std.proofs.Common.{◌≡◌, ℕ, suc, ◌+◌, ◌<◌, ◌≤◌, ◌%◌, ◌^◌, Bool, true, false, not, ◌||◌, cond, eqb, ltb, List, [], ◌∷◌, ◌++◌, map, length, get_or, take, drop, replicate, refl, sym, ap, ap₂, subst, ◌∙◌, arith, inl, inr}
-use Rattle.std.proofs.lemmas.List.{take_more, take_all, take-take, length-map}
+use Rattle.std.proofs.Common.{◌≡◌, ℕ, suc, ◌+◌, ◌<◌, ◌≤◌, ◌/◌, ◌%◌, ◌^◌, lit≤, Bool, true, false, not, ◌||◌, if◌then◌else◌, cond, nat_eq, nat_lt, eqb, ltb, List, [], ◌∷◌, ◌++◌, map, length, get_or, take, drop, replicate, refl, sym, ap, ap₂, subst, ◌∙◌, arith, inl, inr}
+use Rattle.std.proofs.lemmas.List.{take_more, take_all, take-take, take-append-drop, length-append, length-map}
 use Rattle.std.proofs.lemmas.Bool.Decides.{nat_tests}
 use Rattle.std.proofs.lemmas.Bool.{cases_eq}
 use Rattle.std.proofs.lemmas.Grind.{flat_map-append}
 use Rattle.std.proofs.lemmas.Simd.{zip2_splat, zip2_splat_left, zip2-map, mask_l-mod, leading_from_mask_l, trailing_mask_l, length-chunk}
-use Rattle.std.proofs.Math.Seq.{take-add}
+use Rattle.std.proofs.Math.Seq.{take-add, take-append_seam}
 use Rattle.std.specs.List.{prefix_len}
 use Rattle.std.specs.Prelude.{flat_map}
-use Rattle.std.specs.Char.{encode_utf8}
+use Rattle.std.specs.Char.{digit_char, encode_utf8}
 use Rattle.std.proofs.lemmas.Str.{encode_ascii}
 use lib.Bits.{bit_or}
 use lib.Count.{count_trailing_zeros}
@@ -160,3 +160,48 @@ pub all_lanes_after : (spell : ℕ → List ℕ) (b : List ℕ) (len n : ℕ) �
 all_lanes_after spell b len n room ge h g =
     let whole : take n (chunk len 16 b) ≡ chunk len 16 b = take_all n (chunk len 16 b) (omega (arith, length-chunk len 16 b room)) in
     subst (λ (w : List ℕ). ArePlain spell w) (sym (take-add len 16 b)) (plain_append spell (take len b) (take 16 (drop len b)) h (subst (λ (w : List ℕ). ArePlain spell w) whole g))
+
+-- the bytes after the last whole vector
+pub rest_after : (spell : ℕ → List ℕ) (b : List ℕ) (len n : ℕ) → ArePlain spell (take len b) → ArePlain spell (take n (drop len b)) → ArePlain spell (take (len + n) b)
+rest_after spell b len n h g =
+    subst (λ (w : List ℕ). ArePlain spell w) (sym (take-add len n b)) (plain_append spell (take len b) (take n (drop len b)) h g)
+
+-- ---- bytes before others
+
+some_escaped : (c x y : ℕ) (a b e : Bool) →
+    1 ≤ length (if a || b then 92 ∷ c ∷ [] else (if e then 92 ∷ 117 ∷ 48 ∷ 48 ∷ x ∷ y ∷ [] else c ∷ []))
+some_escaped c x y true b e = lit≤ tt
+some_escaped c x y false true e = lit≤ tt
+some_escaped c x y false false true = lit≤ tt
+some_escaped c x y false false false = lit≤ tt
+
+-- no byte is spelled by nothing
+some_byte : (c : ℕ) → 1 ≤ length (canonical_byte c)
+some_byte c = some_escaped c (digit_char (c / 16)) (digit_char (c % 16)) (nat_eq c 34) (nat_eq c 92) (nat_lt c 32)
+
+-- so no spelling is shorter
+no_shorter : (w : List ℕ) → length w ≤ length (flat_map canonical_byte w)
+no_shorter [] = lit≤ tt
+no_shorter (c ∷ w) = omega (arith, length-append (canonical_byte c) (flat_map canonical_byte w), some_byte c, no_shorter w)
+
+-- and where bytes and those after them are plain, they are
+plain_before : (w x : List ℕ) → ArePlain canonical_byte (w ++ x) → ArePlain canonical_byte w
+plain_before w x h =
+    let spelled_w : List ℕ = flat_map canonical_byte w in
+    let spelled_x : List ℕ = flat_map canonical_byte x in
+    let same : spelled_w ++ spelled_x ≡ w ++ x = sym (flat_map-append canonical_byte w x) ∙ h in
+    let long : length spelled_w ≡ length w =
+    omega (arith, ap (λ (l : List ℕ). length l) same, length-append spelled_w spelled_x, length-append w x, no_shorter w, no_shorter x) in
+    sym (take-append_seam spelled_w spelled_x) ∙ ap₂ (λ (n : ℕ) (l : List ℕ). take n l) long same ∙ take-append_seam w x
+
+-- all bytes of the rest, which were copied before others into a vector of which so many are plain
+pub rest_plain : (rest copied after : List ℕ) (n : ℕ) → length rest ≤ n → copied ≡ rest → ArePlain canonical_byte (take n (copied ++ after)) → ArePlain canonical_byte (take (length rest) rest)
+rest_plain rest copied after n ge same h =
+    let lanes : List ℕ = copied ++ after in
+    let begins : take (length rest) lanes ≡ rest = ap (λ (w : List ℕ). take (length rest) (w ++ after)) same ∙ take-append_seam rest after in
+    let prefix : take (length rest) (take n lanes) ≡ rest = take-take (length rest) n lanes ge ∙ begins in
+    let split : rest ++ drop (length rest) (take n lanes) ≡ take n lanes =
+    ap (λ (w : List ℕ). w ++ drop (length rest) (take n lanes)) (sym prefix) ∙ take-append-drop (length rest) (take n lanes) in
+    let plain : ArePlain canonical_byte rest =
+    plain_before rest (drop (length rest) (take n lanes)) (subst (λ (w : List ℕ). ArePlain canonical_byte w) (sym split) h) in
+    subst (λ (w : List ℕ). ArePlain canonical_byte w) (sym (take_all (length rest) rest (omega arith))) plain

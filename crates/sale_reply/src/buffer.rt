@@ -24,7 +24,7 @@ const ROOM: usize = FRAME_LENGTH_SIZE + LONGEST_PAYLOAD as usize;
 /// text. A contract sees the bytes.
 ///
 /// Its memory is taken once; no message takes more.
-#[derive(Debug, Drop)]
+#[derive(Drop)]
 pub struct Out {
     bytes: Vec<u8>,
 }

@@ -17,8 +17,6 @@ mod limits;
 mod outputs;
 mod plain;
 mod reply;
-#[cfg(test)]
-mod tests;
 mod text;
 mod write;
 

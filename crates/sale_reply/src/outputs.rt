@@ -8,7 +8,7 @@ use std::marker::Model;
 /// The results of the outputs of a Display, in order, of which there are at most 16.
 ///
 /// They lie on the heap, so that a message is small and is handed on without a long copy.
-#[derive(Debug, Drop)]
+#[derive(Drop)]
 pub struct OutputResults {
     inner: Vec<Shown>,
 }

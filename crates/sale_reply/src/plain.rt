@@ -1,5 +1,5 @@
 //! Plain bytes: those of a string, and those of a terminal's line, that are written as they are.
-ghost use Rattle.std.specs.Prelude.{◌≡◌, ◌≤◌, ◌∷◌, [], length, take, flat_map};
+ghost use Rattle.std.specs.Prelude.{◌≡◌, ◌<◌, ◌≤◌, ◌∷◌, [], length, take, flat_map};
 ghost use Rattle.std.specs.Bool.{OnFalse};
 ghost use Rattle.json_text.specs.Canonical.{canonical_byte};
 ghost use Rattle.sale_reply.specs.inner.ShownByte.{shown_byte};
@@ -22,10 +22,25 @@ pub(crate) fn plain_len(bytes: &[u8]) -> usize
         }
         len += LANES;
     }
-    while len < bytes.len() && !is_escaped(bytes[len]) {
-        len += 1;
+    len + plain_rest_len(&bytes[len..])
+}
+
+/// How many of fewer bytes than there are lanes need no escape, at the beginning: they are tested at once, with spaces
+/// after them.
+#[inline(always)]
+fn plain_rest_len(rest: &[u8]) -> usize
+    requires { length rest.now < 16 }
+    ensures within { result ≤ length rest.now }
+    ensures plain { flat_map canonical_byte (take result rest.now) ≡ take result rest.now }
+{
+    let mut lanes = [b' '; LANES];
+    lanes[..rest.len()].copy_from_slice(rest);
+    let plain = plain_lanes(u8x16::from_array(lanes));
+    if plain < rest.len() {
+        plain
+    } else {
+        rest.len()
     }
-    len
 }
 
 /// How many lanes at the beginning need no escape; more than there are where none of them has to be escaped.
@@ -37,13 +52,6 @@ fn plain_lanes(lanes: u8x16) -> usize
         | lanes.simd_eq(u8x16::splat(b'\\'))
         | lanes.simd_lt(u8x16::splat(0x20));
     escaped.to_bitmask().trailing_zeros() as usize
-}
-
-/// Whether a byte of a string has to be escaped (RFC 8259, section 7).
-fn is_escaped(byte: u8) -> bool
-    ensures { OnFalse result (canonical_byte byte ≡ byte ∷ []) }
-{
-    byte == b'"' || byte == b'\\' || byte < 32
 }
 
 /// How many bytes at the beginning of a terminal's line are written as themselves: they are printable ASCII, and need no

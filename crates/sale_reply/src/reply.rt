@@ -19,14 +19,14 @@ pub struct PoiMark {
 }
 
 /// A result: Success without a condition, else Failure. The path is that of the member at fault.
-#[derive(Clone, Copy, Debug, PartialEq, Eq)]
+#[derive(Clone, Copy, PartialEq, Eq)]
 pub struct Verdict {
     pub condition: Option<Condition>,
     pub path: Option<Ident<100>>,
 }
 
 /// The result body of a finished payment, reversal or reconciliation.
-#[derive(Clone, Copy, Debug, PartialEq, Eq)]
+#[derive(Clone, Copy, PartialEq, Eq)]
 pub enum Told {
     PaymentApproved {
         transaction: Ident<80>,
@@ -104,7 +104,7 @@ impl ReplyResult {
 }
 
 /// The result of one output of a display.
-#[derive(Clone, Copy, Debug, PartialEq, Eq)]
+#[derive(Clone, Copy, PartialEq, Eq)]
 pub struct Shown {
     pub device: Ident<40>,
     pub qualify: Ident<40>,
@@ -138,7 +138,7 @@ impl GlobalStatus {
 }
 
 /// Why a message was rejected.
-#[derive(Clone, Copy, Debug, PartialEq, Eq)]
+#[derive(Clone, Copy, PartialEq, Eq)]
 pub enum Detail {
     Json(JsonFault),
     /// The path of the member of the header that is absent or of another form.

@@ -18,6 +18,3 @@ pub use names::{Class, Kind, Period, law_names};
 pub use outputs::{Outputs, Texts};
 pub use part::{Part, header_parts};
 pub use request::{Incoming, Output, PaymentAsk, Reference, ReversalAsk, SaleRequest};
-
-#[cfg(test)]
-mod tests;

@@ -6,7 +6,7 @@ use gw_base::Text;
 use std::marker::Model;
 
 /// The texts of one output, in order. A contract sees a list of byte lists.
-#[derive(Clone, Debug, Drop)]
+#[derive(Clone, Drop)]
 pub struct Texts {
     inner: Vec<Text>,
 }
@@ -43,7 +43,7 @@ impl Texts {
 }
 
 /// The outputs of a Display request, in order. A contract sees a list.
-#[derive(Clone, Debug, Drop)]
+#[derive(Clone, Drop)]
 pub struct Outputs {
     inner: Vec<Output>,
 }

@@ -12,7 +12,7 @@ use crate::Header;
 use gw_base::Ident;
 
 /// A part of a written message.
-#[derive(Clone, Copy, Debug)]
+#[derive(Clone, Copy)]
 pub enum Part<'a> {
     /// Bytes as they are.
     Raw(&'a [u8]),

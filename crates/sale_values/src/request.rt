@@ -3,7 +3,7 @@ use crate::{Header, Outputs, Period, Texts};
 use gw_base::{Ident, Key, Text};
 
 /// A Payment request.
-#[derive(Clone, Debug, Drop)]
+#[derive(Clone, Drop)]
 pub struct PaymentAsk {
     /// The till's `TransactionID`.
     pub transaction: Ident<80>,
@@ -18,7 +18,7 @@ pub struct PaymentAsk {
 }
 
 /// A Reversal request.
-#[derive(Clone, Copy, PartialEq, Eq, Debug)]
+#[derive(Clone, Copy, PartialEq, Eq)]
 pub struct ReversalAsk {
     /// The `TransactionID` of the original's `POITransactionID`.
     pub transaction: Ident<80>,
@@ -27,7 +27,7 @@ pub struct ReversalAsk {
 }
 
 /// nexo's `MessageReference`: another message, by its `ServiceID`, `SaleID` and `POIID`.
-#[derive(Clone, Copy, PartialEq, Eq, Debug)]
+#[derive(Clone, Copy, PartialEq, Eq)]
 pub struct Reference {
     pub service: Ident<10>,
     /// Absent, it is that of the header beside it.
@@ -53,7 +53,7 @@ impl Reference {
 }
 
 /// One output of a Display request.
-#[derive(Clone, Debug, Drop)]
+#[derive(Clone, Drop)]
 pub struct Output {
     /// Where it is to be shown, such as `CustomerDisplay`.
     pub device: Ident<40>,
@@ -66,7 +66,7 @@ pub struct Output {
 }
 
 /// A request, by its category.
-#[derive(Clone, Debug, Drop)]
+#[derive(Clone, Drop)]
 pub enum SaleRequest {
     Login,
     Logout,
@@ -83,7 +83,7 @@ pub enum SaleRequest {
 }
 
 /// A message of a till.
-#[derive(Clone, Debug, Drop)]
+#[derive(Clone, Drop)]
 pub enum Incoming {
     Request(Header, SaleRequest),
     /// A response or a notification, which gets no reply.

@@ -7,14 +7,14 @@ use gw_site::SharedBytes;
 use std::alloc::{AllocError, Global};
 
 /// A script: what its setup lines give, and the lines that are played.
-#[derive(Debug, Drop)]
+#[derive(Drop)]
 pub struct Script {
     pub given: Given,
     pub lines: Vec<ScriptLine>,
 }
 
 /// What the setup lines give: each of the first four where a line gives it, and the terminals in order.
-#[derive(Debug, Drop)]
+#[derive(Drop)]
 pub struct Given {
     /// The gateway's name.
     pub name: Option<Ident<40>>,
@@ -28,7 +28,7 @@ pub struct Given {
 }
 
 /// A setup line.
-#[derive(Debug, Drop)]
+#[derive(Drop)]
 pub enum SetupLine {
     Name(Ident<40>),
     Queue(u8),
@@ -38,7 +38,7 @@ pub enum SetupLine {
 }
 
 /// A line that is played.
-#[derive(Debug, Drop)]
+#[derive(Drop)]
 pub enum ScriptLine {
     /// The moment of later polls, in seconds since 1970-01-01T00:00:00Z.
     At(i64),
@@ -51,7 +51,7 @@ pub enum ScriptLine {
 }
 
 /// What a poll brings.
-#[derive(Debug, Drop)]
+#[derive(Drop)]
 pub enum ScriptEvent {
     /// The till of this number opens its connection.
     Open(u64),
@@ -68,7 +68,7 @@ pub enum ScriptEvent {
 }
 
 /// A call that fails.
-#[derive(Clone, Copy, Debug)]
+#[derive(Clone, Copy)]
 pub enum FailingCall {
     Open,
     Link(u16),
@@ -83,7 +83,7 @@ pub enum FailingCall {
 }
 
 /// What a power failure leaves of the file.
-#[derive(Clone, Copy, Debug)]
+#[derive(Clone, Copy)]
 pub enum ImageKind {
     /// The file of the last sync.
     Old,
@@ -94,7 +94,7 @@ pub enum ImageKind {
 }
 
 /// What comes at once: 1 to 4,096 bytes.
-#[derive(Debug, Drop)]
+#[derive(Drop)]
 pub struct Chunk {
     bytes: SharedBytes,
     pub ghost within: { IsCount (length bytes) },

@@ -13,7 +13,7 @@ use std::alloc::{AllocError, Global};
 use std::collections::BTreeSet;
 
 /// The connections of a run, by their numbers.
-#[derive(Debug, Drop)]
+#[derive(Drop)]
 pub(crate) struct Connections {
     pub(crate) tills: BTreeSet<u64>,
     /// The till of the run that opened last.

@@ -12,14 +12,14 @@ use sim_script::ImageKind;
 use std::alloc::{AllocError, Global};
 
 /// A range of bytes that was written.
-#[derive(Clone, Copy, Debug)]
+#[derive(Clone, Copy)]
 pub(crate) struct Written {
     pub(crate) offset: usize,
     pub(crate) size: usize,
 }
 
 /// The disk.
-#[derive(Debug, Drop)]
+#[derive(Drop)]
 pub(crate) struct Disk {
     pub(crate) file: Vec<u8>,
     /// The file of the last sync or power failure.

@@ -9,14 +9,14 @@ use std::alloc::{AllocError, Global};
 use std::collections::{BTreeMap, BTreeSet};
 
 /// The power fails after so many more calls, at least one, and leaves this.
-#[derive(Clone, Copy, Debug)]
+#[derive(Clone, Copy)]
 pub(crate) struct Armed {
     pub(crate) calls: u64,
     pub(crate) kind: ImageKind,
 }
 
 /// The next calls of these kinds fail.
-#[derive(Debug, Drop)]
+#[derive(Drop)]
 pub(crate) struct Hazard {
     pub(crate) open: bool,
     /// Of these terminals.

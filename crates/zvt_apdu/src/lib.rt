@@ -28,6 +28,3 @@ pub use laws::{
     law_shorter,
 };
 pub use reader::ApduReader;
-
-#[cfg(test)]
-mod tests;

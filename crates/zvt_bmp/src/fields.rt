@@ -63,7 +63,7 @@ impl fmt::Display for FieldFault {
 impl Error for FieldFault {}
 
 /// What is known of the fields read so far.
-#[derive(Clone, Copy, Debug, PartialEq, Eq)]
+#[derive(Clone, Copy, PartialEq, Eq)]
 pub(crate) struct FieldsSoFar {
     pub(crate) fields: Fields,
     /// A receipt number was there, in digits or not: one that isn't in digits leaves no value, and still may not come

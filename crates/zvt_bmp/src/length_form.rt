@@ -10,7 +10,7 @@ ghost use Rattle.zvt_tlv.specs.Decode.{decode_tlv_length};
 use zvt_tlv::tlv_length;
 
 /// The form of the length of a field's value.
-#[derive(Clone, Copy, Debug, PartialEq, Eq)]
+#[derive(Clone, Copy, PartialEq, Eq)]
 pub(crate) enum LengthForm {
     /// Always so many bytes.
     Fixed(usize),
@@ -45,7 +45,7 @@ impl LengthForm {
 }
 
 /// Why bytes begin with no length, or with no value after it.
-#[derive(Clone, Copy, Debug, PartialEq, Eq)]
+#[derive(Clone, Copy, PartialEq, Eq)]
 pub(crate) enum LengthFault {
     /// A byte that no length of this form has there.
     Wrong,

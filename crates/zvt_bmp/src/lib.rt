@@ -18,6 +18,3 @@ pub use fields::{FieldFault, Fields, read_fields};
 pub use laws::{law_decode_status, law_fields_fit, law_read_again};
 pub use length_form::digit_of;
 pub use writing::write_fields;
-
-#[cfg(test)]
-mod tests;

@@ -40,6 +40,3 @@ pub use message_writing::write_pt;
 pub use zvt_apdu::Apdu;
 pub use zvt_bmp::{FieldFault, Fields};
 pub use zvt_tlv::TlvFault;
-
-#[cfg(test)]
-mod tests;

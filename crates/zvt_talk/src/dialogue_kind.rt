@@ -5,7 +5,7 @@ ghost use Rattle.zvt_talk.specs.Dialogue.{is_display, dialogue_kind_of};
 use zvt_msg::Command;
 
 /// Which dialogue it is.
-#[derive(Clone, Copy, Debug, PartialEq, Eq)]
+#[derive(Clone, Copy, PartialEq, Eq)]
 pub(crate) enum DialogueKind {
     /// `06 00`
     Registration,

@@ -26,6 +26,3 @@ pub use laws::{
 };
 pub use meaning::Heard;
 pub use talk::Talk;
-
-#[cfg(test)]
-mod tests;

@@ -8,7 +8,7 @@ use crate::dialogue_kind::DialogueKind;
 use crate::statuses::Statuses;
 use zvt_msg::PtMessage;
 
-#[derive(Clone, Copy, Debug, PartialEq, Eq)]
+#[derive(Clone, Copy, PartialEq, Eq)]
 pub(crate) enum Phase {
     /// The terminal has not acknowledged the command.
     Asked {

@@ -8,7 +8,7 @@ use gw_base::Figures;
 use zvt_bmp::Fields;
 
 /// The statuses heard so far.
-#[derive(Clone, Copy, Debug, PartialEq, Eq)]
+#[derive(Clone, Copy, PartialEq, Eq)]
 pub(crate) struct Statuses {
     pub(crate) last: Option<Fields>,
     /// One of them had the result 00.

@@ -16,7 +16,7 @@ use zvt_msg::{Command, PtMessage};
 
 /// One dialogue: a command that was sent, and the few facts that are remembered of what came since. The messages themselves
 /// aren't, so that a dialogue takes no memory, however long it lasts; the contracts speak of all that came.
-#[derive(Clone, Copy, Debug, PartialEq, Eq)]
+#[derive(Clone, Copy, PartialEq, Eq)]
 pub struct Talk {
     dialogue_kind: DialogueKind,
     /// The result code by which the terminal reports to an enquiry that it has no transaction.

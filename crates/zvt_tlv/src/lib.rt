@@ -21,6 +21,3 @@ pub use laws::{
 };
 pub use object::{Object, tlv_length, write_object};
 pub use tlv::Tlv;
-
-#[cfg(test)]
-mod tests;

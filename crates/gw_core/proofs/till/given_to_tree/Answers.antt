@@ -9,14 +9,14 @@ use Rattle.gw_core.proofs.OutputLemmas.{few-outputs}
 use Rattle.gw_core.proofs.ReplyLemmas.{replied}
 use Rattle.gw_core.proofs.till.given_to_tree.Goals as goal
 
-pub asked-requires : goal.asked-requires
-asked-requires c = few-outputs (value_of c.args.json.now) c.in-Ok-Request.header c.in-Ok-Request.request (subst (IsTillMessage (value_of c.args.json.now)) c.in-Ok-Request.field-0-is c.in-Ok-Request.ensures.ok)
+pub given_to_request-requires : goal.given_to_request-requires
+given_to_request-requires c = few-outputs (value_of c.args.json.now) c.in-Ok-Request.header c.in-Ok-Request.request (subst (IsTillMessage (value_of c.args.json.now)) c.in-Ok-Request.field-0-is c.in-Ok-Request.ensures.ok)
 
 pub returns-in-Ok-Request : goal.returns-in-Ok-Request
 returns-in-Ok-Request c = λ message spelled.
     replied c.args.gateway.now c.args.ledger.now.records c.args.core.now (moment_of c.args.now) message (Request c.in-Ok-Request.header c.in-Ok-Request.request) _
     (record { tree = value_of c.args.json.now; spelled = spelled; read = subst (IsTillMessage (value_of c.args.json.now)) c.in-Ok-Request.field-0-is c.in-Ok-Request.ensures.ok })
-    (λ known at. c.asked.ensures known (rw (to_z-of_z, c.ranges.now) at))
+    (λ known at. c.given_to_request.ensures known (rw (to_z-of_z, c.ranges.now) at))
 
 pub returns-in-Ok-Silent : goal.returns-in-Ok-Silent
 returns-in-Ok-Silent c = λ message spelled. record {

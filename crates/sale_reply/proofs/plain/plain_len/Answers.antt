@@ -1,7 +1,8 @@
 -- Proof of the contract of `plain_len`.
-use Rattle.std.proofs.Common.{rules, arith}
+use Rattle.std.proofs.Common.{arith}
+use Rattle.std.proofs.lemmas.List.{take_rest}
 use Rattle.json_text.specs.Canonical.{canonical_byte}
-use Rattle.sale_reply.proofs.PlainLemmas.{one_more_plain, lanes_after, all_lanes_after}
+use Rattle.sale_reply.proofs.PlainLemmas.{lanes_after, all_lanes_after, rest_after}
 use Rattle.sale_reply.proofs.plain.plain_len.Goals as goal
 
 pub returns-then-plain-lt-LANES-clause-plain : goal.returns-then-plain-lt-LANES-clause-plain
@@ -14,8 +15,7 @@ loop-len-preserved c = record {
   plain = all_lanes_after canonical_byte c.args.bytes.now c.loop-len.len c.plain_lanes-plain.result (omega (arith, c.loop-len-test.true, c.loop-len.invariant.within)) (omega (arith, c.if-plain-lt-LANES.false)) c.loop-len.invariant.plain c.plain_lanes-plain.ensures;
 }
 
-pub loop-len-2-preserved : goal.loop-len-2-preserved
-loop-len-2-preserved c = record {
-  within = omega (arith, c.loop-len-2-test.true);
-  plain = one_more_plain canonical_byte c.args.bytes.now c.loop-len-2.len c.loop-len-2-test.true (search rules) c.loop-len-2.invariant.plain;
-}
+pub returns-clause-plain : goal.returns-clause-plain
+returns-clause-plain c =
+    let bytes = c.args.bytes.now in
+    rest_after canonical_byte bytes c.loop-len.len c.plain_rest_len.result c.loop-len.invariant.plain (rw (take_rest bytes c.loop-len.len) at c.plain_rest_len.ensures.plain)

@@ -12,12 +12,3 @@ invariant-loop-len l = record {
 
 abbrev pub decreases-loop-len : goal.decreases-loop-len
 decreases-loop-len l = length l.bytes - l.len
-
-abbrev pub invariant-loop-len-2 : goal.invariant-loop-len-2
-invariant-loop-len-2 l = record {
-  within : l.len ≤ length l.bytes;
-  plain : ArePlain canonical_byte (take l.len l.bytes);
-}
-
-abbrev pub decreases-loop-len-2 : goal.decreases-loop-len-2
-decreases-loop-len-2 l = length l.bytes - l.len
