@@ -7,6 +7,7 @@
 #![tactic(auto)]
 
 use anyhow::{Context, anyhow, bail};
+use gw_base::Bytes;
 use gw_site::{Failed, SharedBytes, Site, Turn, What};
 use sim_script::ScriptFault;
 use sim_site::SimSite;
@@ -62,7 +63,7 @@ fn open_at_once(alloc: Global, lines: u64) -> Result<String, AllocError> {
 
 /// A site that plays the script.
 fn site_of(alloc: Global, script: &str) -> anyhow::Result<SimSite> {
-    match SimSite::from_script(alloc, script.as_bytes()) {
+    match SimSite::from_script(alloc, &Bytes::copied(alloc, script.as_bytes())?) {
         Ok(site) => Ok(site),
         Err(ScriptFault::Long) => Err(anyhow!("a script too long")),
         Err(ScriptFault::Line { line }) => Err(anyhow!("line {line} of the script")),

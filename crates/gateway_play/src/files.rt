@@ -7,6 +7,7 @@ ghost use Rattle.std.specs.Prelude.{◌≡◌, [], IfOk};
 ghost use Rattle.sim_site.specs.Sites.{log_of};
 
 use crate::replay::check_text;
+use gw_base::Bytes;
 use gw_run::{run, write_log};
 use gw_site::MemSink;
 use row_texts::{file_of, push_form};
@@ -20,7 +21,7 @@ use std::test::Fail;
 fn new_site(alloc: Global, script: &str) -> Result<SimSite, Fail>
     ensures { IfOk result (λ site. log_of site ≡ []) }
 {
-    match SimSite::from_script(alloc, script.as_bytes()) {
+    match SimSite::from_script(alloc, &Bytes::copied(alloc, script.as_bytes())?) {
         Ok(site) => Ok(site),
         Err(_) => Err(Fail::from("no script")),
     }

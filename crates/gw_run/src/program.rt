@@ -21,7 +21,7 @@ use crate::last_lines::write_last_lines;
 use crate::replay::play;
 use crate::serving::serve;
 use crate::words::{Mode, order_of};
-use gw_base::Text;
+use gw_base::{Bytes, Text};
 use gw_books::law_headline;
 use gw_bytes::LONGEST_SCRIPT;
 use gw_site::{Sink, Site, Source};
@@ -31,7 +31,7 @@ use std::alloc::{AllocError, Global};
 use std::mem;
 
 /// The site that plays the script of this text; else what is reported of the text.
-fn site_of(alloc: Global, text: &[u8]) -> Result<SimSite, Ending>
+fn site_of(alloc: Global, text: &Bytes) -> Result<SimSite, Ending>
     requires within { length text.now ≤ script_limit }
     ensures fresh { IfOk result (λ site. IsFresh (sim_observed site) text.now (played_script site)) }
     ensures script { IfOk result (λ site. script_of text.now ≡ Ok (played_script site)) }
@@ -52,7 +52,7 @@ fn site_of_input(alloc: Global, text: Vec<u8>) -> Result<SimSite, Ending>
     ensures script { IfOk result (λ site. script_of text.items ≡ Ok (played_script site)) }
     ensures fault { IfErr result (IsTextFault text.items) }
 {
-    site_of(alloc, &text)
+    site_of(alloc, &Bytes::new(text))
 }
 
 /// Plays the script of this text, or reports what is wrong with it.

@@ -7,6 +7,7 @@ use sale_reply::{
     is_within_limits, write_reply,
 };
 use sale_values::{Class, Header, Kind, Period};
+use std::alloc::Global;
 use std::process::Abort;
 use std::test::Fail;
 
@@ -97,7 +98,7 @@ const REJECT: &str =
     r#"{"SaleToPOIRequest":{"MessageHeader":{"ProtocolVersion":"3.0","MessageClass":"Event","MessageCategory":"Event","MessageType":"Notification","SaleID":"0","POIID":"GATEWAY"},"EventNotification":{"TimeStamp":"1970-01-01T00:00:00Z","EventToNotify":"Reject","EventDetails":"header SaleToPOIRequest"}}}"#;
 
 #[test]
-fn replies(rt: HostRuntime) -> Result<(), Fail> {
+fn replies_to_payments(rt: HostRuntime) -> Result<(), Fail> {
     let mut out = Out::new(rt.alloc())?;
     let payment = header(Class::Service, b"Payment", Kind::Response).ok_or("printable")?;
     let reported = SaleReply::Told {
@@ -113,7 +114,13 @@ fn replies(rt: HostRuntime) -> Result<(), Fail> {
         },
     };
     is_written_as(&rt, &mut out, &failed, FAILED);
-    // The example of `sale_reply`'s documentation.
+    Ok(())
+}
+
+/// The first is the example of `sale_reply`'s documentation.
+#[test]
+fn replies_without_results(rt: HostRuntime) -> Result<(), Fail> {
+    let mut out = Out::new(rt.alloc())?;
     let logged_in = SaleReply::Plain {
         header: header(Class::Service, b"Login", Kind::Response).ok_or("printable")?,
         verdict: Verdict {
@@ -130,35 +137,49 @@ fn replies(rt: HostRuntime) -> Result<(), Fail> {
     Ok(())
 }
 
-#[test]
-fn outcomes(rt: HostRuntime) -> Result<(), Fail> {
-    let mut out = Out::new(rt.alloc())?;
-    let mark = PoiMark {
+/// A payment that was declined.
+fn declined() -> Option<Told> {
+    Some(Told::PaymentDeclined {
+        transaction: Ident::of(b"27908")?,
+        stamp: Ident::of(b"2025-03-07T10:11:04+00:00")?,
+        mark: mark_at(0),
+        condition: Condition::Aborted,
+    })
+}
+
+/// What the gateway says of an entry at this slot.
+fn mark_at(slot: u32) -> PoiMark {
+    PoiMark {
         number: 124,
         receipt: 18,
-        slot: 2,
+        slot,
         moment: 1_741_342_264,
-    };
-    let first = Header {
-        service: Ident::of(b"7"),
-        ..header(Class::Service, b"Payment", Kind::Response).ok_or("printable")?
-    };
+    }
+}
+
+#[test]
+fn a_repeated_reply(rt: HostRuntime) -> Result<(), Fail> {
+    let mut out = Out::new(rt.alloc())?;
+    let first = header(Class::Service, b"Payment", Kind::Response).ok_or("printable")?;
     let status = SaleReply::Status {
         header: header(Class::Service, b"TransactionStatus", Kind::Response).ok_or("printable")?,
-        repeated: first,
-        told: Told::PaymentDeclined {
-            transaction: Ident::of(b"27908").ok_or("printable")?,
-            stamp: Ident::of(b"2025-03-07T10:11:04+00:00").ok_or("printable")?,
-            mark: PoiMark { slot: 0, ..mark },
-            condition: Condition::Aborted,
+        repeated: Header {
+            service: Ident::of(b"7"),
+            ..first
         },
+        told: declined().ok_or("printable")?,
     };
     is_written_as(&rt, &mut out, &status, STATUS);
-    let reversal = header(Class::Service, b"Reversal", Kind::Response).ok_or("printable")?;
+    Ok(())
+}
+
+#[test]
+fn an_approved_reversal(rt: HostRuntime) -> Result<(), Fail> {
+    let mut out = Out::new(rt.alloc())?;
     let reversed = SaleReply::Told {
-        header: reversal,
+        header: header(Class::Service, b"Reversal", Kind::Response).ok_or("printable")?,
         told: Told::ReversalApproved {
-            mark,
+            mark: mark_at(2),
             reversed: Money {
                 minor: 1099,
                 currency: Currency::Eur,
@@ -166,14 +187,26 @@ fn outcomes(rt: HostRuntime) -> Result<(), Fail> {
         },
     };
     is_written_as(&rt, &mut out, &reversed, REVERSED);
+    Ok(())
+}
+
+#[test]
+fn a_declined_reversal(rt: HostRuntime) -> Result<(), Fail> {
+    let mut out = Out::new(rt.alloc())?;
     let unreversed = SaleReply::Told {
-        header: reversal,
+        header: header(Class::Service, b"Reversal", Kind::Response).ok_or("printable")?,
         told: Told::ReversalDeclined {
-            mark,
+            mark: mark_at(2),
             condition: Condition::NotAllowed,
         },
     };
     is_written_as(&rt, &mut out, &unreversed, UNREVERSED);
+    Ok(())
+}
+
+#[test]
+fn totals(rt: HostRuntime) -> Result<(), Fail> {
+    let mut out = Out::new(rt.alloc())?;
     let totals = SaleReply::Told {
         header: header(Class::Service, b"Reconciliation", Kind::Response).ok_or("printable")?,
         told: Told::Reconciled {
@@ -228,59 +261,85 @@ fn numbers_past_their_digits(rt: HostRuntime) -> Result<(), Fail> {
     Ok(())
 }
 
-#[test]
-fn devices(rt: HostRuntime) -> Result<(), Fail> {
-    let mut out = Out::new(rt.alloc())?;
-    let display = Header {
-        device: Ident::of(b"9"),
-        ..header(Class::Device, b"Display", Kind::Response).ok_or("printable")?
-    };
-    let unavailable = Verdict {
+/// A device is not there.
+fn unavailable() -> Verdict {
+    Verdict {
         condition: Some(Condition::UnavailableDevice),
         path: None,
-    };
-    let mut outputs = Vec::new(rt.alloc());
-    let customer = Shown {
+    }
+}
+
+/// An output that was shown at this device.
+fn output_at(device: &[u8]) -> Option<Shown> {
+    Some(Shown {
         verdict: Verdict {
             condition: None,
             path: None,
         },
-        device: Ident::of(b"CustomerDisplay").ok_or("printable")?,
-        qualify: Ident::of(b"Display").ok_or("printable")?,
-    };
-    let cashier = Shown {
-        device: Ident::of(b"CashierDisplay").ok_or("printable")?,
-        ..customer
-    };
-    outputs.push(customer)?;
-    outputs.push(cashier)?;
+        device: Ident::of(device)?,
+        qualify: Ident::of(b"Display")?,
+    })
+}
+
+/// Two outputs, of which the second was not shown.
+fn two_outputs(alloc: Global) -> Result<OutputResults, Fail> {
+    let mut outputs = Vec::new(alloc);
+    outputs.push(output_at(b"CustomerDisplay").ok_or("printable")?)?;
+    outputs.push(output_at(b"CashierDisplay").ok_or("printable")?)?;
     let mut outputs = OutputResults::new(outputs);
-    outputs.set_verdict(1, unavailable);
+    outputs.set_verdict(1, unavailable());
+    Ok(outputs)
+}
+
+#[test]
+fn outputs_of_a_display(rt: HostRuntime) -> Result<(), Fail> {
+    let mut out = Out::new(rt.alloc())?;
+    let display = header(Class::Device, b"Display", Kind::Response).ok_or("printable")?;
     let displayed = SaleReply::Display {
-        header: display,
-        outputs,
+        header: Header {
+            device: Ident::of(b"9"),
+            ..display
+        },
+        outputs: two_outputs(rt.alloc())?,
     };
     is_written_as(&rt, &mut out, &displayed, SHOWN);
+    Ok(())
+}
+
+#[test]
+fn a_document_not_printed(rt: HostRuntime) -> Result<(), Fail> {
+    let mut out = Out::new(rt.alloc())?;
     let printed = SaleReply::Print {
         header: header(Class::Device, b"Print", Kind::Response).ok_or("printable")?,
         qualifier: Ident::of(b"Document").ok_or("printable")?,
-        verdict: unavailable,
+        verdict: unavailable(),
     };
     is_written_as(&rt, &mut out, &printed, PRINTED);
     Ok(())
 }
 
+/// The header of a request to a device of the till.
+fn device_header(category: &[u8]) -> Option<Header> {
+    Some(Header {
+        device: Ident::of(b"0"),
+        ..header(Class::Device, category, Kind::Request)?
+    })
+}
+
 #[test]
-fn device_requests_and_events(rt: HostRuntime) -> Result<(), Fail> {
+fn a_display_request(rt: HostRuntime) -> Result<(), Fail> {
     let mut out = Out::new(rt.alloc())?;
     let show = SaleReply::DisplayRequest {
-        header: Header {
-            device: Ident::of(b"0"),
-            ..header(Class::Device, b"Display", Kind::Request).ok_or("printable")?
-        },
+        header: device_header(b"Display").ok_or("printable")?,
         code: 0x0A,
     };
     is_written_as(&rt, &mut out, &show, SHOW);
+    Ok(())
+}
+
+#[test]
+fn a_print_request(rt: HostRuntime) -> Result<(), Fail> {
+    let mut out = Out::new(rt.alloc())?;
     let lines = [
         [0x84, 0xFF].as_slice(),
         b"".as_slice(),
@@ -288,13 +347,16 @@ fn device_requests_and_events(rt: HostRuntime) -> Result<(), Fail> {
         b"Kartenzahlung \x84 und \"mehr\" als sechzehn\x1F Zeichen in einer Zeile".as_slice(),
     ];
     let paper = SaleReply::PrintRequest {
-        header: Header {
-            device: Ident::of(b"0"),
-            ..header(Class::Device, b"Print", Kind::Request).ok_or("printable")?
-        },
+        header: device_header(b"Print").ok_or("printable")?,
         lines: &lines,
     };
     is_written_as(&rt, &mut out, &paper, PAPER);
+    Ok(())
+}
+
+#[test]
+fn an_event(rt: HostRuntime) -> Result<(), Fail> {
+    let mut out = Out::new(rt.alloc())?;
     let reject = SaleReply::Reject {
         sale: Ident::of(b"0").ok_or("printable")?,
         poi: Ident::of(b"GATEWAY").ok_or("printable")?,

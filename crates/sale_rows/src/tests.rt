@@ -63,22 +63,24 @@ fn amount_of(alloc: Global, text: &str) -> Option<u64> {
     }
 }
 
+/// Amounts of a Payment, and the minor units that each is.
+const AMOUNTS: &[(&str, Option<u64>)] = &[
+    ("10.9", Some(1090)),
+    ("10.900", Some(1090)),
+    ("10", Some(1000)),
+    ("9999999999.99", Some(999_999_999_999)),
+    ("0", None),
+    ("10.995", None),
+    ("1e1", None),
+    ("-1", None),
+    ("10000000000", None),
+    ("\"10\"", None),
+];
+
 #[test]
 fn amounts(rt: HostRuntime) -> Result<(), Fail> {
     let alloc = rt.alloc();
-    let rows = [
-        ("10.9", Some(1090)),
-        ("10.900", Some(1090)),
-        ("10", Some(1000)),
-        ("9999999999.99", Some(999_999_999_999)),
-        ("0", None),
-        ("10.995", None),
-        ("1e1", None),
-        ("-1", None),
-        ("10000000000", None),
-        ("\"10\"", None),
-    ];
-    for (amount_text, units) in rows {
+    for &(amount_text, units) in AMOUNTS {
         let body = payment(alloc, amount_text)?;
         let text = request(alloc, "Payment", body.as_str())?;
         let read = amount_of(alloc, text.as_str());
@@ -122,73 +124,77 @@ fn usual_payment(rt: HostRuntime) -> Result<(), Fail> {
     Ok(())
 }
 
+/// A header without faults.
+const HEADER: &str =
+    "{\"MessageClass\":\"Service\",\"MessageCategory\":\"Diagnosis\",\"MessageType\":\"Request\",\"ServiceID\":\"1\",\"SaleID\":\"S1\",\"POIID\":\"T1\"}";
+
+/// Headers under an envelope, and what is reported of each.
+const HEADERS: &[(&str, &str, &str)] = &[
+    ("SaleToPOIRequest", HEADER, "Request"),
+    ("SaleToPOIResponse", HEADER, "Silent"),
+    ("SaleToPOIEvent", HEADER, "NoHeader SaleToPOIRequest"),
+    ("SaleToPOIRequest", "null", "NoHeader MessageHeader"),
+    (
+        "SaleToPOIResponse",
+        "{}",
+        "NoHeader MessageHeader.MessageClass",
+    ),
+    (
+        "SaleToPOIRequest",
+        "{\"ProtocolVersion\":\"4.0\"}",
+        "NoHeader MessageHeader.ProtocolVersion",
+    ),
+    (
+        "SaleToPOIRequest",
+        "{\"ProtocolVersion\":\"3.1\",\"MessageClass\":\"Service\"}",
+        "NoHeader MessageHeader.MessageCategory",
+    ),
+    (
+        "SaleToPOIRequest",
+        "{\"MessageClass\":\"Service\",\"MessageCategory\":\"Log in\"}",
+        "NoHeader MessageHeader.MessageCategory",
+    ),
+    (
+        "SaleToPOIRequest",
+        "{\"MessageClass\":\"Service\",\"MessageCategory\":\"Login\",\"MessageType\":\"Response\"}",
+        "NoHeader MessageHeader.MessageType",
+    ),
+    (
+        "SaleToPOIRequest",
+        "{\"MessageClass\":\"Service\",\"MessageCategory\":\"Login\",\"MessageType\":\"Request\"}",
+        "NoHeader MessageHeader.ServiceID",
+    ),
+    (
+        "SaleToPOIRequest",
+        "{\"MessageClass\":\"Device\",\"MessageCategory\":\"Login\",\"MessageType\":\"Request\"}",
+        "NoHeader MessageHeader.SaleID",
+    ),
+    (
+        "SaleToPOIRequest",
+        "{\"MessageClass\":\"Event\",\"MessageCategory\":\"Event\",\"MessageType\":\"Notification\",\"SaleID\":\"S1\",\"POIID\":\"T1\"}",
+        "Silent",
+    ),
+    (
+        "SaleToPOIRequest",
+        "{\"MessageClass\":\"Service\",\"MessageCategory\":\"Balance\",\"MessageType\":\"Request\",\"ServiceID\":\"1\",\"SaleID\":\"S1\",\"POIID\":\"T1\"}",
+        "Unserved",
+    ),
+    (
+        "SaleToPOIRequest",
+        "{\"MessageClass\":\"Device\",\"MessageCategory\":\"Diagnosis\",\"MessageType\":\"Request\",\"SaleID\":\"S1\",\"POIID\":\"T1\"}",
+        "Missing MessageHeader.ServiceID",
+    ),
+    (
+        "SaleToPOIRequest",
+        "{\"MessageClass\":\"Service\",\"MessageCategory\":\"Diagnosis\",\"MessageType\":\"Request\",\"ServiceID\":\"12345678901\"}",
+        "NoHeader MessageHeader.ServiceID",
+    ),
+];
+
 #[test]
 fn headers(rt: HostRuntime) -> Result<(), Fail> {
     let alloc = rt.alloc();
-    let good =
-        "{\"MessageClass\":\"Service\",\"MessageCategory\":\"Diagnosis\",\"MessageType\":\"Request\",\"ServiceID\":\"1\",\"SaleID\":\"S1\",\"POIID\":\"T1\"}";
-    let rows = [
-        ("SaleToPOIRequest", good, "Request"),
-        ("SaleToPOIResponse", good, "Silent"),
-        ("SaleToPOIEvent", good, "NoHeader SaleToPOIRequest"),
-        ("SaleToPOIRequest", "null", "NoHeader MessageHeader"),
-        (
-            "SaleToPOIResponse",
-            "{}",
-            "NoHeader MessageHeader.MessageClass",
-        ),
-        (
-            "SaleToPOIRequest",
-            "{\"ProtocolVersion\":\"4.0\"}",
-            "NoHeader MessageHeader.ProtocolVersion",
-        ),
-        (
-            "SaleToPOIRequest",
-            "{\"ProtocolVersion\":\"3.1\",\"MessageClass\":\"Service\"}",
-            "NoHeader MessageHeader.MessageCategory",
-        ),
-        (
-            "SaleToPOIRequest",
-            "{\"MessageClass\":\"Service\",\"MessageCategory\":\"Log in\"}",
-            "NoHeader MessageHeader.MessageCategory",
-        ),
-        (
-            "SaleToPOIRequest",
-            "{\"MessageClass\":\"Service\",\"MessageCategory\":\"Login\",\"MessageType\":\"Response\"}",
-            "NoHeader MessageHeader.MessageType",
-        ),
-        (
-            "SaleToPOIRequest",
-            "{\"MessageClass\":\"Service\",\"MessageCategory\":\"Login\",\"MessageType\":\"Request\"}",
-            "NoHeader MessageHeader.ServiceID",
-        ),
-        (
-            "SaleToPOIRequest",
-            "{\"MessageClass\":\"Device\",\"MessageCategory\":\"Login\",\"MessageType\":\"Request\"}",
-            "NoHeader MessageHeader.SaleID",
-        ),
-        (
-            "SaleToPOIRequest",
-            "{\"MessageClass\":\"Event\",\"MessageCategory\":\"Event\",\"MessageType\":\"Notification\",\"SaleID\":\"S1\",\"POIID\":\"T1\"}",
-            "Silent",
-        ),
-        (
-            "SaleToPOIRequest",
-            "{\"MessageClass\":\"Service\",\"MessageCategory\":\"Balance\",\"MessageType\":\"Request\",\"ServiceID\":\"1\",\"SaleID\":\"S1\",\"POIID\":\"T1\"}",
-            "Unserved",
-        ),
-        (
-            "SaleToPOIRequest",
-            "{\"MessageClass\":\"Device\",\"MessageCategory\":\"Diagnosis\",\"MessageType\":\"Request\",\"SaleID\":\"S1\",\"POIID\":\"T1\"}",
-            "Missing MessageHeader.ServiceID",
-        ),
-        (
-            "SaleToPOIRequest",
-            "{\"MessageClass\":\"Service\",\"MessageCategory\":\"Diagnosis\",\"MessageType\":\"Request\",\"ServiceID\":\"12345678901\"}",
-            "NoHeader MessageHeader.ServiceID",
-        ),
-    ];
-    for (envelope, header, reported) in rows {
+    for &(envelope, header, reported) in HEADERS {
         let text = headed(alloc, envelope, header)?;
         assert_eq!(rt;
             fault(alloc, text.as_str())?.as_str(),
@@ -202,112 +208,114 @@ fn headers(rt: HostRuntime) -> Result<(), Fail> {
     Ok(())
 }
 
+/// Bodies of requests by their category, and what is reported of each.
+const BODIES: &[(&str, &str, &str)] = &[
+    ("Login", "{}", "Request"),
+    ("Logout", "{\"any\":1}", "Request"),
+    ("Diagnosis", "[]", "Wrong DiagnosisRequest"),
+    ("Payment", "{}", "Missing PaymentRequest.SaleData"),
+    (
+        "Payment",
+        "{\"SaleData\":{},\"PaymentTransaction\":1}",
+        "Missing PaymentRequest.SaleData.SaleTransactionID",
+    ),
+    (
+        "Payment",
+        "{\"SaleData\":{\"SaleTransactionID\":{\"TransactionID\":\"1\",\"TimeStamp\":\"2\"}},\"PaymentTransaction\":{\"AmountsReq\":{\"Currency\":\"eur\"}}}",
+        "Wrong PaymentRequest.PaymentTransaction.AmountsReq.Currency",
+    ),
+    (
+        "Payment",
+        "{\"SaleData\":{\"SaleTransactionID\":{\"TransactionID\":\"1\",\"TimeStamp\":\"2\"}},\"PaymentTransaction\":{\"AmountsReq\":{\"Currency\":\"EUR\",\"RequestedAmount\":1}},\"PaymentData\":null}",
+        "Wrong PaymentRequest.PaymentData",
+    ),
+    (
+        "Reversal",
+        "{\"OriginalPOITransaction\":{\"POITransactionID\":{\"TransactionID\":\"000123-0017-0\"}},\"ReversalReason\":\"MerchantCancel\"}",
+        "Request",
+    ),
+    (
+        "Reversal",
+        "{\"OriginalPOITransaction\":{\"POITransactionID\":{\"TransactionID\":\"\"}}}",
+        "Wrong ReversalRequest.OriginalPOITransaction.POITransactionID.TransactionID",
+    ),
+    (
+        "Reversal",
+        "{\"OriginalPOITransaction\":{\"POITransactionID\":{\"TransactionID\":\"1\"}}}",
+        "Missing ReversalRequest.ReversalReason",
+    ),
+    (
+        "Abort",
+        "{\"MessageReference\":{\"ServiceID\":\"1\",\"MessageCategory\":5}}",
+        "Request",
+    ),
+    (
+        "Abort",
+        "{\"MessageReference\":{\"SaleID\":\"S1\"}}",
+        "Missing AbortRequest.MessageReference.ServiceID",
+    ),
+    (
+        "Abort",
+        "{\"MessageReference\":{\"ServiceID\":\"1\"},\"AbortReason\":1}",
+        "Wrong AbortRequest.AbortReason",
+    ),
+    ("TransactionStatus", "{}", "Request"),
+    (
+        "TransactionStatus",
+        "{\"MessageReference\":{}}",
+        "Missing TransactionStatusRequest.MessageReference.ServiceID",
+    ),
+    (
+        "TransactionStatus",
+        "{\"MessageReference\":{\"ServiceID\":\"1\",\"POIID\":7}}",
+        "Wrong TransactionStatusRequest.MessageReference.POIID",
+    ),
+    (
+        "Reconciliation",
+        "{\"ReconciliationType\":\"SaleReconciliation\"}",
+        "Request",
+    ),
+    (
+        "Reconciliation",
+        "{\"ReconciliationType\":\"Sale\"}",
+        "Wrong ReconciliationRequest.ReconciliationType",
+    ),
+    (
+        "Display",
+        "{\"DisplayOutput\":[]}",
+        "Wrong DisplayRequest.DisplayOutput",
+    ),
+    (
+        "Display",
+        "{\"DisplayOutput\":{\"Device\":\"CustomerDisplay\"}}",
+        "Missing DisplayRequest.DisplayOutput.InfoQualify",
+    ),
+    (
+        "Display",
+        "{\"DisplayOutput\":[{\"Device\":\"A\",\"InfoQualify\":\"B\",\"OutputContent\":{}},1]}",
+        "Wrong DisplayRequest.DisplayOutput",
+    ),
+    (
+        "Display",
+        "{\"DisplayOutput\":[{\"Device\":\"A\",\"InfoQualify\":\"B\",\"OutputContent\":{\"OutputFormat\":\"Text\",\"OutputText\":[{}]}},{}]}",
+        "Wrong DisplayRequest.DisplayOutput.OutputContent.OutputText",
+    ),
+    (
+        "Print",
+        "{\"PrintOutput\":{\"DocumentQualifier\":\"Document\"}}",
+        "Request",
+    ),
+    (
+        "Print",
+        "{\"PrintOutput\":{}}",
+        "Missing PrintRequest.PrintOutput.DocumentQualifier",
+    ),
+];
+
 #[test]
 fn bodies(rt: HostRuntime) -> Result<(), Fail> {
     let alloc = rt.alloc();
-    let rows = [
-        ("Login", "{}", "Request"),
-        ("Logout", "{\"any\":1}", "Request"),
-        ("Diagnosis", "[]", "Wrong DiagnosisRequest"),
-        ("Payment", "{}", "Missing PaymentRequest.SaleData"),
-        (
-            "Payment",
-            "{\"SaleData\":{},\"PaymentTransaction\":1}",
-            "Missing PaymentRequest.SaleData.SaleTransactionID",
-        ),
-        (
-            "Payment",
-            "{\"SaleData\":{\"SaleTransactionID\":{\"TransactionID\":\"1\",\"TimeStamp\":\"2\"}},\"PaymentTransaction\":{\"AmountsReq\":{\"Currency\":\"eur\"}}}",
-            "Wrong PaymentRequest.PaymentTransaction.AmountsReq.Currency",
-        ),
-        (
-            "Payment",
-            "{\"SaleData\":{\"SaleTransactionID\":{\"TransactionID\":\"1\",\"TimeStamp\":\"2\"}},\"PaymentTransaction\":{\"AmountsReq\":{\"Currency\":\"EUR\",\"RequestedAmount\":1}},\"PaymentData\":null}",
-            "Wrong PaymentRequest.PaymentData",
-        ),
-        (
-            "Reversal",
-            "{\"OriginalPOITransaction\":{\"POITransactionID\":{\"TransactionID\":\"000123-0017-0\"}},\"ReversalReason\":\"MerchantCancel\"}",
-            "Request",
-        ),
-        (
-            "Reversal",
-            "{\"OriginalPOITransaction\":{\"POITransactionID\":{\"TransactionID\":\"\"}}}",
-            "Wrong ReversalRequest.OriginalPOITransaction.POITransactionID.TransactionID",
-        ),
-        (
-            "Reversal",
-            "{\"OriginalPOITransaction\":{\"POITransactionID\":{\"TransactionID\":\"1\"}}}",
-            "Missing ReversalRequest.ReversalReason",
-        ),
-        (
-            "Abort",
-            "{\"MessageReference\":{\"ServiceID\":\"1\",\"MessageCategory\":5}}",
-            "Request",
-        ),
-        (
-            "Abort",
-            "{\"MessageReference\":{\"SaleID\":\"S1\"}}",
-            "Missing AbortRequest.MessageReference.ServiceID",
-        ),
-        (
-            "Abort",
-            "{\"MessageReference\":{\"ServiceID\":\"1\"},\"AbortReason\":1}",
-            "Wrong AbortRequest.AbortReason",
-        ),
-        ("TransactionStatus", "{}", "Request"),
-        (
-            "TransactionStatus",
-            "{\"MessageReference\":{}}",
-            "Missing TransactionStatusRequest.MessageReference.ServiceID",
-        ),
-        (
-            "TransactionStatus",
-            "{\"MessageReference\":{\"ServiceID\":\"1\",\"POIID\":7}}",
-            "Wrong TransactionStatusRequest.MessageReference.POIID",
-        ),
-        (
-            "Reconciliation",
-            "{\"ReconciliationType\":\"SaleReconciliation\"}",
-            "Request",
-        ),
-        (
-            "Reconciliation",
-            "{\"ReconciliationType\":\"Sale\"}",
-            "Wrong ReconciliationRequest.ReconciliationType",
-        ),
-        (
-            "Display",
-            "{\"DisplayOutput\":[]}",
-            "Wrong DisplayRequest.DisplayOutput",
-        ),
-        (
-            "Display",
-            "{\"DisplayOutput\":{\"Device\":\"CustomerDisplay\"}}",
-            "Missing DisplayRequest.DisplayOutput.InfoQualify",
-        ),
-        (
-            "Display",
-            "{\"DisplayOutput\":[{\"Device\":\"A\",\"InfoQualify\":\"B\",\"OutputContent\":{}},1]}",
-            "Wrong DisplayRequest.DisplayOutput",
-        ),
-        (
-            "Display",
-            "{\"DisplayOutput\":[{\"Device\":\"A\",\"InfoQualify\":\"B\",\"OutputContent\":{\"OutputFormat\":\"Text\",\"OutputText\":[{}]}},{}]}",
-            "Wrong DisplayRequest.DisplayOutput.OutputContent.OutputText",
-        ),
-        (
-            "Print",
-            "{\"PrintOutput\":{\"DocumentQualifier\":\"Document\"}}",
-            "Request",
-        ),
-        (
-            "Print",
-            "{\"PrintOutput\":{}}",
-            "Missing PrintRequest.PrintOutput.DocumentQualifier",
-        ),
-    ];
-    for (category, body, reported) in rows {
+    for &(category, body, reported) in BODIES {
         let text = request(alloc, category, body)?;
         assert_eq!(rt;
             fault(alloc, text.as_str())?.as_str(),
@@ -441,53 +449,55 @@ fn again(alloc: Global, text: &str) -> Result<Vec<u8>, AllocError> {
     Ok(out)
 }
 
+/// Bodies of requests by their category, as they are written.
+const WRITTEN: &[(&str, &str)] = &[
+    ("Login", "{}"),
+    ("Logout", "{}"),
+    ("Diagnosis", "{}"),
+    (
+        "Payment",
+        "{\"SaleData\":{\"SaleTransactionID\":{\"TransactionID\":\"27908\",\"TimeStamp\":\"2025-03-07T10:11:04+00:00\"}},\"PaymentTransaction\":{\"AmountsReq\":{\"Currency\":\"EUR\",\"RequestedAmount\":10.99}}}",
+    ),
+    (
+        "Payment",
+        "{\"SaleData\":{\"SaleTransactionID\":{\"TransactionID\":\"a\\\"b\",\"TimeStamp\":\"2\"}},\"PaymentTransaction\":{\"AmountsReq\":{\"Currency\":\"EUR\",\"RequestedAmount\":9999999999.99}},\"PaymentData\":{\"PaymentType\":\"\"}}",
+    ),
+    (
+        "Reversal",
+        "{\"OriginalPOITransaction\":{\"POITransactionID\":{\"TransactionID\":\"000123-0017-0\"}},\"ReversalReason\":\"MerchantCancel\"}",
+    ),
+    (
+        "Reversal",
+        "{\"OriginalPOITransaction\":{\"POITransactionID\":{\"TransactionID\":\"000123-0017-0\"}},\"ReversalReason\":\"MerchantCancel\",\"ReversedAmount\":0.07}",
+    ),
+    ("Abort", "{\"MessageReference\":{\"ServiceID\":\"1\"}}"),
+    (
+        "Abort",
+        "{\"MessageReference\":{\"ServiceID\":\"1\",\"SaleID\":\"S2\",\"POIID\":\"T2\"}}",
+    ),
+    ("TransactionStatus", "{}"),
+    (
+        "TransactionStatus",
+        "{\"MessageReference\":{\"ServiceID\":\"1\",\"POIID\":\"T2\"}}",
+    ),
+    (
+        "Reconciliation",
+        "{\"ReconciliationType\":\"PreviousReconciliation\"}",
+    ),
+    (
+        "Display",
+        "{\"DisplayOutput\":[{\"Device\":\"A\",\"InfoQualify\":\"B\",\"ResponseRequiredFlag\":true,\"OutputContent\":{\"OutputFormat\":\"Text\",\"OutputText\":[{\"Text\":\"Gr\u{fc}\u{df}e\"},{\"Text\":\"\"}]}},{\"Device\":\"C\",\"InfoQualify\":\"D\",\"ResponseRequiredFlag\":false,\"OutputContent\":{\"OutputFormat\":\"Text\"}}]}",
+    ),
+    (
+        "Print",
+        "{\"PrintOutput\":{\"DocumentQualifier\":\"Document\"}}",
+    ),
+];
+
 #[test]
 fn written(rt: HostRuntime) -> Result<(), Fail> {
     let alloc = rt.alloc();
-    let rows = [
-        ("Login", "{}"),
-        ("Logout", "{}"),
-        ("Diagnosis", "{}"),
-        (
-            "Payment",
-            "{\"SaleData\":{\"SaleTransactionID\":{\"TransactionID\":\"27908\",\"TimeStamp\":\"2025-03-07T10:11:04+00:00\"}},\"PaymentTransaction\":{\"AmountsReq\":{\"Currency\":\"EUR\",\"RequestedAmount\":10.99}}}",
-        ),
-        (
-            "Payment",
-            "{\"SaleData\":{\"SaleTransactionID\":{\"TransactionID\":\"a\\\"b\",\"TimeStamp\":\"2\"}},\"PaymentTransaction\":{\"AmountsReq\":{\"Currency\":\"EUR\",\"RequestedAmount\":9999999999.99}},\"PaymentData\":{\"PaymentType\":\"\"}}",
-        ),
-        (
-            "Reversal",
-            "{\"OriginalPOITransaction\":{\"POITransactionID\":{\"TransactionID\":\"000123-0017-0\"}},\"ReversalReason\":\"MerchantCancel\"}",
-        ),
-        (
-            "Reversal",
-            "{\"OriginalPOITransaction\":{\"POITransactionID\":{\"TransactionID\":\"000123-0017-0\"}},\"ReversalReason\":\"MerchantCancel\",\"ReversedAmount\":0.07}",
-        ),
-        ("Abort", "{\"MessageReference\":{\"ServiceID\":\"1\"}}"),
-        (
-            "Abort",
-            "{\"MessageReference\":{\"ServiceID\":\"1\",\"SaleID\":\"S2\",\"POIID\":\"T2\"}}",
-        ),
-        ("TransactionStatus", "{}"),
-        (
-            "TransactionStatus",
-            "{\"MessageReference\":{\"ServiceID\":\"1\",\"POIID\":\"T2\"}}",
-        ),
-        (
-            "Reconciliation",
-            "{\"ReconciliationType\":\"PreviousReconciliation\"}",
-        ),
-        (
-            "Display",
-            "{\"DisplayOutput\":[{\"Device\":\"A\",\"InfoQualify\":\"B\",\"ResponseRequiredFlag\":true,\"OutputContent\":{\"OutputFormat\":\"Text\",\"OutputText\":[{\"Text\":\"Gr\u{fc}\u{df}e\"},{\"Text\":\"\"}]}},{\"Device\":\"C\",\"InfoQualify\":\"D\",\"ResponseRequiredFlag\":false,\"OutputContent\":{\"OutputFormat\":\"Text\"}}]}",
-        ),
-        (
-            "Print",
-            "{\"PrintOutput\":{\"DocumentQualifier\":\"Document\"}}",
-        ),
-    ];
-    for (category, body) in rows {
+    for &(category, body) in WRITTEN {
         let text = request(alloc, category, body)?;
         let out = again(alloc, text.as_str())?;
         assert_eq!(rt; out.as_slice(), text.as_str().as_bytes(), "of {category}");

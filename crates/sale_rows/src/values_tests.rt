@@ -3,6 +3,25 @@ use gw_base::Ident;
 use sale_values::{Class, Header, Kind, Period, Reference};
 use std::test::Fail;
 
+/// Names of types of reconciliation.
+const PERIODS: &[(&[u8], Option<Period>)] = &[
+    (b"SaleReconciliation", Some(Period::SaleReconciliation)),
+    (
+        b"AcquirerSynchronisation",
+        Some(Period::AcquirerSynchronisation),
+    ),
+    (
+        b"AcquirerReconciliation",
+        Some(Period::AcquirerReconciliation),
+    ),
+    (
+        b"PreviousReconciliation",
+        Some(Period::PreviousReconciliation),
+    ),
+    (b"saleReconciliation", None),
+    (b"", None),
+];
+
 #[test]
 fn names(rt: HostRuntime) {
     for class in [Class::Service, Class::Device, Class::Event] {
@@ -14,27 +33,7 @@ fn names(rt: HostRuntime) {
             Some(message_type)
         );
     }
-    let periods = [
-        (
-            b"SaleReconciliation".as_slice(),
-            Some(Period::SaleReconciliation),
-        ),
-        (
-            b"AcquirerSynchronisation".as_slice(),
-            Some(Period::AcquirerSynchronisation),
-        ),
-        (
-            b"AcquirerReconciliation".as_slice(),
-            Some(Period::AcquirerReconciliation),
-        ),
-        (
-            b"PreviousReconciliation".as_slice(),
-            Some(Period::PreviousReconciliation),
-        ),
-        (b"saleReconciliation".as_slice(), None),
-        (b"".as_slice(), None),
-    ];
-    for (name, period) in periods {
+    for &(name, period) in PERIODS {
         assert_eq!(rt; Period::from_name(name), period);
     }
 }

@@ -3,7 +3,7 @@ ghost use Rattle.std.specs.Prelude.{◌≡◌, [], IfOk};
 ghost use Rattle.sim_site.specs.Sites.{log_of};
 
 use crate::tables::{compare, halves, part, push_hex, push_number, script_of, words_of};
-use gw_base::Setup;
+use gw_base::{Bytes, Setup};
 use gw_site::{Failed, Site, Turn, What};
 use sim_script::ImageKind;
 use sim_site::SimSite;
@@ -34,7 +34,7 @@ fn answer_of(outcome: Result<(), Failed>) -> Answer {
 fn new_site(alloc: Global, script: &str) -> Result<SimSite, Fail>
     ensures { IfOk result (λ site. log_of site ≡ []) }
 {
-    match SimSite::from_script(alloc, script.as_bytes()) {
+    match SimSite::from_script(alloc, &Bytes::copied(alloc, script.as_bytes())?) {
         Ok(site) => Ok(site),
         Err(_) => Err(Fail::from("no script")),
     }

@@ -1,7 +1,7 @@
 //! Scripts that are read: the setup, lines of another form, what a site reports of itself, and files that it holds.
 use crate::calls::{holding, made, reports_of, setup_of, site_of};
 use crate::tables::{compare, form, halves, part, push_hex, push_number, repeated, script_of};
-use gw_base::{Currency, Pt, Setup};
+use gw_base::{Bytes, Currency, Pt, Setup};
 use sim_script::ScriptFault;
 use sim_site::SimSite;
 use std::alloc::{AllocError, Global};
@@ -241,7 +241,7 @@ const AFTER: &str = "\
 3 ;; ;";
 
 /// Why a script isn't read.
-fn fault_of(alloc: Global, script: &[u8]) -> Option<ScriptFault> {
+fn fault_of(alloc: Global, script: &Bytes) -> Option<ScriptFault> {
     match SimSite::from_script(alloc, script) {
         Ok(_) => None,
         Err(fault) => Some(fault),
@@ -251,7 +251,7 @@ fn fault_of(alloc: Global, script: &[u8]) -> Option<ScriptFault> {
 /// Whether a script is read, or why not, as a text.
 fn reading_of(alloc: Global, script: &[u8]) -> Result<String, AllocError> {
     let mut text = String::new(alloc);
-    match fault_of(alloc, script) {
+    match fault_of(alloc, &Bytes::copied(alloc, script)?) {
         None => text.push_str("read")?,
         Some(ScriptFault::Long) => text.push_str("long")?,
         Some(ScriptFault::Line { line }) => push_number(&mut text, "line ", u64::from(line), "")?,

@@ -37,14 +37,6 @@ pub struct SimSite {
     faults: u64,
 }
 
-/// A text for clauses alone, of which no bytes are kept.
-fn text_of(alloc: Global, bytes: &[u8]) -> Result<Snapshot<Bytes>, AllocError>
-    ensures { IfOk result (λ text. text.value ≡ bytes.now) }
-{
-    let copy = Bytes::copied(alloc, bytes)?;
-    Ok(Snapshot::of(&copy))
-}
-
 /// A count of failures after one more; it stays at its last value.
 fn risen(faults: u64) -> u64
     ensures rose { Rose faults result }
@@ -57,8 +49,8 @@ impl SimSite {
     ghost use Rattle.sim_site.specs.Made.{IsCallReported};
     ghost use Rattle.sim_site.specs.Sites.{IsOriginPlayedTo, IsOriginSetup, IsRestarted, IsSame, PlaysOrigin, TakesStep, is_crashed, is_log_full, log_of, origin_beside, outside_there, place_of, played_script, sim_observed};
 
-    /// A site that plays the script of these bytes.
-    pub fn from_script(alloc: Global, bytes: &[u8]) -> Result<SimSite, ScriptFault>
+    /// A site that plays the script of these bytes, of which it keeps none.
+    pub fn from_script(alloc: Global, bytes: &Bytes) -> Result<SimSite, ScriptFault>
         ensures site { IfOk result (λ site. sim_observed site ≡ record { log = Some []; faults = 0; dark = false; origin = bytes.now; plan = Some (site_turns (played_script site).lines) }) }
         ensures log { IfOk result (λ site. log_of site ≡ []) }
         ensures script { IfOk result (λ site. script_of bytes.now ≡ Ok (played_script site)) }
@@ -71,14 +63,9 @@ impl SimSite {
         ensures line { (line : ℕ) → IsScriptFault bytes.now (ScriptFault.Line line)
             → IsErrOf result (ScriptFault.Line line) ⊎ IsErrOf result ScriptFault.Memory }
     {
-        // The text comes first: its copy is given back before the lines are there.
-        let text = text_of(alloc, bytes);
-        match read_script(alloc, bytes) {
-            Ok(script) => match text {
-                Ok(text) => match SimSite::of(alloc, text, script) {
-                    Ok(site) => Ok(site),
-                    Err(_) => Err(ScriptFault::Memory),
-                },
+        match read_script(alloc, bytes.as_slice()) {
+            Ok(script) => match SimSite::of(alloc, Snapshot::of(bytes), script) {
+                Ok(site) => Ok(site),
                 Err(_) => Err(ScriptFault::Memory),
             },
             Err(fault) => Err(fault),
