@@ -110,47 +110,64 @@ fn print_adding<R: AllocGlobal + Print + Clock>(
     Ok(())
 }
 
-/// Prints what a short journal has.
-fn print_short<R: AllocGlobal + Print + Clock>(rt: &R) -> anyhow::Result<()> {
+/// The ledger of a short journal, to which a payment was added.
+fn short_ledger<R: AllocGlobal + Clock>(rt: &R) -> anyhow::Result<Ledger> {
     let bodies = Bodies::new(payments(rt.alloc(), 10)?);
     let mut ledger = fold(rt.alloc(), &bodies)?;
     add_payment(rt, &mut ledger, 5)?;
-    let tally = ledger.tally();
-    println!(rt;
-        "{} records: payments {}, minor units {}",
-        ledger.records(),
-        tally.approved,
-        tally.sum
-    )?;
-    let poi = poi_of(5).context("terminal")?;
-    let totals = ledger.totals(&poi, Currency::Eur);
-    println!(rt;
-        "terminal 05: payments {}, last trace number {}",
-        totals.debit.0,
-        ledger.last_number(&poi)
-    )?;
+    Ok(ledger)
+}
+
+/// Prints how many records there are, how many payments of them were approved, and the minor units of these.
+fn print_tally<R: Print>(rt: &R, records: u32, payments: u32, units: u64) -> anyhow::Result<()> {
+    println!(rt; "{records} records: payments {payments}, minor units {units}")?;
     Ok(())
 }
 
-/// Folds so many records, and prints what all of it takes.
+/// Prints how many payments a terminal has approved, and its last trace number.
+fn print_terminal<R: Print>(rt: &R, payments: u32, number: u32) -> anyhow::Result<()> {
+    println!(rt; "terminal 05: payments {payments}, last trace number {number}")?;
+    Ok(())
+}
+
+/// Prints what a short journal has.
+fn print_short<R: AllocGlobal + Print + Clock>(rt: &R) -> anyhow::Result<()> {
+    let ledger = short_ledger(rt)?;
+    let tally = ledger.tally();
+    print_tally(rt, ledger.records(), tally.approved, tally.sum)?;
+    let poi = poi_of(5).context("terminal")?;
+    let totals = ledger.totals(&poi, Currency::Eur);
+    print_terminal(rt, totals.debit.0, ledger.last_number(&poi))
+}
+
+/// Folds reconciliations, and prints the peak of the memory.
+fn print_settled<R: Files + AllocGlobal + Print>(rt: &R, records: u32) -> anyhow::Result<()> {
+    let bodies = Bodies::new(reconciliations(rt.alloc(), records)?);
+    let ledger = fold(rt.alloc(), &bodies)?;
+    println!(rt; "{} reconciliations", ledger.records())?;
+    print_peak(rt)
+}
+
+/// Folds payments, and prints the peak of the memory and what look-ups take.
+fn print_found<R: Files + AllocGlobal + Print + Clock>(
+    rt: &R,
+    bodies: &Bodies,
+    rounds: u32,
+) -> anyhow::Result<()> {
+    let ledger = fold(rt.alloc(), bodies)?;
+    println!(rt; "{} records", ledger.records())?;
+    print_peak(rt)?;
+    print_lookups(rt, &ledger, rounds)
+}
+
+/// Folds so many records of payments, and prints what all of it takes.
 fn run<R: Files + AllocGlobal + Print + Clock>(
     rt: &R,
     records: u32,
     rounds: u32,
-    settled: bool,
 ) -> anyhow::Result<()> {
-    if settled {
-        let bodies = Bodies::new(reconciliations(rt.alloc(), records)?);
-        let ledger = fold(rt.alloc(), &bodies)?;
-        println!(rt; "{} reconciliations", ledger.records())?;
-        return print_peak(rt);
-    }
     let bodies = Bodies::new(payments(rt.alloc(), records)?);
-    let ledger = fold(rt.alloc(), &bodies)?;
-    println!(rt; "{} records", ledger.records())?;
-    print_peak(rt)?;
-    print_lookups(rt, &ledger, rounds)?;
-    drop(ledger);
+    print_found(rt, &bodies, rounds)?;
     print_fold(rt, &bodies, u64::from(MOST / records.max(1)).min(100))?;
     drop(bodies);
     print_adding(rt, records, records / 10)
@@ -167,5 +184,8 @@ fn main(rt: HostRuntime) -> anyhow::Result<()> {
         Some(word) => word.as_str().parse::<u32>().context("ROUNDS")?,
         None => 1000,
     };
-    run(&rt, records, rounds, words.next().is_some())
+    match words.next() {
+        Some(_) => print_settled(&rt, records),
+        None => run(&rt, records, rounds),
+    }
 }
