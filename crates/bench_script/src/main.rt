@@ -157,6 +157,47 @@ fn run<R: AllocGlobal + Print>(rt: &R, script: &str) -> anyhow::Result<()> {
     print_counted(rt, script, &count(&site, polls))
 }
 
+/// What each of so many lines has taken since then, in nanoseconds.
+fn each_since<R: Clock>(rt: &R, start: &Instant, lines: u64) -> anyhow::Result<u64> {
+    Ok(each(start.elapsed(rt)?.as_nanos(), lines))
+}
+
+/// Plays the script that a site has read, and how many polls were made, with the nanoseconds of a line.
+fn play_timed<R: AllocGlobal + Clock>(
+    rt: &R,
+    site: &mut SimSite,
+    lines: u64,
+) -> anyhow::Result<(u64, u64)> {
+    let start = Instant::now(rt)?;
+    let polls = play(rt.alloc(), site)?;
+    Ok((polls, each_since(rt, &start, lines)?))
+}
+
+/// Prints what each line takes to be read, to be played and to be gone through in the log.
+fn print_times(rt: &impl Print, reading: u64, playing: u64, counting: u64) -> anyhow::Result<()> {
+    println!(rt;
+        "from_script: {reading} ns a line; playing: {playing} ns; the log: {counting} ns"
+    )?;
+    Ok(())
+}
+
+/// Plays the script that a site has read, and prints what each of its lines takes.
+fn measure_site<R: Files + AllocGlobal + Print + Clock>(
+    rt: &R,
+    site: &mut SimSite,
+    script: &str,
+    lines: u64,
+    reading: u64,
+) -> anyhow::Result<()> {
+    let (polls, playing) = play_timed(rt, site, lines)?;
+    let start = Instant::now(rt)?;
+    let counted = count(site, polls);
+    let counting = each_since(rt, &start, lines)?;
+    print_counted(rt, script, &counted)?;
+    print_times(rt, reading, playing, counting)?;
+    print_peak(rt)
+}
+
 /// Plays the script, and prints what each of its lines takes.
 fn measure<R: Files + AllocGlobal + Print + Clock>(
     rt: &R,
@@ -165,18 +206,8 @@ fn measure<R: Files + AllocGlobal + Print + Clock>(
 ) -> anyhow::Result<()> {
     let start = Instant::now(rt)?;
     let mut site = site_of(rt.alloc(), script)?;
-    let reading = each(start.elapsed(rt)?.as_nanos(), lines);
-    let start = Instant::now(rt)?;
-    let polls = play(rt.alloc(), &mut site)?;
-    let playing = each(start.elapsed(rt)?.as_nanos(), lines);
-    let start = Instant::now(rt)?;
-    let counted = count(&site, polls);
-    let counting = each(start.elapsed(rt)?.as_nanos(), lines);
-    print_counted(rt, script, &counted)?;
-    println!(rt;
-        "from_script: {reading} ns a line; playing: {playing} ns; the log: {counting} ns"
-    )?;
-    print_peak(rt)
+    let reading = each_since(rt, &start, lines)?;
+    measure_site(rt, &mut site, script, lines, reading)
 }
 
 /// The script of a kind, of about so many lines.
@@ -189,19 +220,38 @@ fn script_of(alloc: Global, kind: &str, lines: u64) -> anyhow::Result<String> {
     }
 }
 
+/// Plays the script of a kind, of about so many lines, and prints what is counted.
+fn run_kind<R: AllocGlobal + Print>(rt: &R, kind: &str, lines: u64) -> anyhow::Result<()> {
+    let script = script_of(rt.alloc(), kind, lines)?;
+    run(rt, script.as_str())
+}
+
+/// The same, with what each of its lines takes.
+fn measure_kind<R: Files + AllocGlobal + Print + Clock>(
+    rt: &R,
+    kind: &str,
+    lines: u64,
+) -> anyhow::Result<()> {
+    let script = script_of(rt.alloc(), kind, lines)?;
+    measure(rt, script.as_str(), lines)
+}
+
+/// A short script of each kind.
+fn run_short<R: AllocGlobal + Print>(rt: &R) -> anyhow::Result<()> {
+    run_kind(rt, "messages", 3)?;
+    run_kind(rt, "failing", 12)?;
+    run_kind(rt, "open", 12)
+}
+
 fn main(rt: HostRuntime) -> anyhow::Result<()> {
-    let alloc = rt.alloc();
     let mut words = env::args(&rt)?;
     let _program = words.next();
     let Some(kind) = words.next() else {
-        run(&rt, script_of(alloc, "messages", 3)?.as_str())?;
-        run(&rt, script_of(alloc, "failing", 12)?.as_str())?;
-        return run(&rt, script_of(alloc, "open", 12)?.as_str());
+        return run_short(&rt);
     };
     let lines = match words.next() {
         Some(word) => word.as_str().parse::<u64>().context("LINES")?,
         None => 1000,
     };
-    let script = script_of(alloc, kind.as_str(), lines)?;
-    measure(&rt, script.as_str(), lines)
+    measure_kind(&rt, kind.as_str(), lines)
 }

@@ -5,40 +5,42 @@ use gw_base::{
 };
 use std::test::Fail;
 
+const STAMPS: &[(i64, &[u8; 20])] = &[
+    (0, b"1970-01-01T00:00:00Z"),
+    (951_782_400, b"2000-02-29T00:00:00Z"),
+    (1_741_342_264, b"2025-03-07T10:11:04Z"),
+    (LAST_MOMENT, b"9999-01-01T00:00:00Z"),
+    (-1, b"1970-01-01T00:00:00Z"),
+    (i64::MAX, b"9999-01-01T00:00:00Z"),
+];
+
 #[test]
 fn stamps(rt: HostRuntime) {
-    let rows = [
-        (0, b"1970-01-01T00:00:00Z"),
-        (951_782_400, b"2000-02-29T00:00:00Z"),
-        (1_741_342_264, b"2025-03-07T10:11:04Z"),
-        (LAST_MOMENT, b"9999-01-01T00:00:00Z"),
-        (-1, b"1970-01-01T00:00:00Z"),
-        (i64::MAX, b"9999-01-01T00:00:00Z"),
-    ];
-    for (now, text) in rows {
+    for &(now, text) in STAMPS {
         assert_eq!(rt; stamp(now).as_slice(), text.as_slice());
     }
 }
 
+const AMOUNTS: &[(&str, Option<u64>)] = &[
+    ("10.9", Some(1090)),
+    ("10.900", Some(1090)),
+    ("10", Some(1000)),
+    ("0.01", Some(1)),
+    ("9999999999.99", Some(999_999_999_999)),
+    ("0", None),
+    ("10.995", None),
+    ("1e1", None),
+    ("-1", None),
+    ("10000000000", None),
+    ("010", None),
+    ("10.", None),
+    (".5", None),
+    ("", None),
+];
+
 #[test]
 fn amounts(rt: HostRuntime) {
-    let rows = [
-        ("10.9", Some(1090)),
-        ("10.900", Some(1090)),
-        ("10", Some(1000)),
-        ("0.01", Some(1)),
-        ("9999999999.99", Some(999_999_999_999)),
-        ("0", None),
-        ("10.995", None),
-        ("1e1", None),
-        ("-1", None),
-        ("10000000000", None),
-        ("010", None),
-        ("10.", None),
-        (".5", None),
-        ("", None),
-    ];
-    for (numeral, units) in rows {
+    for &(numeral, units) in AMOUNTS {
         assert_eq!(rt; minor_of(numeral.as_bytes()), units);
     }
 }

@@ -1,6 +1,7 @@
 //! Records: bodies written out by hand from the tables.
 use gw_base::{Condition, Currency, Ident};
 use jrn_record::{Deal, How, Intent, Outcome, Record, RecordFault, Settled, from_body, to_body};
+use std::process::Abort;
 use std::test::Fail;
 
 const INTENT: [(usize, &[u8]); 11] = [
@@ -139,55 +140,63 @@ fn bodies(rt: HostRuntime) -> Result<(), Fail> {
     Ok(())
 }
 
-#[test]
-fn faults(rt: HostRuntime) {
-    let (intent, approved, declined, settled) = (
-        body(&INTENT),
-        body(&APPROVED),
-        body(&DECLINED),
-        body(&SETTLED),
-    );
-    let rows = [
-        (&intent, 0, 4, 0),
-        (&intent, 1, 3, 1),
-        (&intent, 2, 0, 2),
-        (&intent, 2, 41, 2),
-        (&intent, 3, 0x1F, 2),
-        (&intent, 42, 1, 2),
-        (&intent, 43, 0, 43),
-        (&intent, 84, 11, 84),
-        (&intent, 95, 81, 95),
-        (&intent, 176, 0, 176),
-        (&intent, 212, 0xA0, 212),
-        (&intent, 218, 0x99, 218),
-        (&intent, 222, 0x2A, 220),
-        (&intent, 226, 0xFE, 223),
-        (&intent, 227, 1, 227),
-        (&intent, 254, 1, 235),
-        (&approved, 1, 0, 1),
-        (&approved, 6, 0xA0, 6),
-        (&approved, 9, 0x0A, 9),
-        (&approved, 16, 0x9A, 11),
-        (&approved, 17, 1, 17),
-        (&approved, 18, 0x80, 18),
-        (&approved, 26, 1, 26),
-        (&declined, 8, 1, 6),
-        (&declined, 10, 1, 9),
-        (&declined, 16, 1, 11),
-        (&declined, 17, 8, 17),
-        (&declined, 17, 0, 17),
-        (&settled, 1, 3, 1),
-        (&settled, 2, 0, 2),
-        (&settled, 43, 0, 43),
-        (&settled, 84, 0, 84),
-        (&settled, 95, 0, 95),
-        (&settled, 97, 0xFF, 97),
-        (&settled, 105, 1, 105),
-    ];
-    for (bytes, changed_at, byte, reported) in rows {
+/// Where a byte is changed, to what, and where the fault is then.
+type Change = (usize, u8, usize);
+
+const INTENT_CHANGES: &[Change] = &[
+    (0, 4, 0),
+    (1, 3, 1),
+    (2, 0, 2),
+    (2, 41, 2),
+    (3, 0x1F, 2),
+    (42, 1, 2),
+    (43, 0, 43),
+    (84, 11, 84),
+    (95, 81, 95),
+    (176, 0, 176),
+    (212, 0xA0, 212),
+    (218, 0x99, 218),
+    (222, 0x2A, 220),
+    (226, 0xFE, 223),
+    (227, 1, 227),
+    (254, 1, 235),
+];
+
+const APPROVED_CHANGES: &[Change] = &[
+    (1, 0, 1),
+    (6, 0xA0, 6),
+    (9, 0x0A, 9),
+    (16, 0x9A, 11),
+    (17, 1, 17),
+    (18, 0x80, 18),
+    (26, 1, 26),
+];
+
+const DECLINED_CHANGES: &[Change] = &[(8, 1, 6), (10, 1, 9), (16, 1, 11), (17, 8, 17), (17, 0, 17)];
+
+const SETTLED_CHANGES: &[Change] = &[
+    (1, 3, 1),
+    (2, 0, 2),
+    (43, 0, 43),
+    (84, 0, 84),
+    (95, 0, 95),
+    (97, 0xFF, 97),
+    (105, 1, 105),
+];
+
+fn are_reported(rt: &impl Abort, bytes: &[u8; 255], changes: &[Change]) {
+    for &(changed_at, byte, reported) in changes {
         assert_eq!(rt;
             from_body(&changed(bytes, changed_at, byte)),
             Err(RecordFault { at: reported })
         );
     }
+}
+
+#[test]
+fn faults(rt: HostRuntime) {
+    are_reported(&rt, &body(&INTENT), INTENT_CHANGES);
+    are_reported(&rt, &body(&APPROVED), APPROVED_CHANGES);
+    are_reported(&rt, &body(&DECLINED), DECLINED_CHANGES);
+    are_reported(&rt, &body(&SETTLED), SETTLED_CHANGES);
 }

@@ -15,6 +15,3 @@ pub use book::{Book, BookEntry};
 pub use laws::{law_all_heard, law_book, law_ends, law_examples, law_honest, law_met};
 pub use play::{Play, Plays};
 pub use terminal::{Answer, Terminal};
-
-#[cfg(test)]
-mod tests;

@@ -111,67 +111,69 @@ fn the_example(rt: HostRuntime) -> Result<(), Fail> {
     Ok(())
 }
 
+/// A category, the body of the reply, and what is read of it, in words.
+const REPLIES: &[(&str, &str, &str)] = &[
+    ("Payment", APPROVED, "Payment Success - 000123-0017-0 1099"),
+    ("Payment", PARTLY, "Payment Partial - 000123-0017-0 500"),
+    ("Payment", FAILED, "Payment Failure MessageFormat - -"),
+    (
+        "Reversal",
+        REVERSED,
+        "Reversal Success - 000124-0018-2 1099",
+    ),
+    (
+        "Reversal",
+        UNREVERSED,
+        "Reversal Failure NotAllowed 000000-0000-2 -",
+    ),
+    (
+        "Reversal",
+        REVERSED_BESIDE_PAID,
+        "Reversal Success - 000124-0018-2 1099",
+    ),
+    (
+        "Payment",
+        REVERSED_BESIDE_PAID,
+        "Payment Success - 000124-0018-2 500",
+    ),
+    ("Login", REVERSED_BESIDE_PAID, "Login Success - - -"),
+    ("Payment", FIVE_DIGITS, "Payment Success - - -"),
+    (
+        "TransactionStatus",
+        REPEATED,
+        "TransactionStatus Success - 000123-0017-0 1099",
+    ),
+    (
+        "TransactionStatus",
+        REPEATED_DECLINE,
+        "TransactionStatus Success - 000000-0000-0 -",
+    ),
+    (
+        "TransactionStatus",
+        OWN_OUTCOME,
+        "TransactionStatus Success - - -",
+    ),
+    (
+        "TransactionStatus",
+        FAILED,
+        "TransactionStatus Failure MessageFormat - -",
+    ),
+    (
+        "Diagnosis",
+        r#"{"Response":{"Result":"Success"},"POIStatus":{"GlobalStatus":"OK"}}"#,
+        "Diagnosis Success - - -",
+    ),
+    (
+        "Print",
+        r#"{"DocumentQualifier":"Document","Response":{"Result":"Failure","ErrorCondition":"UnavailableDevice"}}"#,
+        "Print Failure UnavailableDevice - -",
+    ),
+    ("Unlisted", UNNAMED, "Unlisted Failure - - -"),
+];
+
 #[test]
 fn replies(rt: HostRuntime) -> Result<(), Fail> {
-    let rows = [
-        ("Payment", APPROVED, "Payment Success - 000123-0017-0 1099"),
-        ("Payment", PARTLY, "Payment Partial - 000123-0017-0 500"),
-        ("Payment", FAILED, "Payment Failure MessageFormat - -"),
-        (
-            "Reversal",
-            REVERSED,
-            "Reversal Success - 000124-0018-2 1099",
-        ),
-        (
-            "Reversal",
-            UNREVERSED,
-            "Reversal Failure NotAllowed 000000-0000-2 -",
-        ),
-        (
-            "Reversal",
-            REVERSED_BESIDE_PAID,
-            "Reversal Success - 000124-0018-2 1099",
-        ),
-        (
-            "Payment",
-            REVERSED_BESIDE_PAID,
-            "Payment Success - 000124-0018-2 500",
-        ),
-        ("Login", REVERSED_BESIDE_PAID, "Login Success - - -"),
-        ("Payment", FIVE_DIGITS, "Payment Success - - -"),
-        (
-            "TransactionStatus",
-            REPEATED,
-            "TransactionStatus Success - 000123-0017-0 1099",
-        ),
-        (
-            "TransactionStatus",
-            REPEATED_DECLINE,
-            "TransactionStatus Success - 000000-0000-0 -",
-        ),
-        (
-            "TransactionStatus",
-            OWN_OUTCOME,
-            "TransactionStatus Success - - -",
-        ),
-        (
-            "TransactionStatus",
-            FAILED,
-            "TransactionStatus Failure MessageFormat - -",
-        ),
-        (
-            "Diagnosis",
-            r#"{"Response":{"Result":"Success"},"POIStatus":{"GlobalStatus":"OK"}}"#,
-            "Diagnosis Success - - -",
-        ),
-        (
-            "Print",
-            r#"{"DocumentQualifier":"Document","Response":{"Result":"Failure","ErrorCondition":"UnavailableDevice"}}"#,
-            "Print Failure UnavailableDevice - -",
-        ),
-        ("Unlisted", UNNAMED, "Unlisted Failure - - -"),
-    ];
-    for (category, body, words) in rows {
+    for &(category, body, words) in REPLIES {
         let text = reply(rt.alloc(), category, body)?;
         assert_eq!(rt; words_of(rt.alloc(), text.as_str())?.as_str(), words);
     }
@@ -209,46 +211,48 @@ fn faults(rt: HostRuntime) -> Result<(), Fail> {
     Ok(())
 }
 
+const TRANSACTIONS: &[(&[u8], bool)] = &[
+    (b"000123-0017-0", true),
+    (b"000000-0000-4294967295", true),
+    (b"000000-0000-4294967296", false),
+    (b"00123-0017-0", false),
+    (b"0000123-0017-0", false),
+    (b"000123-017-0", false),
+    (b"000123-0017-00", false),
+    (b"000123-0017-", false),
+    (b"000123-0017", false),
+    (b"00012a-0017-0", false),
+    (b"000123 0017-0", false),
+    (b"", false),
+];
+
 #[test]
 fn transactions(rt: HostRuntime) {
-    let rows: [(&[u8], bool); 12] = [
-        (b"000123-0017-0", true),
-        (b"000000-0000-4294967295", true),
-        (b"000000-0000-4294967296", false),
-        (b"00123-0017-0", false),
-        (b"0000123-0017-0", false),
-        (b"000123-017-0", false),
-        (b"000123-0017-00", false),
-        (b"000123-0017-", false),
-        (b"000123-0017", false),
-        (b"00012a-0017-0", false),
-        (b"000123 0017-0", false),
-        (b"", false),
-    ];
-    for (text, is) in rows {
+    for &(text, is) in TRANSACTIONS {
         assert_eq!(rt; is_transaction(text), is);
     }
 }
 
+const NUMERALS: &[(&[u8], Option<u64>)] = &[
+    (b"0.00", Some(0)),
+    (b"0.05", Some(5)),
+    (b"10.99", Some(1099)),
+    (b"184467440737095516.15", Some(18_446_744_073_709_551_615)),
+    (b"184467440737095516.16", None),
+    (b"10", None),
+    (b"10.9", None),
+    (b"10.990", None),
+    (b"010.90", None),
+    (b".99", None),
+    (b"1e1", None),
+    (b"1.00e1", None),
+    (b"-1.00", None),
+    (b"", None),
+];
+
 #[test]
 fn money(rt: HostRuntime) -> Result<(), Fail> {
-    let rows: [(&[u8], Option<u64>); 14] = [
-        (b"0.00", Some(0)),
-        (b"0.05", Some(5)),
-        (b"10.99", Some(1099)),
-        (b"184467440737095516.15", Some(18_446_744_073_709_551_615)),
-        (b"184467440737095516.16", None),
-        (b"10", None),
-        (b"10.9", None),
-        (b"10.990", None),
-        (b"010.90", None),
-        (b".99", None),
-        (b"1e1", None),
-        (b"1.00e1", None),
-        (b"-1.00", None),
-        (b"", None),
-    ];
-    for (text, units) in rows {
+    for &(text, units) in NUMERALS {
         assert_eq!(rt; units_of(text), units);
     }
     Ok(())

@@ -1,4 +1,4 @@
-//! Scripts and journals over the site in memory, by calls made by hand: rows that no clause of one crate says.
+//! Scripts and journals over the site in memory, by calls made by hand, and streams over memory: rows that no clause of one crate says.
 #![tactic(auto)]
 
 #[cfg(test)]
@@ -11,5 +11,7 @@ mod line_tests;
 mod power_tests;
 #[cfg(test)]
 mod script_tests;
+#[cfg(test)]
+mod stream_tests;
 #[cfg(test)]
 mod tables;

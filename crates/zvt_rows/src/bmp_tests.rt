@@ -29,32 +29,29 @@ fn the_example(rt: HostRuntime) -> Result<(), Fail> {
     Ok(())
 }
 
+/// Bytes and their first fault.
+const FAULTS: &[(&[u8], FieldFault)] = &[
+    (b"\x27", FieldFault::Short { at: 0 }),
+    (b"\x22\xf0\x1f", FieldFault::BadLength { at: 0 }),
+    (b"\x22\x1f", FieldFault::BadLength { at: 0 }),
+    (b"\x22\xf0", FieldFault::Short { at: 0 }),
+    (b"\x24\xf0\xf0\xf1", FieldFault::Short { at: 0 }),
+    (b"\x06\x80", FieldFault::BadLength { at: 0 }),
+    (
+        b"\x04\x00\x00\x00\x00\x10\x9a",
+        FieldFault::NotDigits { at: 0 },
+    ),
+    (b"\x27\x00\x27\x00", FieldFault::Twice { number: 0x27 }),
+    (b"\x87\xff\xff\x87", FieldFault::Twice { number: 0x87 }),
+    (
+        b"\x27\x6c\x0b\x00\x01\x23\x87\x00\x17\x06\x0f",
+        FieldFault::Short { at: 9 },
+    ),
+];
+
 #[test]
 fn faults(rt: HostRuntime) {
-    for (bytes, fault) in [
-        (b"\x27".as_slice(), FieldFault::Short { at: 0 }),
-        (b"\x22\xf0\x1f".as_slice(), FieldFault::BadLength { at: 0 }),
-        (b"\x22\x1f".as_slice(), FieldFault::BadLength { at: 0 }),
-        (b"\x22\xf0".as_slice(), FieldFault::Short { at: 0 }),
-        (b"\x24\xf0\xf0\xf1".as_slice(), FieldFault::Short { at: 0 }),
-        (b"\x06\x80".as_slice(), FieldFault::BadLength { at: 0 }),
-        (
-            b"\x04\x00\x00\x00\x00\x10\x9a".as_slice(),
-            FieldFault::NotDigits { at: 0 },
-        ),
-        (
-            b"\x27\x00\x27\x00".as_slice(),
-            FieldFault::Twice { number: 0x27 },
-        ),
-        (
-            b"\x87\xff\xff\x87".as_slice(),
-            FieldFault::Twice { number: 0x87 },
-        ),
-        (
-            b"\x27\x6c\x0b\x00\x01\x23\x87\x00\x17\x06\x0f".as_slice(),
-            FieldFault::Short { at: 9 },
-        ),
-    ] {
+    for &(bytes, fault) in FAULTS {
         assert_eq!(rt; read_fields(bytes), Err(fault), "{bytes:?}");
     }
 }

@@ -34,43 +34,31 @@ fn the_example(rt: HostRuntime) {
     assert!(rt; out.as_slice() == bytes.as_slice());
 }
 
+/// A class, an instruction and data, and the message that they are.
+const MESSAGES: &[(u8, u8, &[u8], PtMessage<'static>)] = &[
+    (0x80, 0x00, b"\xaa\xbb", PtMessage::Ack),
+    (0x84, 0x83, b"", PtMessage::Nack(0x83)),
+    (0x84, 0x00, b"\x01", PtMessage::Nack(0x00)),
+    (0x04, 0xFF, b"\x0a\x01", PtMessage::Intermediate(0x0A)),
+    (0x04, 0xFF, b"", PtMessage::Intermediate(0x00)),
+    (0x06, 0xD1, b"\x00\x84\xff", PtMessage::Line(b"\x84\xff")),
+    (0x06, 0xD1, b"", PtMessage::Line(b"")),
+    (
+        0x06,
+        0xD3,
+        b"\x06\x81\x02\x07\x00",
+        PtMessage::Block(b"\x07\x00"),
+    ),
+    (0x06, 0x0F, b"\x27\x00", PtMessage::Completion),
+    (0x06, 0x1E, b"\x6c\x01", PtMessage::Abort(Some(0x6C))),
+    (0x06, 0x1E, b"", PtMessage::Abort(None)),
+    (0x80, 0x01, b"", PtMessage::Other),
+    (0x06, 0x99, b"", PtMessage::Other),
+];
+
 #[test]
 fn messages(rt: HostRuntime) {
-    for (class, instr, data, message) in [
-        (0x80, 0x00, b"\xaa\xbb".as_slice(), PtMessage::Ack),
-        (0x84, 0x83, b"".as_slice(), PtMessage::Nack(0x83)),
-        (0x84, 0x00, b"\x01".as_slice(), PtMessage::Nack(0x00)),
-        (
-            0x04,
-            0xFF,
-            b"\x0a\x01".as_slice(),
-            PtMessage::Intermediate(0x0A),
-        ),
-        (0x04, 0xFF, b"".as_slice(), PtMessage::Intermediate(0x00)),
-        (
-            0x06,
-            0xD1,
-            b"\x00\x84\xff".as_slice(),
-            PtMessage::Line(b"\x84\xff"),
-        ),
-        (0x06, 0xD1, b"".as_slice(), PtMessage::Line(b"")),
-        (
-            0x06,
-            0xD3,
-            b"\x06\x81\x02\x07\x00".as_slice(),
-            PtMessage::Block(b"\x07\x00"),
-        ),
-        (0x06, 0x0F, b"\x27\x00".as_slice(), PtMessage::Completion),
-        (
-            0x06,
-            0x1E,
-            b"\x6c\x01".as_slice(),
-            PtMessage::Abort(Some(0x6C)),
-        ),
-        (0x06, 0x1E, b"".as_slice(), PtMessage::Abort(None)),
-        (0x80, 0x01, b"".as_slice(), PtMessage::Other),
-        (0x06, 0x99, b"".as_slice(), PtMessage::Other),
-    ] {
+    for &(class, instr, data, message) in MESSAGES {
         let apdu = Apdu {
             class,
             instr,
@@ -80,47 +68,40 @@ fn messages(rt: HostRuntime) {
     }
 }
 
+/// A class, an instruction and data, and the fault of the message.
+const FAULTS: &[(u8, u8, &[u8], PtFault)] = &[
+    (
+        0x04,
+        0x0F,
+        b"\x27\x6c\x0b\x00\x01\x23\x87\x00\x17\x06\x0f",
+        PtFault::Field(FieldFault::Short { at: 9 }),
+    ),
+    (0x06, 0xD3, b"", PtFault::Tlv(TlvFault { at: 0 })),
+    (0x06, 0xD3, b"\x06\x82", PtFault::Tlv(TlvFault { at: 0 })),
+    (
+        0x06,
+        0xD3,
+        b"\x06\x01\x07\x00",
+        PtFault::Tlv(TlvFault { at: 0 }),
+    ),
+    (0x06, 0xD3, b"\x07\x00", PtFault::Tlv(TlvFault { at: 0 })),
+    (
+        0x06,
+        0xD3,
+        b"\x06\x04\x07\x00\x07\x01",
+        PtFault::Tlv(TlvFault { at: 4 }),
+    ),
+    (
+        0x06,
+        0xD3,
+        b"\x06\x09\x07\x00\x25\x03\x07\x02A\x07\x05",
+        PtFault::Tlv(TlvFault { at: 6 }),
+    ),
+];
+
 #[test]
 fn faults(rt: HostRuntime) {
-    for (class, instr, data, fault) in [
-        (
-            0x04,
-            0x0F,
-            b"\x27\x6c\x0b\x00\x01\x23\x87\x00\x17\x06\x0f".as_slice(),
-            PtFault::Field(FieldFault::Short { at: 9 }),
-        ),
-        (0x06, 0xD3, b"".as_slice(), PtFault::Tlv(TlvFault { at: 0 })),
-        (
-            0x06,
-            0xD3,
-            b"\x06\x82".as_slice(),
-            PtFault::Tlv(TlvFault { at: 0 }),
-        ),
-        (
-            0x06,
-            0xD3,
-            b"\x06\x01\x07\x00".as_slice(),
-            PtFault::Tlv(TlvFault { at: 0 }),
-        ),
-        (
-            0x06,
-            0xD3,
-            b"\x07\x00".as_slice(),
-            PtFault::Tlv(TlvFault { at: 0 }),
-        ),
-        (
-            0x06,
-            0xD3,
-            b"\x06\x04\x07\x00\x07\x01".as_slice(),
-            PtFault::Tlv(TlvFault { at: 4 }),
-        ),
-        (
-            0x06,
-            0xD3,
-            b"\x06\x09\x07\x00\x25\x03\x07\x02A\x07\x05".as_slice(),
-            PtFault::Tlv(TlvFault { at: 6 }),
-        ),
-    ] {
+    for &(class, instr, data, fault) in FAULTS {
         let apdu = Apdu {
             class,
             instr,
@@ -314,22 +295,25 @@ fn shortest_long_display(rt: HostRuntime) -> Result<(), Fail> {
     Ok(())
 }
 
+/// A class, an instruction and data of which no command is read.
+const NO_COMMANDS: &[(u8, u8, &[u8])] = &[
+    (0x04, 0x01, b""),
+    (0x06, 0x93, b""),
+    (0x06, 0x00, b"\x12\x34\x56\xba\x09\x78\x00"),
+    (0x06, 0x00, b"\x12\x34\x5a\xba\x09\x78"),
+    (0x06, 0x01, b"\x49\x09\x78\x04\x00\x00\x00\x00\x10\x99"),
+    (0x06, 0x01, b"\x04\x00\x00\x00\x10\x99\x49\x09\x78"),
+    (0x06, 0x20, b"\x12\x34"),
+    (0x06, 0x30, b"\x12\x34\x56\x87\x00\x1a"),
+    (0x06, 0xB0, b"\x00"),
+    (0x06, 0xE0, b"\xf0\x05\xf2\xf0\xf1A"),
+    (0x06, 0xE0, b"\xf0\x05\xf1\xf0\xf2A"),
+    (0x06, 0xE0, b"\xf0\x04"),
+];
+
 #[test]
 fn no_commands(rt: HostRuntime) {
-    for (class, instr, data) in [
-        (0x04, 0x01, b"".as_slice()),
-        (0x06, 0x93, b""),
-        (0x06, 0x00, b"\x12\x34\x56\xba\x09\x78\x00"),
-        (0x06, 0x00, b"\x12\x34\x5a\xba\x09\x78"),
-        (0x06, 0x01, b"\x49\x09\x78\x04\x00\x00\x00\x00\x10\x99"),
-        (0x06, 0x01, b"\x04\x00\x00\x00\x10\x99\x49\x09\x78"),
-        (0x06, 0x20, b"\x12\x34"),
-        (0x06, 0x30, b"\x12\x34\x56\x87\x00\x1a"),
-        (0x06, 0xB0, b"\x00"),
-        (0x06, 0xE0, b"\xf0\x05\xf2\xf0\xf1A"),
-        (0x06, 0xE0, b"\xf0\x05\xf1\xf0\xf2A"),
-        (0x06, 0xE0, b"\xf0\x04"),
-    ] {
+    for &(class, instr, data) in NO_COMMANDS {
         let apdu = Apdu {
             class,
             instr,

@@ -51,18 +51,21 @@ fn objects_and_faults(rt: HostRuntime) -> Result<(), Fail> {
     Ok(())
 }
 
+/// Bytes, and the length that they begin with, with the bytes that it takes.
+const LENGTHS: &[(&[u8], Option<(usize, usize)>)] = &[
+    (b"\x7f", Some((127, 1))),
+    (b"\x81\x05", Some((5, 2))),
+    (b"\x81\xfd", Some((253, 2))),
+    (b"\x82\x01\x00\x25", Some((256, 3))),
+    (b"", None),
+    (b"\x80", None),
+    (b"\x82\x01", None),
+    (b"\x83\x00\x00\x00", None),
+];
+
 #[test]
 fn lengths(rt: HostRuntime) {
-    for (bytes, length) in [
-        (b"\x7f".as_slice(), Some((127, 1))),
-        (b"\x81\x05".as_slice(), Some((5, 2))),
-        (b"\x81\xfd".as_slice(), Some((253, 2))),
-        (b"\x82\x01\x00\x25".as_slice(), Some((256, 3))),
-        (b"".as_slice(), None),
-        (b"\x80".as_slice(), None),
-        (b"\x82\x01".as_slice(), None),
-        (b"\x83\x00\x00\x00".as_slice(), None),
-    ] {
+    for &(bytes, length) in LENGTHS {
         assert_eq!(rt; tlv_length(bytes), length);
     }
 }

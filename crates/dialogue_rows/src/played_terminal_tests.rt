@@ -1,6 +1,6 @@
-//! Tests: what a played terminal sends for a stream of commands, and what its book holds then.
-use crate::{BookEntry, Play, Plays, Terminal};
+//! What a played terminal sends for a stream of commands, and what its book holds then.
 use gw_base::{Currency, Ident, Pt, Text};
+use pt_core::{BookEntry, Play, Plays, Terminal};
 use std::alloc::{AllocError, Global};
 use std::process::Abort;
 use std::test::Fail;
@@ -143,7 +143,7 @@ fn setup(alloc: Global, rt: &impl Abort) -> Result<Pt, AllocError> {
 }
 
 #[test]
-fn rows(rt: HostRuntime) -> Result<(), Fail> {
+fn a_stream_of_commands(rt: HostRuntime) -> Result<(), Fail> {
     let pt = setup(rt.alloc(), &rt)?;
     assert!(rt; pt.is_within_limits());
     let plays = vec![in rt.alloc();
