@@ -44,7 +44,7 @@ pub fn header_parts(header: &Header) -> [Part<'_>; 13]
 }
 
 /// The bytes of an identifier, where there is one.
-fn bytes_of<const N: usize>(id: &Option<Ident<N>>) -> Option<&[u8]>
+pub fn bytes_of<const N: usize>(id: &Option<Ident<N>>) -> Option<&[u8]>
     ensures { option_copied result ≡ id.now }
 {
     match id {
