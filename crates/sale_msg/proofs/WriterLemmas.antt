@@ -3,7 +3,7 @@ use Rattle.std.proofs.Common.{◌≡◌, ◌<◌, ℕ, zero, suc, ◌+◌, List,
 use Rattle.std.specs.Result.{is_ok}
 use Rattle.std.proofs.Math.Dec.{eqb-suc-zero}
 use Rattle.json_text.specs.Canonical.{canonical, canonical_elements, canonical_first, canonical_more, canonical_more_members, canonical_string}
-use Rattle.json_text.specs.Tree.{Tree, boolean, string, object, Elements, element, Members, no_members, member}
+use Rattle.json_text.specs.Tree.{Tree, boolean, string, object, Elements, no_elements, element, Members, no_members, member}
 use Rattle.sale_msg.specs.inner.OptionalParts.{comma_before, texts_part}
 use Rattle.sale_values.specs.MemberShapes.{number_member, object_member, only, optional_member, text_member}
 use Rattle.sale_values.specs.PartBytes.{optional_text}
@@ -121,6 +121,17 @@ element_next i x here rest new old all is e f =
     ∙ ap (λ l. old ++ l)
     (append_assoc (comma_before i) (canonical x) (canonical_more rest) ∙ separated i x rest ∙ ap (canonical_elements (nat_eq i 0)) (sym is))
     ∙ f
+
+closed : (first : Bool) → codes "]" ≡ canonical_elements first no_elements
+closed true = refl
+closed false = refl
+
+-- all elements are written, and the closing bracket
+pub elements_end : {T E : Type 0} (r : Result T E) (i : ℕ) (here : Elements) (new out all : List ℕ) → here ≡ no_elements
+    → new ≡ cond (is_ok r) (out ++ codes "]") out → out ++ canonical_elements (nat_eq i 0) here ≡ all → OnOk r (new ≡ all)
+elements_end (Ok x) i here new out all is e f =
+    e ∙ ap (λ l. out ++ l) (closed (nat_eq i 0) ∙ ap (canonical_elements (nat_eq i 0)) (sym is)) ∙ f
+elements_end (Err x) i here new out all is e f = tt
 
 -- the texts from an index on
 pub texts_from : (texts : List (List ℕ)) (i : ℕ) (text : List ℕ) → i < length texts → text ≡ get_or texts i text

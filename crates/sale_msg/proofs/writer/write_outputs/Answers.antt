@@ -1,8 +1,9 @@
 -- Proof of the contract of `write_outputs`.
-use Rattle.std.proofs.Common.{refl, drop, ◌+◌}
+use Rattle.std.proofs.Common.{ap, refl, drop, ◌+◌}
+use Rattle.std.proofs.lemmas.List.{drop_all}
 use Rattle.json_text.proofs.GrowthLemmas.{same_grows, grows_on, append_grows}
 use Rattle.sale_msg.specs.Canonical.{display_output_tree, output_elements}
-use Rattle.sale_msg.proofs.WriterLemmas.{element_next, joined, outputs_from}
+use Rattle.sale_msg.proofs.WriterLemmas.{element_next, elements_end, joined, outputs_from}
 use Rattle.sale_msg.proofs.writer.write_outputs.Goals as goal
 
 pub loop-i-init : goal.loop-i-init
@@ -32,6 +33,11 @@ returns-in_err-write_output-clause-grows c =
     let comma = grows_on c.args.out.now.items c.loop-i.out.items _ c.loop-i.invariant.grows
     (append_grows c.extend_from_slice.result c.loop-i.out.items _ _ c.extend_from_slice.ensures.items) in
     grows_on c.args.out.now.items c.extend_from_slice.new.self.items _ comma c.write_output.ensures.grows
+
+pub returns-clause-ok : goal.returns-clause-ok
+returns-clause-ok c =
+    elements_end c.extend_from_slice-2.result c.loop-i.i _ c.extend_from_slice-2.new.self.items c.loop-i.out.items _
+    (ap output_elements (drop_all c.loop-i.i c.args.outputs.now c.loop-i-test.false)) c.extend_from_slice-2.ensures.items c.loop-i.invariant.spelled
 
 pub returns-clause-grows : goal.returns-clause-grows
 returns-clause-grows c =
