@@ -23,8 +23,8 @@ use Rattle.sale_seen.specs.Expected.{IsReadable, Suits, expected_reply}
 use Rattle.sale_seen.specs.Grammar.{ReadReply, ReadsReply}
 use Rattle.xlate.specs.Finished.{HasOutcome}
 use Rattle.xlate.specs.Reply.{deal_category, header_of, transaction_mark, money_of, outcome_body, reply_for, reply_header}
-use Rattle.xlate.specs.ReplyRead.{RepliesSayRecords, entry_reply_read}
 use Rattle.xlate.proofs.LimitLemmas.{numbers_limited}
+use Rattle.entry_seen.specs.ReplyRead.{RepliesSayRecords, entry_reply_read}
 
 -- what a till is expected to read of a reply within the limits is read
 abbrev pub ExpectedIsRead : Type 0
