@@ -1,10 +1,10 @@
 -- The examples.
-use Rattle.gw_books.proofs.CourseLemmas.{lost-has-past, paid-has-past, refused-has-past}
-use Rattle.gw_books.proofs.DayExampleLemmas.{settled-agrees, settled-has-past}
-use Rattle.gw_books.proofs.DisagreeLemmas.{disordered-books, entries-of-one-key, keyless-disagrees, later-entry-disagrees, links-end, not-found-disagrees, other-content-agrees, other-repeat-disagrees, outside-disagrees, progress-disagrees, repeat-agrees, reported-books, same-content-disagrees, twice-disagrees, unaccepted-disagrees, unbooked-disagrees, uncaused-books, unreported-may-be-open, unresolved-disagrees, untrue-books, waiting-is-in-progress}
-use Rattle.gw_books.proofs.ExampleLemmas.{asked-has-past, lost-agrees, paid-agrees, refused-agrees}
-use Rattle.gw_books.proofs.QueuedExampleLemmas.{day-is-in-progress, queued-agrees, queued-has-past, taken-out-disagrees}
-use Rattle.gw_books.proofs.law_examples.Goals as goal
+use Rattle.book_examples.proofs.CourseLemmas.{lost-has-past, paid-has-past, refused-has-past}
+use Rattle.book_examples.proofs.DayExampleLemmas.{settled-agrees, settled-has-past}
+use Rattle.book_examples.proofs.DisagreeLemmas.{disordered-books, entries-of-one-key, keyless-disagrees, later-entry-disagrees, links-end, not-found-disagrees, other-content-agrees, other-repeat-disagrees, outside-disagrees, progress-disagrees, repeat-agrees, reported-books, same-content-disagrees, twice-disagrees, unaccepted-disagrees, unbooked-disagrees, uncaused-books, unreported-may-be-open, unresolved-disagrees, untrue-books, waiting-is-in-progress}
+use Rattle.book_examples.proofs.ExampleLemmas.{asked-has-past, lost-agrees, paid-agrees, refused-agrees}
+use Rattle.book_examples.proofs.QueuedExampleLemmas.{day-is-in-progress, queued-agrees, queued-has-past, taken-out-disagrees}
+use Rattle.book_examples.proofs.law_examples.Goals as goal
 
 pub returns-clause-asked : goal.returns-clause-asked
 returns-clause-asked c = asked-has-past

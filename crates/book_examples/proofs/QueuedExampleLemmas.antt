@@ -40,20 +40,24 @@ use Rattle.gw_rules.proofs.TestedLemmas.{passes_course, course-tested}
 use Rattle.gw_rules.proofs.TextLemmas.{bytes-tested, ident-tested}
 use Rattle.gw_books.specs.Agrees.{success_agrees, refusal_agrees, unaccepted_agrees, not_found_agrees, in_progress_agrees, EachSaid, Agrees}
 use Rattle.gw_books.specs.Books.{Honest}
-use Rattle.gw_books.specs.DayExample.{asked_day_moves, none_settled_reply, records_settled, settled_replies, hello_text}
-use Rattle.gw_books.specs.DisagreeExample.{status_asking_header}
-use Rattle.gw_books.specs.Example.{payment_text, paying_header, payment_occasion, progress_reply}
+use Rattle.gw_books.specs.Example.{payment_text, paying_header, payment_occasion}
 use Rattle.gw_books.specs.Past.{OfRequest, SentReply, Past, past_of}
-use Rattle.gw_books.specs.QueuedExample.{queued_setup, queued_ready_moves, queued_opened_moves, queued_asked_moves, queued_again_moves, queued_intent, queued_begun_moves, queued_result_body, queued_reply, queued_approval, queued_paid_moves, queued_course, queued_progress, queued_totals, queued_success, queued_replies, queued_past, queued_entry, aborting_header, aborting_payment, taken_out_course, day_status, day_progress_reply, over_course, QueuedHasPast, QueuedAgrees, TakenOutDisagrees, DayIsInProgress}
+use Rattle.gw_books.specs.ReversalExample.{aborting_header}
 use Rattle.gw_books.specs.Said.{all_said, IsFramed}
 use Rattle.gw_books.specs.SaidLaws.{said_by_reply}
+use Rattle.gw_books.proofs.BrokenLemmas.{last-refused}
 use Rattle.gw_books.proofs.CourseLemmas.{lean-tested, payment-chunk}
-use Rattle.gw_books.proofs.DayExampleLemmas.{day-heading}
-use Rattle.gw_books.proofs.DisagreeLemmas.{asking-within, last-refused}
-use Rattle.gw_books.proofs.ExampleLemmas.{Agreement, SaysSo, each-agrees, header-within, progress-framed}
+use Rattle.gw_books.proofs.ExampleLemmas.{Agreement, SaysSo, each-agrees, header-within}
 use Rattle.gw_books.proofs.MessageLemmas.{reply-framed}
 use Rattle.gw_books.proofs.PaymentTextLemmas.{payment-reads}
 use Rattle.gw_books.proofs.SaidLemmas.{each-reply-says}
+use Rattle.book_examples.specs.DayExample.{asked_day_moves, none_settled_reply, records_settled, settled_replies, hello_text}
+use Rattle.book_examples.specs.DisagreeExample.{status_asking_header}
+use Rattle.book_examples.specs.Example.{progress_reply}
+use Rattle.book_examples.specs.QueuedExample.{queued_setup, queued_ready_moves, queued_opened_moves, queued_asked_moves, queued_again_moves, queued_intent, queued_begun_moves, queued_result_body, queued_reply, queued_approval, queued_paid_moves, queued_course, queued_progress, queued_totals, queued_success, queued_replies, queued_past, queued_entry, aborting_payment, taken_out_course, day_status, day_progress_reply, over_course, QueuedHasPast, QueuedAgrees, TakenOutDisagrees, DayIsInProgress}
+use Rattle.book_examples.proofs.DayExampleLemmas.{day-heading}
+use Rattle.book_examples.proofs.DisagreeLemmas.{asking-within}
+use Rattle.book_examples.proofs.ExampleLemmas.{progress-framed}
 
 -- ---- it is lawful
 

@@ -1,6 +1,6 @@
 -- What doesn't agree, and the books that aren't honest.
-use Rattle.std.proofs.Common.{◌≡◌, Bool, true, false, List, [], ◌∷◌, ◌++◌, refl, sym, ap, subst, ◌∙◌, arith}
-use Rattle.std.specs.Prelude.{take, All, Some, None, codes, map}
+use Rattle.std.proofs.Common.{◌≡◌, Bool, true, false, List, [], ◌∷◌, ◌++◌, refl, sym, ap, subst, arith}
+use Rattle.std.specs.Prelude.{take, Some, None, codes, map}
 use Rattle.std.specs.Fmt.{digits}
 use Rattle.std.specs.List.{list_all}
 use Rattle.gw_base.specs.declared.condition.Condition.{Condition}
@@ -8,7 +8,6 @@ use Rattle.gw_base.specs.declared.condition.Condition.TheVariants.{InProgress, N
 use Rattle.gw_base.specs.declared.currency.Currency.TheVariants.{Eur}
 use Rattle.gw_base.specs.Transaction.{transaction_text}
 use Rattle.gw_site.specs.declared.turn.Turn.TheVariants.{HeardTill, Linked, SentPt, Wrote}
-use Rattle.json_text.specs.Tree.{Tree}
 use Rattle.json_text.specs.declared.fault.FaultKind.TheVariants.{NotJson}
 use Rattle.sale_frame.specs.Grammar.{frame}
 use Rattle.gw_owes.specs.ReadAs.{NoJson}
@@ -30,33 +29,20 @@ use Rattle.gw_ledger.specs.History.{history}
 use Rattle.gw_owes.specs.Reply.{ReplyValue, Repeated, reply_value_tree, reply_value_bytes}
 use Rattle.gw_owes.specs.Replies.{header_of_reply, failure, failure_reply}
 use Rattle.gw_rules.proofs.TextLemmas.{ident-tested}
-use Rattle.gw_rules.specs.View.{Move, Begin, Read, Make}
-use Rattle.gw_books.specs.Past.{OfRequest, OfNothing, SentReply, MadePoll, Past, past_of}
-use Rattle.gw_books.specs.Books.{BookedEntry, Honest, is_caused, is_of_its_link}
-use Rattle.gw_books.specs.Said.{all_said, IsFramed}
+use Rattle.gw_rules.specs.View.{Begin, Read, Make}
 use Rattle.gw_books.specs.Agrees.{are_distinct_keys, entry_key, success_agrees, refusal_agrees, unaccepted_agrees, not_found_agrees, in_progress_agrees, report_resolves, is_inside, EachSaid, Agrees}
-use Rattle.gw_books.specs.Headline.{HonestAgrees}
-use Rattle.gw_books.specs.Example.{polled_linked, asked_past, opened_moves, payment_text, paying_header, payment_ask, paying_intent, kept_approval, approved_mark, paid_result_body, paid_reply, sent_success, authorise, asked_course, paid_course, payment_command, paid_entry, refusal_reply, later_entry}
-use Rattle.gw_books.specs.DisagreeExample.{BreaksAgreement, NotLawful, twice_course, twice_booked, course_sent, entry_in_time, status_asking_header, course_replied, unresolved_course, TwiceDisagrees, EntriesOfOneKey, KeylessDisagrees, UnbookedDisagrees, LaterEntryDisagrees, ProgressDisagrees, UnacceptedDisagrees, SameContentDisagrees, OtherContentAgrees, NotFoundDisagrees, RepeatAgrees, OtherRepeatDisagrees, OutsideDisagrees, UnresolvedDisagrees, WaitingIsInProgress, UnreportedMayBeOpen, LinksEnd, UncausedBooks, DisorderedBooks, UntrueBooks, ReportedBooks}
-use Rattle.gw_books.proofs.MessageLemmas.{reply-framed}
+use Rattle.gw_books.specs.Books.{BookedEntry, Honest, is_caused, is_of_its_link}
+use Rattle.gw_books.specs.BrokenLaws.{BreaksAgreement}
+use Rattle.gw_books.specs.Example.{polled_linked, asked_past, opened_moves, payment_text, paying_header, payment_ask, paying_intent, kept_approval, approved_mark, paid_result_body, paid_reply, sent_success, authorise, asked_course, paid_course, payment_command, paid_entry, refusal_reply, entry_in_time}
+use Rattle.gw_books.specs.Past.{OfRequest, OfNothing, SentReply, MadePoll, Past, past_of}
+use Rattle.gw_books.specs.Said.{all_said, IsFramed}
+use Rattle.gw_books.proofs.BrokenLemmas.{no-false, not-true, breaks-by, last-refused}
 use Rattle.gw_books.proofs.ExampleLemmas.{Agreement, each-agrees, header-within, approved-within, success-framed, refusal-framed}
-
-no-false : false ≡ true → ⊥
-no-false e = cc
-
--- what computes to false isn't true
-not-true : (test : Bool) → test ≡ false → test ≡ true → ⊥
-not-true test f e = no-false (sym f ∙ e)
+use Rattle.gw_books.proofs.MessageLemmas.{reply-framed}
+use Rattle.book_examples.specs.DisagreeExample.{twice_course, twice_booked, course_sent, status_asking_header, course_replied, unresolved_course, TwiceDisagrees, EntriesOfOneKey, KeylessDisagrees, UnbookedDisagrees, LaterEntryDisagrees, ProgressDisagrees, UnacceptedDisagrees, SameContentDisagrees, OtherContentAgrees, NotFoundDisagrees, RepeatAgrees, OtherRepeatDisagrees, OutsideDisagrees, UnresolvedDisagrees, WaitingIsInProgress, UnreportedMayBeOpen, LinksEnd, UncausedBooks, DisorderedBooks, UntrueBooks, ReportedBooks}
+use Rattle.book_examples.specs.Example.{later_entry}
 
 -- ---- commands
-
--- along a course with this past, an honest book that doesn't agree breaks it
-pub breaks-by : (course : List Move) (past : Past) (book : List BookedEntry) → past_of course ≡ past → Honest past book → ¬ Agrees past book → BreaksAgreement course book
-breaks-by course past book e honest disagrees = record { honest = subst (λ (one : Past). Honest one book) (sym e) honest; disagrees = λ agrees. disagrees (subst (λ (one : Past). Agrees one book) e agrees) }
-
--- what an honest book breaks is the lean course of no log
-pub not-lawful : HonestAgrees → NotLawful
-not-lawful headline log course book lean breaks = breaks.disagrees (headline log (past_of course) book (record { moves = course; lean = lean; past_is = refl }) breaks.honest)
 
 -- what has happened where the command is sent twice
 abbrev twice_past : Past
@@ -95,13 +81,6 @@ pub keyless-disagrees : KeylessDisagrees
 keyless-disagrees = breaks-by (opened_moves ++ Make (SentPt 0 authorise true) ∷ []) keyless_past [] keyless-past (record { caused = refl; linked = refl; ordered = refl; numbered = refl; true_ends = refl }) (λ agrees. no-false agrees.keyed)
 
 -- ---- replies
-
--- what the last reply says doesn't agree
-pub last-refused : (agrees : Agreement) (past : Past) (book : List BookedEntry) (sent : SentReply) (rest : List SentReply) (message : Tree) → past.replies ≡ sent ∷ rest → IsFramed sent.bytes message
-    → list_all (agrees past book sent) (all_said message) ≡ false → EachSaid agrees past book → ⊥
-last-refused agrees past book sent rest message e framed f each =
-    not-true (list_all (agrees past book sent) (all_said message)) f
-    ((subst (All (λ (one : SentReply). (m : Tree) → IsFramed one.bytes m → list_all (agrees past book one) (all_said m) ≡ true)) e each) 0 sent (omega arith) message framed)
 
 -- the reply after the command
 abbrev early_sent : ReplyValue → SentReply

@@ -6,7 +6,6 @@ use Rattle.gw_base.specs.declared.currency.Currency.TheVariants.{Eur}
 use Rattle.gw_base.specs.declared.setup.Setup.{Setup}
 use Rattle.gw_site.specs.declared.turn.Turn.TheVariants.{Polled, Opened, HeardTill, HeardPt, Linked, SentPt, SentTill}
 use Rattle.sale_frame.specs.Grammar.{frame}
-use Rattle.sale_values.specs.declared.header.Header.{Header}
 use Rattle.sale_values.specs.declared.request.SaleRequest.{SaleRequest}
 use Rattle.sale_values.specs.declared.request.SaleRequest.TheVariants as requests
 use Rattle.sale_reply.specs.declared.reply.PoiMark.{PoiMark}
@@ -27,14 +26,17 @@ use Rattle.gw_rules.specs.Lawful.{turns_of}
 use Rattle.gw_rules.specs.RowExample.{register_bytes, terminal_setup}
 use Rattle.gw_rules.specs.TerminalLogExample.{items_begin}
 use Rattle.gw_rules.specs.View.{Move, Begin, Read, Make}
-use Rattle.gw_books.specs.Past.{OfRequest, OfMessage, SentCommand, Approved, SentReply, Past}
-use Rattle.gw_books.specs.Books.{BookedEntry}
 use Rattle.gw_books.specs.Agrees.{in_progress_agrees}
-use Rattle.gw_books.specs.DayExample.{asked_day_moves, none_settled_reply, settled_course}
-use Rattle.gw_books.specs.DisagreeExample.{BreaksAgreement, status_asking_header}
-use Rattle.gw_books.specs.Example.{payment_text, paying_header, payment_read, payment_key, paying_intent, authorise, keeping_moves, payment_command, payment_occasion, asked_past, polled_linked, kept_approval, paid_entry, progress_reply, IsHonestAndAgrees}
+use Rattle.gw_books.specs.Books.{BookedEntry}
+use Rattle.gw_books.specs.BrokenLaws.{BreaksAgreement}
+use Rattle.gw_books.specs.Example.{payment_text, paying_header, payment_read, payment_key, paying_intent, authorise, keeping_moves, payment_command, payment_occasion, asked_past, polled_linked, kept_approval, paid_entry, IsHonestAndAgrees}
 use Rattle.gw_books.specs.Headline.{HasPast}
+use Rattle.gw_books.specs.Past.{OfRequest, OfMessage, SentCommand, Approved, SentReply, Past}
+use Rattle.gw_books.specs.ReversalExample.{aborting_header}
 use Rattle.gw_books.specs.SaidLaws.{said_by_reply}
+use Rattle.book_examples.specs.DayExample.{asked_day_moves, none_settled_reply, settled_course}
+use Rattle.book_examples.specs.DisagreeExample.{status_asking_header}
+use Rattle.book_examples.specs.Example.{progress_reply}
 
 -- ---- the course
 
@@ -153,11 +155,7 @@ QueuedAgrees = IsHonestAndAgrees queued_past (queued_entry ∷ [])
 
 -- ---- what a till may not be sent
 
--- the header of an Abort of the same till at the same terminal
-abbrev pub aborting_header : Header
-aborting_header = record paying_header { category = codes "Abort"; service = Some (codes "9") }
-
--- it aborts the payment with ServiceID 7
+-- a till aborts the payment with ServiceID 7
 abbrev pub aborting_payment : SaleRequest
 aborting_payment = requests.Abort (record { service = codes "7"; sale = None; poi = None })
 

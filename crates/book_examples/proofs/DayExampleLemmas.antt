@@ -32,18 +32,18 @@ use Rattle.gw_rules.specs.View.{View, Make, view_from, at_first}
 use Rattle.gw_rules.proofs.CourseLemmas.{course-append}
 use Rattle.gw_rules.proofs.DayTextLemmas.{day-chunk, day-read}
 use Rattle.gw_rules.proofs.TextLemmas.{bytes-tested, ident-tested}
-use Rattle.gw_books.specs.Past.{SentReply, past_of}
+use Rattle.gw_books.specs.Agrees.{success_agrees, refusal_agrees, unaccepted_agrees, not_found_agrees, in_progress_agrees, EachSaid, Agrees}
 use Rattle.gw_books.specs.Books.{Honest}
+use Rattle.gw_books.specs.Example.{opened_moves}
+use Rattle.gw_books.specs.Past.{SentReply, past_of}
 use Rattle.gw_books.specs.Said.{IsFramed}
 use Rattle.gw_books.specs.SaidLaws.{said_by_reply}
-use Rattle.gw_books.specs.Agrees.{success_agrees, refusal_agrees, unaccepted_agrees, not_found_agrees, in_progress_agrees, EachSaid, Agrees}
-use Rattle.gw_books.specs.Example.{opened_moves}
-use Rattle.gw_books.specs.DayExample.{asked_day_moves, served_day_reply, served_day_moves, none_settled_reply, completed_day_moves, hello_text, asked_hello_moves, shown_hello_moves, settled_course, sent_served, sent_status, sent_totals, sent_results, settled_replies, settled_past, SettledHasPast, SettledAgrees}
 use Rattle.gw_books.proofs.CourseLemmas.{lean-tested, opened-lawful}
-use Rattle.gw_books.proofs.DayTextLemmas.{hello-chunk, hello-reads}
 use Rattle.gw_books.proofs.ExampleLemmas.{Agreement, SaysSo, each-agrees}
 use Rattle.gw_books.proofs.MessageLemmas.{reply-framed}
 use Rattle.gw_books.proofs.SaidLemmas.{each-reply-says}
+use Rattle.book_examples.specs.DayExample.{asked_day_moves, served_day_reply, served_day_moves, none_settled_reply, completed_day_moves, hello_text, asked_hello_moves, shown_hello_moves, settled_course, sent_served, sent_status, sent_totals, sent_results, settled_replies, settled_past, SettledHasPast, SettledAgrees}
+use Rattle.book_examples.proofs.DayTextLemmas.{hello-chunk, hello-reads}
 
 -- ---- it is lawful
 

@@ -1,11 +1,9 @@
 -- Closed examples of what doesn't agree with an honest book, and of books that aren't honest.
 use Rattle.std.specs.List.{list_all}
-use Rattle.std.specs.Prelude.{◌≡◌, ℕ, pos, true, false, take, List, [], ◌∷◌, ◌++◌, map, Some, None, codes}
-use Rattle.gw_base.specs.declared.figures.Figures.{Figures}
+use Rattle.std.specs.Prelude.{◌≡◌, pos, true, false, take, List, [], ◌∷◌, ◌++◌, map, Some, None, codes}
 use Rattle.gw_base.specs.declared.key.Key.{Key}
 use Rattle.gw_base.specs.declared.condition.Condition.TheVariants.{InProgress, NotAllowed, NotFound, UnavailableDevice}
 use Rattle.gw_base.specs.declared.currency.Currency.TheVariants.{Eur}
-use Rattle.gw_site.specs.declared.turn.Turn.{Turn}
 use Rattle.gw_site.specs.declared.turn.Turn.TheVariants.{Start, Polled, HeardTill, HeardPt, Lost, Linked, SentPt, SentTill, CutPt, Wrote, Crash}
 use Rattle.json_text.specs.declared.fault.FaultKind.TheVariants.{NotJson}
 use Rattle.sale_frame.specs.Grammar.{frame}
@@ -17,24 +15,16 @@ use Rattle.gw_owes.specs.ReadAs.{Request, NoJson}
 use Rattle.gw_owes.specs.Reply.{ReplyValue, Repeated, reply_value_bytes}
 use Rattle.gw_owes.specs.Replies.{header_of_reply, failure_reply}
 use Rattle.gw_owes.specs.TerminalExample.{ack, abort, completion, enquiry_sent}
-use Rattle.gw_rules.specs.Laws.{IsLeanCourse}
 use Rattle.gw_rules.specs.RowExample.{register_bytes, terminal_setup}
 use Rattle.gw_rules.specs.TerminalLogExample.{items_begin}
 use Rattle.gw_rules.specs.View.{Move, Begin, Read, Make}
-use Rattle.gw_books.specs.Past.{Ending, Declined, Reported, SentReply, MadePoll, Past, past_of}
+use Rattle.gw_books.specs.Agrees.{are_distinct_keys, entry_key, EachSaid, success_agrees, unaccepted_agrees, in_progress_agrees, report_resolves}
 use Rattle.gw_books.specs.Books.{BookedEntry, Honest}
-use Rattle.gw_books.specs.Agrees.{are_distinct_keys, entry_key, EachSaid, success_agrees, unaccepted_agrees, in_progress_agrees, report_resolves, Agrees}
+use Rattle.gw_books.specs.BrokenLaws.{BreaksAgreement}
+use Rattle.gw_books.specs.Example.{opened_moves, payment_key, payment_occasion, refused_past, asked_past, paying_header, payment_ask, authorise, asked_course, approved_mark, paid_result_body, paid_course, paid_reply, refusal_reply, paid_past, paid_entry, entry_in_time, older_entry, paid_figures}
+use Rattle.gw_books.specs.Past.{Ending, Declined, Reported, SentReply, MadePoll, Past, past_of}
 use Rattle.gw_books.specs.SaidLaws.{said_by_reply}
-use Rattle.gw_books.specs.Example.{opened_moves, payment_key, payment_occasion, progress_reply, refused_past, asked_past, paying_header, payment_ask, authorise, asked_course, approved_mark, paid_result_body, paid_course, paid_reply, refusal_reply, paid_past, paid_entry, later_entry}
-
--- the book is honest for what has happened along the course, and doesn't agree with it
-pub record BreaksAgreement (course : List Move) (book : List BookedEntry) : Type 0 where
-  pub honest : Honest (past_of course) book
-  pub disagrees : ¬ Agrees (past_of course) book
-
--- a course along which an honest book doesn't agree is the lean course of no log
-abbrev pub NotLawful : Type 0
-NotLawful = (log : List Turn) (course : List Move) (book : List BookedEntry) → IsLeanCourse log course → BreaksAgreement course book → ⊥
+use Rattle.book_examples.specs.Example.{progress_reply, later_entry}
 
 -- ---- commands and entries
 
@@ -62,10 +52,6 @@ KeylessDisagrees = BreaksAgreement (opened_moves ++ Make (SentPt 0 authorise tru
 -- after the command the till is sent this reply, at place 23
 abbrev pub course_sent : ReplyValue → List Move
 course_sent reply = asked_course ++ Make (SentTill 1 (reply_value_bytes reply) true) ∷ []
-
--- its entry, just before that
-abbrev pub entry_in_time : BookedEntry
-entry_in_time = record paid_entry { place = 23 }
 
 -- a success has no entry, one of another terminal that is older than the log, one that comes after the reply, one that is declined, one of another amount, or one with another receipt number
 pub record UnbookedDisagrees : Type 0 where
@@ -163,10 +149,6 @@ pub record LinksEnd : Type 0 where
 
 -- ---- books that aren't honest
 
--- an older entry of the same terminal, with this trace number
-abbrev pub older_entry : ℕ → BookedEntry
-older_entry number = record paid_entry { place = 0; cause = None; number = number }
-
 -- what isn't honest for commands and links
 pub record UncausedBooks : Type 0 where
   -- an entry whose command was not sent, or was a payment where it is a reversal
@@ -194,10 +176,6 @@ pub record DisorderedBooks : Type 0 where
 -- the past of the command in which this end alone was heard, at place 24
 abbrev pub past_with_end : Ending → Past
 past_with_end ending = record asked_past { ends = record { place = 24; poi = codes "T1"; ending = ending } ∷ [] }
-
--- the figures of the payment
-abbrev pub paid_figures : Figures
-paid_figures = record { number = 123; receipt = 17; amount = 1099 }
 
 -- what isn't honest for the ends that were heard
 pub record UntrueBooks : Type 0 where

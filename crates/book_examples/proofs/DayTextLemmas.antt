@@ -29,7 +29,7 @@ use Rattle.gw_rules.specs.DayLogExample.{display_header, hello, hello_cashier}
 use Rattle.gw_rules.specs.Lawful.{IsChunk}
 use Rattle.gw_rules.proofs.StageLemmas.{no-true}
 use Rattle.gw_rules.proofs.TextLemmas.{bytes-tested, ident-tested, letters-tested}
-use Rattle.gw_books.specs.DayExample.{asked_hello, hello_outputs, hello_text}
+use Rattle.book_examples.specs.DayExample.{asked_hello, hello_outputs, hello_text}
 
 pub hello-chunk : IsChunk (frame hello_text)
 unfolding hello_text
