@@ -1,10 +1,7 @@
 -- The example logs of cuts.
-use Rattle.std.proofs.Common.{◌≡◌, ◌≢◌, ℕ, zero, suc, List, [], ◌∷◌, ◌++◌, refl, sym, ◌∙◌, ap, true, false, arith}
+use Rattle.std.proofs.Common.{◌≡◌, ℕ, zero, suc, List, [], ◌∷◌, ◌++◌, refl, sym, ◌∙◌, ap, true, false, arith}
 use Rattle.std.proofs.lemmas.Bool.{and_parts}
-use Rattle.std.proofs.lemmas.List.Elements.{All-from_recursion}
-use Rattle.std.specs.Prelude.{Bool, ◌&&◌, ◌||◌, not, if◌then◌else◌, pos, slice_get, Option, Some, None}
-use Rattle.gw_base.specs.Setup.{IsPt, IsSetup}
-use Rattle.gw_base.specs.declared.setup.Pt.{Pt}
+use Rattle.std.specs.Prelude.{Bool, ◌&&◌, ◌||◌, not, if◌then◌else◌, pos}
 use Rattle.zvt_apdu.specs.DecodeStream.{decode_apdus, decode_apdus_within}
 use Rattle.zvt_msg.specs.MessageDecode.{decode_pt_message}
 use Rattle.gw_site.specs.declared.turn.Turn.{Turn}
@@ -12,47 +9,21 @@ use Rattle.gw_site.specs.declared.turn.Turn.TheVariants.{Start, OpenFailed, Poll
 use Rattle.gw_owes.specs.Calls.{OwedCall, SendPt, LinkPt, CutPt as OwedCutPt}
 use Rattle.gw_owes.specs.Items.{RoundItem}
 use Rattle.gw_owes.specs.TerminalExample.{ack, completion, enquiry_sent}
-use Rattle.gw_rules.specs.CutExample.{other_pt, two_setup, both_silent_log, both_silent_course, both_cut_course, both_linked_moves, unacknowledged_done_log, unacknowledged_done_course, BothAreCut, BothAreLinkedAgain, OtherIsNotCutFirst, PollBeforeOtherCut, UnacknowledgedDoneIsCut, EnquiryUnacknowledged}
-use Rattle.gw_rules.specs.Lawful.{first_call, may_begin, AllowedTurn, IsCourse}
-use Rattle.gw_rules.specs.RowExample.{example_pt}
+use Rattle.gw_rules.specs.AloneExample.{both_linked_moves}
+use Rattle.gw_rules.specs.CutCauseExample.{unacknowledged_done_log, unacknowledged_done_course}
+use Rattle.gw_rules.specs.Lawful.{first_call, may_begin, AllowedTurn}
 use Rattle.gw_rules.specs.TerminalLogExample.{linked_log, items_begin}
-use Rattle.gw_rules.specs.View.{View, Move, Begin, Make, after, after_turn, at_first}
+use Rattle.gw_rules.specs.View.{View, Begin, Make, after, after_turn, at_first}
+use Rattle.gw_rules.proofs.AloneExampleLemmas.{from-two}
 use Rattle.gw_rules.proofs.CutCauseLemmas.{failed-send-cuts}
 use Rattle.gw_rules.proofs.LinkLawLemmas.{same-call}
 use Rattle.gw_rules.proofs.PrefixLemmas.{Along, along, lawful-along}
-use Rattle.gw_rules.proofs.RowExampleLemmas.{pt-formed, formed}
 use Rattle.gw_rules.proofs.StageLemmas.{no-true, no-call}
 use Rattle.gw_rules.proofs.TerminalLogLemmas.{after_start, from-start}
-use Rattle.gw_rules.proofs.TestedLemmas.{passes_course, course-tested}
 use Rattle.gw_rules.proofs.UnlawfulLemmas.{take-next, take-owed, begin-next, no-poll-item, no-poll-call}
-use Rattle.gw_rules.proofs.TextLemmas.{ident-tested}
+use Rattle.rule_examples.specs.CutExample.{both_silent_log, both_silent_course, both_cut_course, BothAreCut, BothAreLinkedAgain, OtherIsNotCutFirst, PollBeforeOtherCut, UnacknowledgedDoneIsCut, EnquiryUnacknowledged}
 
 -- ---- what is lawful
-
-two-formed : IsSetup two_setup
-two-formed = record {
-  name = formed.name;
-  line = formed.line;
-  wait = formed.wait;
-  slots = formed.slots;
-  count = omega arith;
-  each = All-from_recursion IsPt (example_pt ∷ other_pt ∷ []) (pt-formed, (other-formed, tt));
-  distinct = (All-from_recursion (λ (other : Pt). example_pt.poi ≢ other.poi) (other_pt ∷ []) (differs, tt), (All-from_recursion _ [] tt, tt));
-}
-  where
-    code : Option ℕ → ℕ
-    code None = 0
-    code (Some byte) = byte
-
-    differs : example_pt.poi ≡ other_pt.poi → ⊥
-    differs same = let codes_are : ◌≡◌ {A = ℕ} 49 50 = ap (λ l. code (slice_get l 1)) same in omega (arith, codes_are)
-
-    other-formed : IsPt other_pt
-    other-formed = record { poi = ident-tested 40 other_pt.poi refl; password = pt-formed.password; config = pt-formed.config; none = pt-formed.none; answer = pt-formed.answer; command = pt-formed.command }
-
--- a course of both from the start on
-pub from-two : (moves : List Move) → passes_course (after at_first (Make (Start two_setup))) moves ≡ true → IsCourse at_first (Make (Start two_setup) ∷ moves)
-from-two moves e = ((refl, two-formed), course-tested (after at_first (Make (Start two_setup))) moves e)
 
 pub both-are-cut : BothAreCut
 both-are-cut = record { along = record { turns = refl; lawful = from-two (after_start both_cut_course) refl }; first_is = refl; other_is = refl }

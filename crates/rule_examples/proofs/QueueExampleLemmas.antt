@@ -14,13 +14,13 @@ use Rattle.gw_owes.specs.Replies.{failure_reply}
 use Rattle.gw_rules.specs.DayLogExample.{day_header, day_request}
 use Rattle.gw_rules.specs.Lawful.{IsCourse}
 use Rattle.gw_rules.specs.PaymentLogExample.{begun_course, logged_intent, payment_request, ready_none_course}
-use Rattle.gw_rules.specs.QueueExample.{ExampleQueues, early_course, joining_course, queue_setup, overdue_course, serving_course}
 use Rattle.gw_rules.specs.View.{View, Make, after, view_from, at_first}
 use Rattle.gw_rules.proofs.CourseLemmas.{course-append}
 use Rattle.gw_rules.proofs.DayTextLemmas.{day-chunk, day-read}
 use Rattle.gw_rules.proofs.PaymentTextLemmas.{payment-chunk, payment-read}
 use Rattle.gw_rules.proofs.RowExampleLemmas.{formed}
 use Rattle.gw_rules.proofs.TestedLemmas.{course-tested}
+use Rattle.rule_examples.specs.QueueExample.{ExampleQueues, early_course, joining_course, queue_setup, overdue_course, serving_course}
 
 queue-formed : IsSetup queue_setup
 queue-formed = record { name = formed.name; line = omega arith; wait = (omega arith, omega arith); slots = formed.slots; count = formed.count; each = formed.each; distinct = formed.distinct }

@@ -1,46 +1,24 @@
 -- Example logs of cuts: of two terminals whose deadlines come at one moment, and of one to which an acknowledgement can't be sent. Each is along a course that the checker computes.
-use Rattle.std.specs.Prelude.{◌≡◌, pos, false, true, List, [], ◌∷◌, ◌++◌, slice_get, Option, Some, codes}
-use Rattle.std.specs.Option.{option_map}
-use Rattle.gw_base.specs.declared.setup.Pt.{Pt}
-use Rattle.gw_base.specs.declared.setup.Setup.{Setup}
+use Rattle.std.specs.Prelude.{◌≡◌, pos, true, List, [], ◌∷◌, ◌++◌, Some}
 use Rattle.gw_site.specs.declared.turn.Turn.{Turn}
-use Rattle.gw_site.specs.declared.turn.Turn.TheVariants.{Polled, HeardPt, Linked, SentPt, CutPt, Stopped}
+use Rattle.gw_site.specs.declared.turn.Turn.TheVariants.{Polled, SentPt, CutPt, Stopped}
 use Rattle.gw_owes.specs.declared.terminal.Standing.{Standing}
 use Rattle.gw_owes.specs.declared.terminal.Standing.TheVariants.{Unlinked, Registering}
-use Rattle.gw_owes.specs.declared.terminal.Terminal.{Terminal}
-use Rattle.gw_owes.specs.TerminalExample.{ack, completion, enquiry_sent}
-use Rattle.gw_rules.specs.Example.{example_setup, IsCourseAlong, IsUnlawfulAfter, began, began_moves}
-use Rattle.gw_rules.specs.RowExample.{example_pt, first_standing, register_bytes}
-use Rattle.gw_rules.specs.TerminalLogExample.{linked_log, linked_course, items_begin, LeavesStanding}
-use Rattle.gw_rules.specs.View.{View, Move, Begin, Make, view_from, at_first}
+use Rattle.gw_owes.specs.TerminalExample.{enquiry_sent}
+use Rattle.gw_rules.specs.AloneExample.{two_setup, other_standing, both_linked, both_linked_moves}
+use Rattle.gw_rules.specs.CutCauseExample.{unacknowledged_done_log, unacknowledged_done_course}
+use Rattle.gw_rules.specs.Example.{IsCourseAlong, IsUnlawfulAfter, began, began_moves}
+use Rattle.gw_rules.specs.RowExample.{first_standing}
+use Rattle.gw_rules.specs.TerminalLogExample.{items_begin, LeavesStanding}
+use Rattle.gw_rules.specs.View.{Move, Begin, Make, view_from, at_first}
 
 -- ---- two terminals
-
--- the same terminal but for its POIID
-abbrev pub other_pt : Pt
-other_pt = record example_pt { poi = codes "T2" }
-
--- a gateway with both
-abbrev pub two_setup : Setup
-two_setup = record example_setup { terminals = example_pt ∷ other_pt ∷ [] }
-
--- the standing of the other terminal
-abbrev pub other_standing : View → Option Standing
-other_standing v = option_map (λ (terminal : Terminal). terminal.standing) (slice_get v.scene.core.terminals 1)
 
 -- the log is lawful by this course, and at its end both terminals have this standing
 pub record LeavesBoth (log : List Turn) (course : List Move) (standing : Standing) : Type 0 where
   pub along : IsCourseAlong log course
   pub first_is : first_standing (view_from at_first course) ≡ Some standing
   pub other_is : other_standing (view_from at_first course) ≡ Some standing
-
--- both are due at this moment, and linked and registered in the order of the setup
-abbrev pub both_linked : List Turn
-both_linked = Linked 0 ∷ SentPt 0 register_bytes true ∷ Linked 1 ∷ SentPt 1 register_bytes true ∷ []
-
--- the course of that: neither is late
-abbrev pub both_linked_moves : List Move
-both_linked_moves = items_begin 3 ++ Make (Linked 0) ∷ Make (SentPt 0 register_bytes true) ∷ Begin ∷ Make (Linked 1) ∷ Make (SentPt 1 register_bytes true) ∷ []
 
 -- both are silent until their deadlines come at moment 5
 abbrev pub both_silent_log : List Turn
@@ -75,14 +53,6 @@ abbrev pub PollBeforeOtherCut : Type 0
 PollBeforeOtherCut = IsUnlawfulAfter (both_silent_log ++ CutPt 0 ∷ []) (Polled (pos 5))
 
 -- ---- an acknowledgement that can't be sent
-
--- the registration is done, and that can't be acknowledged
-abbrev pub unacknowledged_done_log : List Turn
-unacknowledged_done_log = linked_log ++ Polled (pos 1) ∷ HeardPt 0 (ack ++ completion) ∷ SentPt 0 (0x80 ∷ []) false ∷ []
-
--- its course
-abbrev pub unacknowledged_done_course : List Move
-unacknowledged_done_course = linked_course ++ Make (Polled (pos 1)) ∷ Make (HeardPt 0 (ack ++ completion)) ∷ (items_begin 4 ++ Make (SentPt 0 (0x80 ∷ []) false) ∷ [])
 
 -- the terminal is cut, and isn't enquired after that
 abbrev pub UnacknowledgedDoneIsCut : Type 0

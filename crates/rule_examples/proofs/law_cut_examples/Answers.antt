@@ -1,6 +1,6 @@
 -- Proof of the contract of `law_cut_examples`.
-use Rattle.gw_rules.proofs.CutExampleLemmas.{both-are-cut, both-are-linked-again, unacknowledged-done-cut, other-not-cut-first, poll-before-other-cut, enquiry-unacknowledged}
-use Rattle.gw_rules.proofs.law_cut_examples.Goals as goal
+use Rattle.rule_examples.proofs.CutExampleLemmas.{both-are-cut, both-are-linked-again, unacknowledged-done-cut, other-not-cut-first, poll-before-other-cut, enquiry-unacknowledged}
+use Rattle.rule_examples.proofs.law_cut_examples.Goals as goal
 
 pub returns-clause-both_cut : goal.returns-clause-both_cut
 returns-clause-both_cut c = both-are-cut
