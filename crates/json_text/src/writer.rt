@@ -80,7 +80,7 @@ fn write_object(members: &[(Chars, Json)], out: &mut Vec<u8>) -> Result<(), Allo
     out.extend_from_slice(b"}")
 }
 
-/// Appends the comma before the element or member of this index; none stands before the first.
+/// Appends the comma before the element or member of this index; none comes before the first.
 #[inline]
 fn write_comma(index: usize, out: &mut Vec<u8>) -> Result<(), AllocError>
     ensures ok { OnOk result (out.new.items ≡ out.old.items ++ (if index == 0 then [] else 44 ∷ [])) }
