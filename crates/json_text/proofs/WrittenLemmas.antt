@@ -40,7 +40,7 @@ goes_on : (old between now comma chunk rest whole : List ℕ) → old ++ (comma 
 goes_on old between now comma chunk rest whole e f g =
     ap (λ l. l ++ rest) (g ∙ ap (λ l. l ++ chunk) f) ∙ append_assoc (old ++ comma) chunk rest ∙ append_assoc old comma (chunk ++ rest) ∙ e
 
--- the comma before an element or member; none stands before the first
+-- the comma before an element or member; none comes before the first
 abbrev comma : Bool → List ℕ
 comma first = if first then [] else 44 ∷ []
 
