@@ -318,7 +318,7 @@ impl Dispatch {
     }
 
     /// The rounds of a run, at most so many, from the first on.
-    fn turns<S: Site>(&mut self, site: &mut S, most: u64) -> Ended
+    fn rounds<S: Site>(&mut self, site: &mut S, most: u64) -> Ended
         requires ready { IsReady self.old (S.observed site.old) }
         ensures failed { result ≡ Ended.Disk → HasBroken (S.observed site.old) (S.observed site.new) }
         ensures triple { (setup : TheSetup) → gateway_of setup ≡ self.old.state.gateway → Triple (S.observed site.old) (S.observed site.new)
@@ -360,7 +360,7 @@ pub(crate) fn rounds<S: Site>(
     ensures goes_on { GoesOnByPolls most (S.observed site.old) (S.observed site.new) }
 {
     match Dispatch::open(alloc, setup, records) {
-        Ok(mut dispatch) => dispatch.turns(site, most),
+        Ok(mut dispatch) => dispatch.rounds(site, most),
         Err(AllocError) => Ended::NoMemory,
     }
 }

@@ -202,12 +202,12 @@ fn push_sent_pt(
 fn push_wrote(
     alloc: Global,
     lines: &mut String,
-    pos: u64,
+    offset: u64,
     bytes: &SharedBytes,
 ) -> Result<(), AllocError>
-    ensures { OnOk result (string_bytes lines.new ≡ string_bytes lines.old ++ turn_text (Wrote pos bytes.now)) }
+    ensures { OnOk result (string_bytes lines.new ≡ string_bytes lines.old ++ turn_text (Wrote offset bytes.now)) }
 {
-    write!(lines, "wrote {pos} ")?;
+    write!(lines, "wrote {offset} ")?;
     push_hex(alloc, lines, bytes.as_slice())
 }
 

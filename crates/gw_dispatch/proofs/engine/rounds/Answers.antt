@@ -5,14 +5,14 @@ use Rattle.gw_dispatch.proofs.GrowthLemmas.{goes-nowhere, goes-without-poll}
 use Rattle.gw_dispatch.proofs.RoundLemmas.{no-memory, opened-lacks}
 use Rattle.gw_dispatch.proofs.engine.rounds.Goals as goal
 
-pub turns-requires : goal.turns-requires
-turns-requires g c = record { ready = c.in-Ok.ensures.ready _ c.requires.stands }
+pub rounds-requires : goal.rounds-requires
+rounds-requires g c = record { ready = c.in-Ok.ensures.ready _ c.requires.stands }
 
 pub returns-in-Ok-clause-triple : goal.returns-in-Ok-clause-triple
-returns-in-Ok-clause-triple g c = triple-before _ _ _ _ _ c.in-Ok.ensures.begun (c.turns.ensures.triple c.args.setup.now c.in-Ok.ensures.gateway)
+returns-in-Ok-clause-triple g c = triple-before _ _ _ _ _ c.in-Ok.ensures.begun (c.rounds.ensures.triple c.args.setup.now c.in-Ok.ensures.gateway)
 
 pub returns-in-Ok-clause-memory : goal.returns-in-Ok-clause-memory
-returns-in-Ok-clause-memory g c = λ lacks before e. inl (c.turns.ensures.memory lacks before e)
+returns-in-Ok-clause-memory g c = λ lacks before e. inl (c.rounds.ensures.memory lacks before e)
 
 pub returns-in-Err-clause-triple : goal.returns-in-Err-clause-triple
 returns-in-Err-clause-triple g c = no-memory _ _ _ (λ v p. opened-lacks c.args.setup.now c.args.records v p)

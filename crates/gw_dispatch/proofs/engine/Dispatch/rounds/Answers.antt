@@ -1,10 +1,10 @@
--- Proof of the contract of `Dispatch::turns`.
+-- Proof of the contract of `Dispatch::rounds`.
 use Rattle.std.proofs.Common.{◌∙◌, ◌+◌, refl, sym, ap, arith, inl}
 use Rattle.std.specs.Prelude.{Err}
 use Rattle.gw_rules.proofs.TripleLemmas.{triple-refl, triple-then, triple-after}
 use Rattle.gw_dispatch.proofs.GrowthLemmas.{after-polls, breaks-after, goes-nowhere, goes-without-poll, polls-then, polls-within, round-for-memory}
 use Rattle.gw_dispatch.proofs.RoundLemmas.{all-polled, idle-lacks}
-use Rattle.gw_dispatch.proofs.engine.Dispatch.turns.Goals as goal
+use Rattle.gw_dispatch.proofs.engine.Dispatch.rounds.Goals as goal
 
 pub loop-made-init : goal.loop-made-init
 loop-made-init g c = record {

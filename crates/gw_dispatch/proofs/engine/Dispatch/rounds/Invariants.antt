@@ -1,11 +1,11 @@
--- What the loop of `Dispatch::turns` keeps.
+-- What the loop of `Dispatch::rounds` keeps.
 use Rattle.std.proofs.Common.{◌≡◌, length}
 use Rattle.gw_base.specs.declared.setup.Setup.{Setup}
 use Rattle.gw_rules.specs.Triple.{Triple}
 use Rattle.gw_dispatch.specs.Growth.{GoesOnByPolls}
 use Rattle.gw_dispatch.specs.RunState.{gateway_of}
 use Rattle.gw_dispatch.specs.Rounds.{IsReady, IsBetweenRounds}
-use Rattle.gw_dispatch.proofs.engine.Dispatch.turns.Given as goal
+use Rattle.gw_dispatch.proofs.engine.Dispatch.rounds.Given as goal
 
 abbrev pub invariant-loop-made : goal.invariant-loop-made
 invariant-loop-made g l = record {
