@@ -227,13 +227,11 @@ turned true false e = refl
 turned false true e = refl
 turned false false e = e
 
-pub till_turn : (log : List Turn) (till : ℕ) (sent bytes : List ℕ) (none : Bool) (most real : Option ℕ) → sent ≡ sent_of most bytes → is_some most ≡ not none → most ≡ real →
-    log ++ SentTill till sent none ∷ [] ≡ log ++ SentTill till (sent_of real bytes) (not (is_some real)) ∷ []
-till_turn log till sent bytes none most real s n m = rw (s, turned (is_some most) none n, m) refl
+pub till_turn : (log : List Turn) (till : ℕ) (sent bytes : List ℕ) (none : Bool) (most : Option ℕ) → sent ≡ sent_of most bytes → is_some most ≡ not none → log ++ SentTill till sent none ∷ [] ≡ log ++ SentTill till (sent_of most bytes) (not (is_some most)) ∷ []
+till_turn log till sent bytes none most s n = rw (s, turned (is_some most) none n) refl
 
-pub pt_turn : (log : List Turn) (pt : ℕ) (sent bytes : List ℕ) (none : Bool) (most real : Option ℕ) → sent ≡ sent_of most bytes → is_some most ≡ not none → most ≡ real →
-    log ++ SentPt pt sent none ∷ [] ≡ log ++ SentPt pt (sent_of real bytes) (not (is_some real)) ∷ []
-pt_turn log pt sent bytes none most real s n m = rw (s, turned (is_some most) none n, m) refl
+pub pt_turn : (log : List Turn) (pt : ℕ) (sent bytes : List ℕ) (none : Bool) (most : Option ℕ) → sent ≡ sent_of most bytes → is_some most ≡ not none → log ++ SentPt pt sent none ∷ [] ≡ log ++ SentPt pt (sent_of most bytes) (not (is_some most)) ∷ []
+pt_turn log pt sent bytes none most s n = rw (s, turned (is_some most) none n) refl
 
 -- ---- polls
 

@@ -16,7 +16,7 @@ returns-clause-polled c =
       power = none_off c.sought.new.place.off (sym c.is_some.ensures ∙ c.if-is_some.false);
       place = λ o held. c.in_ok-line.ensures.met o held ∙ ap (λ due. record (place_value c.args.lines.now c.sought.new.place) { due = due }) (sym brought.turn);
       what = brought.what ∙ sym brought.turn;
-      followed = c.in_ok-follow.ensures;
+      followed = c.in_ok-brought.ensures.followed;
       count = brought.count;
       promise = λ o held. brought.promise o (c.in_ok-line.ensures.unskipped o held);
     }
