@@ -160,14 +160,19 @@ fn push_poll(log: &mut Turns, now: i64, event: Option<Turn>) -> Result<(), Alloc
 /// Appends the turn of a write, and that of its failure.
 fn push_write(
     log: &mut Turns,
+    alloc: Global,
     offset: u64,
-    bytes: SharedBytes,
+    bytes: &[u8],
     fails: bool,
 ) -> Result<(), AllocError>
-    ensures ok { OnOk result (log.new ≡ log.old ++ (if fails then Wrote offset bytes ∷ DiskFailed ∷ [] else Wrote offset bytes ∷ [])) }
-    ensures err { OnErr result ((log.new ≡ log.old) ⊎ (log.new ≡ log.old ++ Wrote offset bytes ∷ [])) }
+    ensures ok { OnOk result (log.new ≡ log.old ++ (if fails then Wrote offset bytes.now ∷ DiskFailed ∷ [] else Wrote offset bytes.now ∷ [])) }
+    ensures err { OnErr result ((log.new ≡ log.old) ⊎ (log.new ≡ log.old ++ Wrote offset bytes.now ∷ [])) }
 {
-    log.push(Turn::Wrote { pos: offset, bytes })?;
+    let copy = SharedBytes::copied(alloc, bytes)?;
+    log.push(Turn::Wrote {
+        pos: offset,
+        bytes: copy,
+    })?;
     if fails {
         log.push(Turn::DiskFailed)?;
     }
@@ -494,9 +499,8 @@ impl Played {
     {
         self.short = true;
         let fails = self.place.hazard.write;
-        let copy = SharedBytes::copied(alloc, bytes)?;
         self.disk.write(offset as usize, bytes)?;
-        push_write(&mut self.log, offset, copy, fails)?;
+        push_write(&mut self.log, alloc, offset, bytes, fails)?;
         self.place.write();
         self.short = false;
         Ok(fails)

@@ -1,9 +1,5 @@
 //! A poll of a script.
-ghost use Rattle.std.specs.Prelude.{◌≡◌, IfOk, None, length, option_map};
-ghost use Rattle.std.specs.Option.{option_copied};
-ghost use Rattle.sim_script.specs.Values.{script_line_value};
-ghost use Rattle.sim_site.specs.Broughts.{HasDueTurn};
-ghost use Rattle.sim_site.specs.Connected.{IsFollowed};
+ghost use Rattle.std.specs.Prelude.{◌≡◌, IfOk, None, length};
 ghost use Rattle.sim_site.specs.Made.{EndsPoll};
 
 use crate::brought::{Brought, bring};
@@ -29,21 +25,6 @@ pub(crate) fn polled(
     if place.off.is_some() {
         return Ok(None);
     }
-    let brought = bring_on(line, connections, buf)?;
-    Ok(Some(brought))
-}
-
-/// What a poll brings that ends at this line, or after the last one; the connections follow it.
-fn bring_on(
-    line: Option<&ScriptLine>,
-    connections: &mut Connections,
-    buf: &mut [u8; 4096],
-) -> Result<Brought, AllocError>
-    ensures brought { IfOk result (λ brought. HasDueTurn brought (option_map script_line_value (option_copied line.entry)) buf.new) }
-    ensures followed { IfOk result (λ brought. IsFollowed connections.old connections.new brought.what) }
-    ensures buf { length buf.new ≡ 4096 }
-{
     let brought = bring(line, buf)?;
-    connections.follow(brought.what)?;
-    Ok(brought)
+    connections.follow(brought.what).and(Ok(Some(brought)))
 }
