@@ -342,7 +342,7 @@ impl Dispatch {
     }
 }
 
-/// The rounds of a run with this setup, at most so many, once its opening is done.
+/// Makes what a run with this setup holds, once its opening is done, and then its rounds, at most so many.
 pub(crate) fn rounds<S: Site>(
     alloc: Global,
     setup: &Setup,

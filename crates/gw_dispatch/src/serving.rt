@@ -182,7 +182,7 @@ fn queue<S: Site>(
     }
 }
 
-/// Gives a till what its message wants done: its reply is sent, or the request begins at its terminal or joins those that wait for it.
+/// Does what a till's message wants: nothing, its reply, its beginning at a terminal, or a change of those that wait.
 fn serve_message<S: Site>(
     state: &mut RunState,
     tills: &mut Tills,

@@ -19,7 +19,6 @@ use Rattle.clap.specs.declared.parser.matches.ArgMatches.{ArgMatches}
 use Rattle.clap.specs.declared.builder.command.Command.{Command}
 use Rattle.clap.specs.declared.builder.command.Command.TheViews.{out-Command}
 use Rattle.gw_run.specs.Words.{bare_command, gateway_command, number_in, number_of, number_parser, order_in, order_of}
-use Rattle.gw_run.specs.WordsRead.{IsTaken}
 use Rattle.gw_run.specs.declared.words.Order.{Order}
 
 number-small : (n : ℕ) → n < 2 ^ 64 → n ≤ 18446744073709551615
@@ -73,6 +72,11 @@ order-by (fault ∷ faults) rows matches e is = cc
 none-by : (faults : Kinds) (order : Option Order) → faults ≢ [] → None ≡ (if is_empty faults then order else None)
 none-by [] order some = absurd (some refl)
 none-by (fault ∷ faults) order some = grind (arith, nat_tests)
+
+-- the command takes these words and was given this, or it doesn't take them
+abbrev pub IsTaken : List (List ℕ) → Option ArgMatches → Type 0
+IsTaken words None = fault_of gateway_command words ≢ []
+IsTaken words (Some matches) = (fault_of gateway_command words ≡ []) × (rows_of (found_of matches) ≡ matches_of gateway_command words)
 
 -- what words ask for that the command takes
 pub order-taken : (words : List (List ℕ)) (matches : ArgMatches) → IsTaken words (Some matches) → order_in (rows_of (found_of matches)) ≡ order_of words

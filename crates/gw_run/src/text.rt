@@ -86,14 +86,14 @@ fn printable_str(bytes: &[u8]) -> &str
 }
 
 /// Appends a text and a number.
-fn push_numbered(lines: &mut String, before: &str, number: u64) -> Result<(), AllocError>
+fn push_number(lines: &mut String, before: &str, number: u64) -> Result<(), AllocError>
     ensures { OnOk result (string_bytes lines.new ≡ string_bytes lines.old ++ (before.now ++ decimal number)) }
 {
     write!(lines, "{before}{number}")
 }
 
-/// Appends a text, a number and a text.
-fn push_number(lines: &mut String, before: &str, number: u64, after: &str) -> Result<(), AllocError>
+/// Appends a number between two texts.
+fn push_number_between(lines: &mut String, before: &str, number: u64, after: &str) -> Result<(), AllocError>
     ensures { OnOk result (string_bytes lines.new ≡ string_bytes lines.old ++ (before.now ++ (decimal number ++ after.now))) }
 {
     write!(lines, "{before}{number}{after}")
@@ -227,18 +227,18 @@ fn push_turn(alloc: Global, lines: &mut String, turn: &Turn) -> Result<(), Alloc
         Turn::Start(_) => lines.push_str("start"),
         Turn::OpenFailed => lines.push_str("open failed"),
         Turn::Polled { now } => write!(lines, "at {now}"),
-        Turn::Opened { till } => push_numbered(lines, "open ", *till),
+        Turn::Opened { till } => push_number(lines, "open ", *till),
         Turn::HeardTill { till, bytes } => push_heard_till(alloc, lines, *till, bytes),
-        Turn::Closed { till } => push_numbered(lines, "close ", *till),
+        Turn::Closed { till } => push_number(lines, "close ", *till),
         Turn::HeardPt { pt, bytes } => push_heard_pt(alloc, lines, *pt, bytes),
-        Turn::Lost { pt } => push_numbered(lines, "lost ", u64::from(*pt)),
+        Turn::Lost { pt } => push_number(lines, "lost ", u64::from(*pt)),
         Turn::Stopped => lines.push_str("stop"),
-        Turn::Linked { pt } => push_numbered(lines, "link ", u64::from(*pt)),
-        Turn::LinkFailed { pt } => push_number(lines, "link ", u64::from(*pt), " failed"),
+        Turn::Linked { pt } => push_number(lines, "link ", u64::from(*pt)),
+        Turn::LinkFailed { pt } => push_number_between(lines, "link ", u64::from(*pt), " failed"),
         Turn::SentTill { till, bytes, ok } => push_sent_till(alloc, lines, *till, bytes, *ok),
         Turn::SentPt { pt, bytes, ok } => push_sent_pt(alloc, lines, *pt, bytes, *ok),
-        Turn::CutTill { till } => push_number(lines, "till ", *till, " cut"),
-        Turn::CutPt { pt } => push_number(lines, "pt ", u64::from(*pt), " cut"),
+        Turn::CutTill { till } => push_number_between(lines, "till ", *till, " cut"),
+        Turn::CutPt { pt } => push_number_between(lines, "pt ", u64::from(*pt), " cut"),
         Turn::Wrote { pos, bytes } => push_wrote(alloc, lines, *pos, bytes),
         Turn::Synced => lines.push_str("synced"),
         Turn::DiskFailed => lines.push_str("disk failed"),

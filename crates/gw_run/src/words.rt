@@ -150,7 +150,7 @@ fn slices<'a>(alloc: Global, words: &'a [Text]) -> Result<Vec<&'a str>, AllocErr
     Ok(list)
 }
 
-/// Nothing is asked for by words that are refused, unless memory was.
+/// What refused words ask for: nothing; an error where memory was refused.
 fn refused(error: &Error) -> Result<Option<Order>, AllocError>
     ensures { IfOk result (λ order. (order ≡ None) × (kind_of error.now ≢ ErrorKind.OutOfMemory)) }
 {

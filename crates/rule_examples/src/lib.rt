@@ -20,7 +20,7 @@ pub fn law_day_log_examples()
 
 /// A till closes in the middle of the device requests of its payment: it gets none after, and no other till does; the payment ends and
 /// its Outcome is kept, and nobody gets a reply.
-pub fn law_closed_till()
+pub fn law_closed_till_example()
     ensures closed_example { ClosedTillIsLawful }
 {}
 

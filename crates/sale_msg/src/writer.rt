@@ -16,7 +16,7 @@ use gw_base::{Ident, Text};
 use json_text::write_text;
 use sale_values::{
     Header, Output, Outputs, Part, PaymentAsk, Period, Reference, ReversalAsk, SaleRequest, Texts,
-    bytes_of, header_parts, money,
+    ident_bytes, header_parts, money,
 };
 use std::alloc::{AllocError, Global};
 
@@ -255,8 +255,8 @@ fn referring_parts(reference: &Reference) -> [Part<'_>; 5]
     [
         Part::Raw(b"{\"MessageReference\":{\"ServiceID\":"),
         Part::Text(reference.service.as_bytes()),
-        Part::Optional(b",\"SaleID\":", bytes_of(&reference.sale)),
-        Part::Optional(b",\"POIID\":", bytes_of(&reference.poi)),
+        Part::Optional(b",\"SaleID\":", ident_bytes(&reference.sale)),
+        Part::Optional(b",\"POIID\":", ident_bytes(&reference.poi)),
         Part::Raw(b"}}"),
     ]
 }

@@ -4,10 +4,10 @@ use Rattle.std.specs.List.{filter_map}
 use Rattle.toml.specs.Data.{Members, as_table}
 use Rattle.toml.specs.View.{view}
 use Rattle.toml.specs.declared.value.Value.{Value}
+use Rattle.gw_base.specs.declared.setup.Pt.{Pt}
 use Rattle.gw_config.specs.declared.fault.ConfigFault.{ConfigFault}
 use Rattle.gw_config.specs.declared.fault.ConfigFault.TheVariants.{Memory}
 use Rattle.gw_config.specs.Keys.{KeyRule, key_value, key_fault, line_key, wait_key, slots_key, terminal_key, currency_key, password_key, config_key, none_key, answer_key, command_key}
-use Rattle.gw_base.specs.declared.setup.Pt.{Pt}
 use Rattle.gw_config.specs.Faults.{terminals_fault, terminals_of, unknown_faults}
 use Rattle.gw_config.specs.Grammar.{ArePtsOf}
 use Rattle.gw_config.specs.declared.document.Limits.{Limits}

@@ -5,5 +5,5 @@ use Rattle.sale_msg.proofs.writer.referring_parts.Goals as goal
 pub returns : goal.returns
 returns c =
     let reference = c.args.reference.now in
-    rw (c.as_bytes.ensures.value, c.bytes_of.ensures, c.bytes_of-2.ensures)
+    rw (c.as_bytes.ensures.value, c.ident_bytes.ensures, c.ident_bytes-2.ensures)
     (referring_spelled reference.service reference.sale reference.poi)
