@@ -162,7 +162,7 @@ fn each_since<R: Clock>(rt: &R, start: &Instant, lines: u64) -> anyhow::Result<u
     Ok(each(start.elapsed(rt)?.as_nanos(), lines))
 }
 
-/// Plays the script that a site has read, and how many polls were made, with the nanoseconds of a line.
+/// Plays the script that a site has read: how many polls were made, and the nanoseconds of a line.
 fn play_timed<R: AllocGlobal + Clock>(
     rt: &R,
     site: &mut SimSite,

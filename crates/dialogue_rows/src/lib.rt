@@ -1,5 +1,4 @@
-//! Dialogues with a terminal, and power failures in them, in whole scripts by the top call, and a played terminal alone: rows that no
-//! clause of one crate says.
+//! Dialogues with a terminal, and power failures in them, in whole scripts by the top call, and a played terminal alone.
 #![tactic(auto)]
 
 #[cfg(test)]

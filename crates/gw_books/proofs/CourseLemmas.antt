@@ -1,5 +1,5 @@
 -- The courses of the examples are lawful, and lean.
-use Rattle.std.proofs.Common.{◌≡◌, Bool, true, List, [], ◌∷◌, ◌++◌, refl, sym, arith, leb-true}
+use Rattle.std.proofs.Common.{◌≡◌, Bool, true, List, [], ◌∷◌, ◌++◌, refl, arith, leb-true}
 use Rattle.std.proofs.lemmas.Bool.{and_parts}
 use Rattle.std.specs.Prelude.{◌&&◌, pos}
 use Rattle.gw_site.specs.declared.turn.Turn.TheVariants.{Start, Polled, Opened}
@@ -12,8 +12,7 @@ use Rattle.jrn_record.specs.declared.records.Record.TheVariants.{Intent, Outcome
 use Rattle.gw_ledger.specs.History.{history}
 use Rattle.gw_owes.specs.Calls.{Ask, Acknowledge, WriteBody, WriteGate}
 use Rattle.gw_owes.specs.TerminalExample.{ack, completion, abort, approved_status}
-use Rattle.gw_rules.specs.Lawful.{IsCourse, IsChunk, turns_of}
-use Rattle.gw_rules.specs.Laws.{IsLeanCourse}
+use Rattle.gw_rules.specs.Lawful.{IsCourse, IsChunk}
 use Rattle.gw_rules.specs.Lean.{goes_on, IsLean}
 use Rattle.gw_rules.specs.RowExample.{terminal_setup}
 use Rattle.gw_rules.specs.TerminalLogExample.{items_begin}
@@ -22,8 +21,7 @@ use Rattle.gw_rules.proofs.CourseLemmas.{course-append}
 use Rattle.gw_rules.proofs.RowExampleLemmas.{formed}
 use Rattle.gw_rules.proofs.TestedLemmas.{passes_course, course-tested}
 use Rattle.gw_rules.proofs.TextLemmas.{bytes-tested}
-use Rattle.gw_books.specs.Example.{payment_text, paying_intent, ready_moves, opened_moves, asked_moves, asked_course, kept_approval, paid_reply, paid_moves, paid_course, kept_decline, refusal_reply, refused_moves, refused_course, progress_reply, lost_moves, lost_course, PaidHasPast, RefusedHasPast, LostHasPast}
-use Rattle.gw_books.proofs.ExampleLemmas.{paid-past, refused-past, lost-past}
+use Rattle.gw_books.specs.Example.{payment_text, paying_intent, ready_moves, opened_moves, asked_moves, asked_course, kept_approval, paid_reply, paid_moves, kept_decline, refusal_reply, refused_moves}
 use Rattle.gw_books.proofs.PaymentTextLemmas.{payment-reads}
 
 -- ---- lean
@@ -84,25 +82,8 @@ pub declining-lawful : IsCourse (view_from at_first asked_course) (refused_moves
 unfolding decode_apdus decode_apdus_within decode_pt_message history payment_text
 declining-lawful = (record { running = refl; calls = refl; items = refl }, ((record { polled = refl; connected_is = refl }, declining-chunk), (record { idle = record { round = refl; calls = refl }; first = refl }, (record { idle = record { round = refl; calls = refl }; first = refl }, (record { idle = record { round = refl; calls = refl }; first = refl }, (record { idle = record { round = refl; calls = refl }; first = refl }, ((Acknowledge, refl, refl), (record { idle = record { round = refl; calls = refl }; first = refl }, ((WriteBody 1 (Outcome kept_decline), refl, refl), (refl, ((WriteGate 1 (Outcome kept_decline), refl, refl), (refl, ((refusal_reply, refl, refl), (record { idle = record { round = refl; calls = refl }; first = refl }, (record { idle = record { round = refl; calls = refl }; first = refl }, (record { idle = record { round = refl; calls = refl }; first = refl }, (record { running = refl; calls = refl; items = refl }, tt)))))))))))))))))
 
-losing-lawful : IsCourse (view_from at_first asked_course) (lost_moves ++ Make (Polled (pos 7)) ∷ [])
-unfolding decode_apdus decode_apdus_within decode_pt_message history payment_text
-losing-lawful = (record { running = refl; calls = refl; items = refl }, (record { polled = refl; connected_is = refl }, (record { idle = record { round = refl; calls = refl }; first = refl }, (record { idle = record { round = refl; calls = refl }; first = refl }, (record { idle = record { round = refl; calls = refl }; first = refl }, (record { running = refl; calls = refl; items = refl }, ((record { polled = refl; connected_is = refl }, payment-chunk), (record { idle = record { round = refl; calls = refl }; waits = refl; bytes = payment_text; message = refl; reads = payment-reads }, (record { idle = record { round = refl; calls = refl }; first = refl }, ((progress_reply, refl, refl), (record { idle = record { round = refl; calls = refl }; first = refl }, (record { idle = record { round = refl; calls = refl }; first = refl }, (record { running = refl; calls = refl; items = refl }, tt)))))))))))))
-
 pub opened-lawful : IsCourse at_first opened_moves
 opened-lawful = course-append at_first ready_moves (Make (Polled (pos 3)) ∷ Make (Opened 1) ∷ items_begin 2) ready-lawful opening-lawful
 
 pub asked-lawful : IsCourse at_first asked_course
 asked-lawful = course-append at_first opened_moves asked_moves opened-lawful asking-lawful
-
--- a course that goes on from there
-lean-course : (moves : List Move) → IsCourse (view_from at_first asked_course) moves → is_lean (asked_course ++ moves) ≡ true → IsLeanCourse (turns_of (asked_course ++ moves)) (asked_course ++ moves)
-lean-course moves lawful e = record { turns_are = refl; lawful = course-append at_first asked_course moves asked-lawful lawful; lean = lean-tested (asked_course ++ moves) e }
-
-pub paid-has-past : PaidHasPast
-paid-has-past = record { moves = paid_course; lean = lean-course (paid_moves ++ Make (Polled (pos 6)) ∷ []) paying-lawful refl; past_is = sym paid-past }
-
-pub refused-has-past : RefusedHasPast
-refused-has-past = record { moves = refused_course; lean = lean-course (refused_moves ++ Make (Polled (pos 6)) ∷ []) declining-lawful refl; past_is = sym refused-past }
-
-pub lost-has-past : LostHasPast
-lost-has-past = record { moves = lost_course; lean = lean-course (lost_moves ++ Make (Polled (pos 7)) ∷ []) losing-lawful refl; past_is = sym lost-past }

@@ -2,12 +2,10 @@
 pub mod AgreeLemmas
 pub mod BeginHoldsLemmas
 pub mod BookLemmas
+pub mod BrokenLemmas
 pub mod CallHoldsLemmas
 pub mod CallNumberLemmas
 pub mod CourseLemmas
-pub mod DayExampleLemmas
-pub mod DayTextLemmas
-pub mod DisagreeLemmas
 pub mod EventLimitLemmas
 pub mod ExampleLemmas
 pub mod FrameRowLemmas
@@ -28,7 +26,6 @@ pub mod NumberStepLemmas
 pub mod Numbering
 pub mod PastLawLemmas
 pub mod PaymentTextLemmas
-pub mod QueuedExampleLemmas
 pub mod QuietRowLemmas
 pub mod RecordMoreLemmas
 pub mod RecordNumberLemmas

@@ -41,7 +41,7 @@ use Rattle.gw_rules.proofs.TextLemmas.{ident-tested}
 use Rattle.gw_books.specs.Past.{HeardEnd, Past, no_past, past_after, past_from, past_of}
 use Rattle.gw_books.specs.Books.{BookedEntry, Honest, is_true}
 use Rattle.gw_books.specs.Said.{Said, IsFramed}
-use Rattle.gw_books.specs.DisagreeExample.{paid_figures, older_entry}
+use Rattle.gw_books.specs.Example.{paid_figures, older_entry}
 use Rattle.gw_books.specs.Headline.{HasPast}
 use Rattle.gw_books.specs.RecoveryExample.{open_past, sent_resolved_status, recovered_past, RecoveredIsResolved, recovered_said, RecoveredIsRepeated, unperformed_outcome, unperformed_moves, unperformed_course, unperformed_past, UnperformedIsResolved, report_heard_course, saying_moves, RecoveredIsSaid, ready_last_course, later_logged_intent, begun_later_moves, below_moves, aside_course, AsideIsNotHonest}
 use Rattle.gw_books.specs.RecoveryLaws.{IsSaidAlong}

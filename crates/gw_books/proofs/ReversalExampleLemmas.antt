@@ -31,11 +31,10 @@ use Rattle.gw_books.specs.Past.{Past, SentReply, past_of}
 use Rattle.gw_books.specs.Books.{Honest}
 use Rattle.gw_books.specs.Said.{IsFramed, all_said}
 use Rattle.gw_books.specs.Agrees.{Agrees, EachSaid, success_agrees, refusal_agrees, unaccepted_agrees, not_found_agrees, in_progress_agrees}
-use Rattle.gw_books.specs.DisagreeExample.{entry_in_time}
-use Rattle.gw_books.specs.Example.{asked_course, asked_past, paid_course, paid_entry, paid_moves, paying_intent, payment_command, payment_occasion, payment_text, sent_success, paid_reply}
+use Rattle.gw_books.specs.Example.{asked_course, asked_past, entry_in_time, paid_course, paid_entry, paid_moves, paying_intent, payment_command, payment_occasion, payment_text, sent_success, paid_reply}
 use Rattle.gw_books.specs.ReversalExample.{abort_text, abort_asked_course, kept_reversal, misasked_course, paid_original, reversal_heard_course, reversal_kept, reversal_text, reversed_book, reversed_course, reversed_moves, reversed_past, reversing_reply, reversed_result_body, reversing_status, reversing_header, reversing_intent, reversing_moves, sent_reversal, stopping_moves, AbortedRoundIsStopped, ReversalIsNoPayment, ReversalRoundIsAsked, ReversedAgrees, ReversedHasPast, ReversedIsBooked}
+use Rattle.gw_books.proofs.BrokenLemmas.{breaks-by, last-refused}
 use Rattle.gw_books.proofs.CourseLemmas.{asked-lawful, lean-tested, paying-lawful}
-use Rattle.gw_books.proofs.DisagreeLemmas.{breaks-by, last-refused}
 use Rattle.gw_books.proofs.ExampleLemmas.{Agreement, each-agrees, success-framed}
 use Rattle.gw_books.proofs.MessageLemmas.{reply-framed}
 use Rattle.gw_books.proofs.ReversalTextLemmas.{abort-reads, reversal-reads}

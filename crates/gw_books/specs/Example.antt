@@ -1,10 +1,11 @@
--- Closed examples: payments that are approved, declined and cut off, with the books that are honest for them and agree.
+-- Closed examples: courses of payments that are approved and declined, and what has happened along them.
 use Rattle.std.specs.Prelude.{◌≡◌, ◌<◌, ℕ, pos, true, false, List, [], ◌∷◌, ◌++◌, Some, None, codes}
-use Rattle.gw_base.specs.declared.condition.Condition.TheVariants.{Cancel, InProgress}
+use Rattle.gw_base.specs.declared.condition.Condition.TheVariants.{Cancel}
 use Rattle.gw_base.specs.declared.currency.Currency.TheVariants.{Eur}
+use Rattle.gw_base.specs.declared.figures.Figures.{Figures}
 use Rattle.gw_base.specs.declared.key.Key.{Key}
 use Rattle.gw_site.specs.Outside.{is_connected}
-use Rattle.gw_site.specs.declared.turn.Turn.TheVariants.{Polled, Opened, HeardTill, HeardPt, Lost, SentPt, SentTill, Synced}
+use Rattle.gw_site.specs.declared.turn.Turn.TheVariants.{Polled, Opened, HeardTill, HeardPt, SentPt, SentTill, Synced}
 use Rattle.sale_frame.specs.Grammar.{frame}
 use Rattle.sale_values.specs.declared.header.Header.{Header}
 use Rattle.sale_values.specs.declared.names.Class.TheVariants as classes
@@ -30,7 +31,7 @@ use Rattle.gw_owes.specs.Items.{Message, Handle}
 use Rattle.gw_owes.specs.PaymentLaws.{MeansAt}
 use Rattle.gw_owes.specs.ReadAs.{ReadAs, IsReadAs, Request}
 use Rattle.gw_owes.specs.Reply.{ReplyValue, Finished, reply_value_bytes}
-use Rattle.gw_owes.specs.Replies.{header_of_reply, failure_reply}
+use Rattle.gw_owes.specs.Replies.{header_of_reply}
 use Rattle.gw_owes.specs.Steps.{Begins, step_result}
 use Rattle.gw_owes.specs.TerminalExample.{ack, completion, abort, approved_status}
 use Rattle.gw_rules.specs.CutCauseExample.{completion_apdu}
@@ -39,10 +40,9 @@ use Rattle.gw_rules.specs.RowExample.{terminal_setup}
 use Rattle.gw_rules.specs.Scene.{known_in}
 use Rattle.gw_rules.specs.TerminalLogExample.{items_begin, enquired_course}
 use Rattle.gw_rules.specs.View.{Move, Begin, Read, Make, view_from, at_first}
-use Rattle.gw_books.specs.Past.{Occasion, OfRequest, OfMessage, OfNothing, Approved, Declined, Reported, SentCommand, MadeLink, SentReply, MadePoll, Past, past_of}
+use Rattle.gw_books.specs.Past.{Occasion, OfRequest, OfMessage, OfNothing, Approved, Declined, Reported, SentCommand, MadeLink, SentReply, MadePoll, Past}
 use Rattle.gw_books.specs.Books.{BookedEntry, Honest}
 use Rattle.gw_books.specs.Agrees.{Agrees}
-use Rattle.gw_books.specs.Headline.{HasPast}
 use Rattle.gw_books.specs.RoundLaws.{ComesNext, EndsRound}
 
 -- ---- what is asked
@@ -147,10 +147,6 @@ asked_past = record {
   deeds = payment_occasion ∷ payment_occasion ∷ payment_occasion ∷ [];
 }
 
--- so it is along the course
-abbrev pub AskedHasPast : Type 0
-AskedHasPast = past_of asked_course ≡ asked_past
-
 -- ---- an approved payment
 
 -- the numbers of its reply
@@ -193,17 +189,21 @@ paid_past = record asked_past {
   deeds = OfMessage 0 Completion ∷ OfMessage 0 Completion ∷ asked_past.deeds;
 }
 
--- the log is lawful, and this has happened along it
-abbrev pub PaidHasPast : Type 0
-PaidHasPast = HasPast (turns_of paid_course) paid_past
-
 -- its entry, which is in the book before the approval is heard
 abbrev pub paid_entry : BookedEntry
 paid_entry = record { poi = codes "T1"; place = 24; cause = Some 22; reversal = false; number = 123; receipt = 17; amount = 1099; approved = true }
 
--- the book with this entry is honest and agrees
-abbrev pub PaidAgrees : Type 0
-PaidAgrees = IsHonestAndAgrees paid_past (paid_entry ∷ [])
+-- the same, just after the command
+abbrev pub entry_in_time : BookedEntry
+entry_in_time = record paid_entry { place = 23 }
+
+-- an older entry of the same terminal, with this trace number
+abbrev pub older_entry : ℕ → BookedEntry
+older_entry number = record paid_entry { place = 0; cause = None; number = number }
+
+-- the figures of the payment
+abbrev pub paid_figures : Figures
+paid_figures = record { number = 123; receipt = 17; amount = 1099 }
 
 -- ---- a declined payment
 
@@ -242,54 +242,6 @@ refused_past = record asked_past {
   polls = polled_linked 31 (Intent paying_intent ∷ Outcome kept_decline ∷ []) ∷ polled_linked 23 (Intent paying_intent ∷ []) ∷ asked_past.polls;
   deeds = OfMessage 0 (Abort (Some 0x6C)) ∷ OfMessage 0 (Abort (Some 0x6C)) ∷ asked_past.deeds;
 }
-
--- the log is lawful, and this has happened along it
-abbrev pub RefusedHasPast : Type 0
-RefusedHasPast = HasPast (turns_of refused_course) refused_past
-
--- the book without an entry is honest and agrees
-abbrev pub RefusedAgrees : Type 0
-RefusedAgrees = IsHonestAndAgrees refused_past []
-
--- ---- a payment that is cut off
-
--- the reply to a key that is open
-abbrev pub progress_reply : ReplyValue
-progress_reply = failure_reply paying_header InProgress
-
--- the link is lost before the payment's end; the till asks again, and its key is open
-abbrev pub lost_moves : List Move
-lost_moves = Make (Polled (pos 5)) ∷ Make (Lost 0) ∷ (items_begin 3 ++ Make (Polled (pos 6)) ∷ Make (HeardTill 1 (frame payment_text)) ∷ Read payment_read ∷ Begin ∷ Make (SentTill 1 (reply_value_bytes progress_reply) true) ∷ items_begin 2)
-
--- the whole course, with one poll more
-abbrev pub lost_course : List Move
-lost_course = asked_course ++ lost_moves ++ Make (Polled (pos 7)) ∷ []
-
--- the reply, at place 27
-abbrev pub sent_progress : SentReply
-sent_progress = record { place = 27; bytes = reply_value_bytes progress_reply; occasion = payment_occasion; kept = Intent paying_intent ∷ []; waiting = [] }
-
--- what has happened along it: no link lasts, and the payment has no end
-abbrev pub lost_past : Past
-lost_past = record asked_past {
-  place = 29;
-  lasting = [];
-  replies = sent_progress ∷ [];
-  polls = record { place = 28; links = []; kept = Intent paying_intent ∷ [] } ∷ record { place = 25; links = []; kept = Intent paying_intent ∷ [] } ∷ polled_linked 23 (Intent paying_intent ∷ []) ∷ asked_past.polls;
-}
-
--- the log is lawful, and this has happened along it
-abbrev pub LostHasPast : Type 0
-LostHasPast = HasPast (turns_of lost_course) lost_past
-
--- an entry that comes after the log's end
-abbrev pub later_entry : BookedEntry
-later_entry = record paid_entry { place = 100 }
-
--- the payment may still be booked or not: either book is honest and agrees
-pub record LostAgrees : Type 0 where
-  pub unbooked : IsHonestAndAgrees lost_past []
-  pub booked : IsHonestAndAgrees lost_past (later_entry ∷ [])
 
 -- ---- rounds
 

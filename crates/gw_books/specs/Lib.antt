@@ -1,13 +1,11 @@
 -- The headline: the books of the terminals, and what was done and said along a lawful log.
 pub mod Agrees
 pub mod Books
-pub mod DayExample
-pub mod DisagreeExample
+pub mod BrokenLaws
 pub mod Example
 pub mod Headline
 pub mod Past
 pub mod PastLaws
-pub mod QueuedExample
 pub mod RecoveryExample
 pub mod RecoveryLaws
 pub mod RepeatLaws

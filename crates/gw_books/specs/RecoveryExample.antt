@@ -33,8 +33,7 @@ use Rattle.gw_books.specs.Past.{Occasion, OfRequest, OfMessage, Reported, SentCo
 use Rattle.gw_books.specs.Books.{BookedEntry, Honest}
 use Rattle.gw_books.specs.Said.{Said}
 use Rattle.gw_books.specs.Agrees.{is_transaction, is_success}
-use Rattle.gw_books.specs.DisagreeExample.{paid_figures, older_entry}
-use Rattle.gw_books.specs.Example.{payment_command, asked_past, paid_entry}
+use Rattle.gw_books.specs.Example.{payment_command, asked_past, paid_entry, paid_figures, older_entry}
 use Rattle.gw_books.specs.Headline.{HasPast}
 use Rattle.gw_books.specs.RecoveryLaws.{IsReportedAt, HasTrueOutcome, IsAsideIn, IsSaidAlong}
 use Rattle.gw_books.specs.RoundLaws.{ComesNext, EndsRound}

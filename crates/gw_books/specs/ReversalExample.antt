@@ -40,8 +40,8 @@ use Rattle.gw_rules.specs.TerminalLogExample.{items_begin}
 use Rattle.gw_rules.specs.View.{Move, Begin, Read, Make, view_from, at_first}
 use Rattle.gw_books.specs.Past.{Occasion, OfRequest, OfMessage, Approved, SentCommand, SentReply, Past}
 use Rattle.gw_books.specs.Books.{BookedEntry}
-use Rattle.gw_books.specs.DisagreeExample.{BreaksAgreement, entry_in_time}
-use Rattle.gw_books.specs.Example.{IsHonestAndAgrees, asked_course, kept_approval, keeping_moves, opened_moves, paid_course, paid_entry, paid_past, paying_header, paying_intent, payment_read, payment_text, polled_linked, paid_reply}
+use Rattle.gw_books.specs.BrokenLaws.{BreaksAgreement}
+use Rattle.gw_books.specs.Example.{IsHonestAndAgrees, asked_course, entry_in_time, kept_approval, keeping_moves, opened_moves, paid_course, paid_entry, paid_past, paying_header, paying_intent, payment_read, payment_text, polled_linked, paid_reply}
 use Rattle.gw_books.specs.Headline.{HasPast}
 use Rattle.gw_books.specs.ReversalLaws.{IsBookedReversal, IsOfPaid, kept_after}
 use Rattle.gw_books.specs.RoundLaws.{ComesNext, EndsRound}

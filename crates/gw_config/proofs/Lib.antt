@@ -6,4 +6,5 @@ mod FormLemmas
 mod LimitLemmas
 mod NameLemmas
 mod OffsetLemmas
+mod ReadLemmas
 mod TableLemmas

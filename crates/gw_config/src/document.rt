@@ -3,15 +3,15 @@ ghost use Rattle.std.specs.Prelude.{◌≡◌, ◌≢◌, nat_lt, Some, None, co
 ghost use Rattle.toml.specs.View.{table_view};
 ghost use Rattle.gw_base.specs.Setup.{IsSetup};
 ghost use Rattle.gw_config.specs.declared.fault.ConfigFault.TheVariants.{Memory, NotToml};
-ghost use Rattle.gw_config.specs.Faults.{document_limit, table_fault, fault_in, without_offset, IsInsideOf};
+ghost use Rattle.gw_config.specs.Faults.{document_limit, first_some, table_fault, fault_in, without_offset, IsInsideOf};
 ghost use Rattle.gw_config.specs.Grammar.{document_of, IsSetupOf, IsSetupIn};
-ghost use Rattle.gw_config.specs.inner.Decode.{Reports};
+ghost use Rattle.gw_config.specs.inner.Decode.{AreLimitsOf, AreTerminalsOf, Reports, limit_faults, terminal_table_faults};
 
 use crate::ConfigFault;
 use crate::section::Section;
 use crate::terminal::read_terminals;
 use crate::unknown::check_keys;
-use gw_base::{Ident, Pts, Setup};
+use gw_base::{Ident, Pt, Pts, Setup};
 use gw_bytes::{FEWEST_SLOTS, LONGEST_CONFIGURATION, LONGEST_WAIT, MOST_SLOTS, MOST_WAITING};
 use std::alloc::Global;
 use toml::Table;
@@ -68,16 +68,8 @@ fn read_document(alloc: Global, table: &Table) -> Result<Setup, ConfigFault>
     let listen = document.text(alloc, "listen")?;
     let journal = document.text(alloc, "journal")?;
     let name = document.identifier(alloc, "name", default_name())?;
-    let line = document.integer(alloc, "line", 0, MOST_WAITING as u32, 0)? as u8;
-    let wait = document.integer(alloc, "wait", 1, LONGEST_WAIT as u32, 60)?;
-    let slots = document.integer(alloc, "slots", FEWEST_SLOTS, MOST_SLOTS, MOST_SLOTS)?;
-    let values = match document.tables(alloc, "terminal") {
-        Ok(values) => values,
-        Err(fault) => return Err(fault),
-    };
-    let terminals = read_terminals(alloc, values)?;
-    // Last, so that a key whose name is misspelt is reported as missing where it has to be there.
-    check_keys(alloc, table, values)?;
+    let Limits { line, wait, slots } = read_limits(alloc, &document)?;
+    let terminals = read_terminal_tables(alloc, &document)?;
     Ok(Setup {
         name,
         listen,
@@ -87,6 +79,44 @@ fn read_document(alloc: Global, table: &Table) -> Result<Setup, ConfigFault>
         slots,
         terminals: Pts::new(terminals),
     })
+}
+
+/// The limits of what waits, and of the journal.
+#[derive(Clone, Copy)]
+struct Limits {
+    line: u8,
+    wait: u32,
+    slots: u32,
+}
+
+/// The limits that a document gives.
+fn read_limits(alloc: Global, document: &Section) -> Result<Limits, ConfigFault>
+    ensures { MatchResult result
+        (λ limits. (first_some (limit_faults document.now.prefix.now (table_view document.now.table.now)) ≡ None)
+        × AreLimitsOf (table_view document.now.table.now) limits)
+        (Reports (first_some (limit_faults document.now.prefix.now (table_view document.now.table.now)))) }
+{
+    let line = document.integer(alloc, "line", 0, MOST_WAITING as u32, 0)? as u8;
+    let wait = document.integer(alloc, "wait", 1, LONGEST_WAIT as u32, 60)?;
+    let slots = document.integer(alloc, "slots", FEWEST_SLOTS, MOST_SLOTS, MOST_SLOTS)?;
+    Ok(Limits { line, wait, slots })
+}
+
+/// The terminals of a document, where it and its terminals have known keys alone.
+fn read_terminal_tables(alloc: Global, document: &Section) -> Result<Vec<Pt>, ConfigFault>
+    ensures { MatchResult result
+        (λ pts. (first_some (terminal_table_faults document.now.prefix.now (table_view document.now.table.now)) ≡ None)
+        × AreTerminalsOf (table_view document.now.table.now) pts.items)
+        (Reports (first_some (terminal_table_faults document.now.prefix.now (table_view document.now.table.now)))) }
+{
+    let values = match document.tables(alloc, "terminal") {
+        Ok(values) => values,
+        Err(fault) => return Err(fault),
+    };
+    let terminals = read_terminals(alloc, values)?;
+    // Last, so that a key whose name is misspelt is reported as missing where it has to be there.
+    check_keys(alloc, document.table, values)?;
+    Ok(terminals)
 }
 
 /// The gateway's name where the document gives none.

@@ -1,14 +1,14 @@
 //! The terminals of a configuration.
 ghost use Rattle.std.specs.Prelude.{◌≡◌, None, MatchResult};
 ghost use Rattle.toml.specs.View.{table_view};
-ghost use Rattle.gw_config.specs.Faults.{each_fault, terminal_fault, terminals_fault};
+ghost use Rattle.gw_config.specs.Faults.{each_fault, first_some, terminal_fault, terminals_fault};
 ghost use Rattle.gw_config.specs.Grammar.{IsPtOf, ArePtsOf};
-ghost use Rattle.gw_config.specs.inner.Decode.{Reports, tables_of};
+ghost use Rattle.gw_config.specs.inner.Decode.{IsMannerOf, Reports, manner_faults, tables_of};
 
 use crate::ConfigFault;
 use crate::section::Section;
 use crate::unique::first_repeated;
-use gw_base::Pt;
+use gw_base::{Currency, Pt};
 use gw_bytes::{LONGEST_ANSWER, LONGEST_WAIT};
 use std::alloc::Global;
 use toml::{Table, Value};
@@ -57,17 +57,53 @@ fn read_terminal(alloc: Global, table: &Table) -> Result<Pt, ConfigFault>
     };
     let poi = section.identifier(alloc, "poi", None)?;
     let address = section.text(alloc, "address")?;
+    let Manner {
+        currency,
+        password,
+        config,
+        none,
+        answer,
+        command,
+    } = read_manner(alloc, &section)?;
+    Ok(Pt {
+        poi,
+        address,
+        password,
+        currency,
+        config,
+        none,
+        answer,
+        command,
+    })
+}
+
+/// How a terminal is spoken to: what it is registered with, its code for no transaction, and how long it may be silent.
+#[derive(Clone, Copy)]
+struct Manner {
+    currency: Currency,
+    password: [u8; 3],
+    config: u8,
+    none: u8,
+    answer: u32,
+    command: u32,
+}
+
+/// How the terminal of a table is spoken to.
+fn read_manner(alloc: Global, section: &Section) -> Result<Manner, ConfigFault>
+    ensures { MatchResult result
+        (λ manner. (first_some (manner_faults section.now.prefix.now (table_view section.now.table.now)) ≡ None)
+        × IsMannerOf (table_view section.now.table.now) manner)
+        (Reports (first_some (manner_faults section.now.prefix.now (table_view section.now.table.now)))) }
+{
     let currency = section.currency(alloc, "currency")?;
     let password = section.six_digits(alloc, "password")?;
     let config = section.integer(alloc, "config", 0, 255, 0)? as u8;
     let none = section.integer(alloc, "none", 0, 255, 131)? as u8;
     let answer = section.integer(alloc, "answer", 1, LONGEST_ANSWER as u32, 5)?;
     let command = section.integer(alloc, "command", 1, LONGEST_WAIT as u32, 180)?;
-    Ok(Pt {
-        poi,
-        address,
-        password,
+    Ok(Manner {
         currency,
+        password,
         config,
         none,
         answer,

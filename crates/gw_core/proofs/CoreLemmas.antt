@@ -1,8 +1,8 @@
 -- What the core remembers of its terminals: their settings, their links, and their tills.
-use Rattle.std.proofs.Common.{ℤ, append-nil, ◌≡◌, ◌≤◌, ◌<◌, ◌^◌, ◌++◌, ℕ, zero, suc, List, [], ◌∷◌, refl, sym, ◌∙◌, ap, subst, inl, inr, ◌⊎◌, arith}
+use Rattle.std.proofs.Common.{ℤ, append-nil, ◌≡◌, ◌≤◌, ◌<◌, ◌^◌, ◌++◌, ◌+◌, ℕ, zero, suc, List, [], ◌∷◌, refl, sym, ◌∙◌, ap, subst, inl, inr, ◌⊎◌, arith}
 use Rattle.std.proofs.lemmas.Int.{ints}
 use Rattle.std.proofs.Math.Nat.{min-eq_left}
-use Rattle.std.proofs.lemmas.List.{take_all, drop_all}
+use Rattle.std.proofs.lemmas.List.{map-append, take_all, take_more, drop_all}
 use Rattle.std.specs.Prelude.{pos, All, set, map, slice_get, get_or, take, drop, length, Some}
 use Rattle.std.proofs.lemmas.Option.{slice_get_read}
 use Rattle.gw_base.specs.Currency.{currency_number}
@@ -39,6 +39,17 @@ moment-in-range seconds = within (moment_of seconds) (moment_of_bound seconds)
   where
     within : (moment : ℕ) → moment ≤ last_moment → IsMoment (pos moment)
     within moment at = (omega (arith, ints), omega (arith, ints))
+
+-- ---- lists
+
+-- what is made of each element, once that of one element more is added
+pub mapped-more : {X Y : Type 0} (f : X → Y) (xs : List X) (index : ℕ) (x : X) (y : Y) (before now : List Y) → index < length xs → x ≡ get_or xs index x → before ≡ map f (take index xs) → y ≡ f x → now ≡ before ++ y ∷ []
+    → now ≡ map f (take (index + 1) xs)
+mapped-more {X = X} {Y = Y} f xs index x y before now within at is made added =
+    added
+    ∙ ap (λ (ys : List Y). ys ++ y ∷ []) is
+    ∙ ap (λ (one : Y). map f (take index xs) ++ one ∷ []) made
+    ∙ sym (ap (map f) (take_more xs index x within ∙ ap (λ (one : X). take index xs ++ one ∷ []) (sym at)) ∙ map-append f (take index xs) (x ∷ []))
 
 -- ---- device requests
 

@@ -1,9 +1,8 @@
 -- The first request that waits for a terminal: what it leaves and owes once that is ready, and that it may begin.
-use Rattle.std.proofs.Common.{◌≡◌, ◌∙◌, ◌<◌, inl, inr, ℕ, zero, suc, Bool, true, false, not, List, [], ◌∷◌, ◌++◌, length, refl, sym, ap, subst, arith}
-use Rattle.std.specs.Prelude.{◌&&◌, IfSome, is_some, slice_get, Option, Some, None, if◌then◌else◌, option_map}
+use Rattle.std.proofs.Common.{◌≡◌, ◌∙◌, ◌<◌, inl, inr, ℕ, zero, suc, Bool, true, false, List, [], ◌∷◌, ◌++◌, length, refl, sym, ap, subst, arith}
+use Rattle.std.specs.Prelude.{◌&&◌, IfSome, slice_get, Option, Some, None, if◌then◌else◌, option_map}
 use Rattle.gw_base.specs.declared.condition.Condition.{Condition}
 use Rattle.gw_base.specs.declared.condition.Condition.TheVariants.{Aborted, NotAllowed, NotFound, UnavailableService}
-use Rattle.gw_base.specs.declared.setup.Setup.{Setup}
 use Rattle.jrn_record.specs.declared.records.Record.{Record}
 use Rattle.jrn_record.specs.declared.records.Record.TheVariants.{Intent}
 use Rattle.sale_values.specs.declared.header.Header.{Header}
@@ -30,7 +29,7 @@ use Rattle.gw_owes.specs.Waits.{core_without_wait, first_waiting, queue_of}
 use Rattle.gw_owes.specs.declared.terminal.Terminal.{Terminal}
 use Rattle.gw_owes.proofs.NextOrderLemmas.{first-there}
 use Rattle.gw_core.specs.Beginning.{MayBegin, MayBeNext, begun_row, first_left_row, leaves_queue}
-use Rattle.gw_core.specs.IsRow.{AreCallsThen, IsRow, IsRowThen, MayBeKept, alone}
+use Rattle.gw_core.specs.IsRow.{AreCallsThen, IsRow, IsRowThen, alone}
 use Rattle.gw_core.specs.Queues.{without_found}
 use Rattle.gw_core.specs.ReplyOf.{ArePrepared}
 use Rattle.gw_core.specs.declared.act.Act.{Act}

@@ -1,17 +1,24 @@
 -- What a terminal becomes, and what the core remembers then.
-use Rattle.std.proofs.Common.{◌≡◌, ◌<◌, ℕ, zero, suc, List, [], ◌∷◌, refl, sym, ◌∙◌, ap, subst, Bool, true, false}
-use Rattle.std.specs.Prelude.{pos, set, slice_get, length, get_or, unwrap_or, option_and_then, Option, Some, None}
+use Rattle.std.proofs.Common.{◌≡◌, ◌<◌, ◌≤◌, ℕ, ℤ, zero, suc, pos, negsuc, List, [], ◌∷◌, refl, sym, ◌∙◌, ap, subst, Bool, true, false, arith}
+use Rattle.std.proofs.lemmas.Int.{ints}
+use Rattle.std.proofs.Math.Nat.{min-eq_left}
+use Rattle.std.specs.Prelude.{set, slice_get, length, get_or, unwrap_or, option_and_then, IfSome, Option, Some, None}
 use Rattle.std.specs.Option.{option_map}
 use Rattle.std.proofs.lemmas.Option.{slice_get_read}
+use Rattle.gw_base.specs.Moment.{IsMoment, last_moment, moment_of}
+use Rattle.gw_base.specs.declared.setup.Pt.{Pt}
 use Rattle.zvt_msg.specs.Message.{MessageValue}
+use Rattle.zvt_msg.specs.declared.command.Command.{Command}
+use Rattle.zvt_msg.specs.declared.command.Command.TheVariants.{Register, Authorise, Enquire, Reverse, EndOfDay, Stop, Show}
 use Rattle.zvt_talk.specs.declared.meaning.Heard.{Heard}
 use Rattle.zvt_talk.specs.Came.{is_taken}
-use Rattle.zvt_talk.specs.Talk.{TalkFacts}
+use Rattle.zvt_talk.specs.Dialogue.{Dialogue, dialogue_of}
+use Rattle.zvt_talk.specs.Talk.{TalkFacts, talk_after}
 use Rattle.zvt_talk.specs.TalkSteps.{next_talk}
 use Rattle.jrn_record.specs.declared.records.Record.{Record}
 use Rattle.gw_owes.specs.declared.terminal.Terminal.{Terminal}
 use Rattle.gw_owes.specs.Row.{Known, Row, owing_nothing, owing_where}
-use Rattle.gw_owes.specs.Terminals.{with_terminal}
+use Rattle.gw_owes.specs.Terminals.{talk_of_command, with_terminal}
 use Rattle.gw_owes.specs.Links.{is_linked}
 use Rattle.gw_owes.specs.DeviceRequests.{device_request_in, device_row, next_device_number, requests_device}
 use Rattle.gw_owes.specs.Handling.{awaited_after, taken_as, meaning_at, taking, taken_row, consequence, handle_message, handled_row}
@@ -22,6 +29,29 @@ use Rattle.gw_core.specs.declared.act.Act.{Act}
 use Rattle.gw_core.specs.declared.act.Acts.{Acts}
 use Rattle.gw_core.specs.DeviceActs.{IsDeviceAct}
 use Rattle.gw_core.specs.IsRow.{IsRow, alone, with_numbered}
+
+-- a moment that lies in the range of moments is its number of seconds
+pub moment-is : (now : ℤ) → IsMoment now → now ≡ pos (moment_of now)
+moment-is (pos seconds) within =
+    let at : seconds ≤ last_moment = omega (arith, ints, within.1) in
+    ap pos (sym (min-eq_left at))
+moment-is (negsuc seconds) within = absurd (omega (arith, ints, within.0))
+
+-- each command but a stop begins its dialogue
+pub dialogue-begins : (pt : Pt) (command : Command) (now : ℤ) (talk : TalkFacts) → (command ≡ Stop → ⊥) → IsMoment now
+    → IfSome (dialogue_of command pt.none pt.answer pt.command now) (λ (dialogue : Dialogue). talk ≡ talk_after dialogue []) → Some talk ≡ talk_of_command pt command (moment_of now)
+dialogue-begins pt command now talk not_stop within begun =
+    by-command command not_stop (subst (λ (n : ℤ). IfSome (dialogue_of command pt.none pt.answer pt.command n) (λ (dialogue : Dialogue). talk ≡ talk_after dialogue [])) (moment-is now within) begun)
+  where
+    by-command : (command : Command) → (command ≡ Stop → ⊥) → IfSome (dialogue_of command pt.none pt.answer pt.command (pos (moment_of now))) (λ (dialogue : Dialogue). talk ≡ talk_after dialogue [])
+        → Some talk ≡ talk_of_command pt command (moment_of now)
+    by-command (Register password config currency) not_stop begun = ap Some begun
+    by-command (Authorise amount currency) not_stop begun = ap Some begun
+    by-command (Enquire password) not_stop begun = ap Some begun
+    by-command (Reverse password receipt) not_stop begun = ap Some begun
+    by-command (EndOfDay password) not_stop begun = ap Some begun
+    by-command Stop not_stop begun = absurd (not_stop refl)
+    by-command (Show lines) not_stop begun = ap Some begun
 
 -- its dialogue has taken the message that it was handed
 pub taken : (terminal : Terminal) (message handed : MessageValue) (moment : ℕ) (talk : Option TalkFacts) (awaited : ℕ) → handed ≡ taken_as terminal.awaited message

@@ -1,12 +1,11 @@
 -- A request that joins those that wait for a terminal, and an Abort that takes one of them out: what they are given for, and their row.
 use Rattle.std.proofs.Common.{◌≡◌, ◌≢◌, ◌∙◌, ℕ, Bool, true, false, not, List, [], ◌∷◌, refl, sym, ap, subst}
-use Rattle.std.specs.Prelude.{is_some, ◌||◌, Option, Some, None, if◌then◌else◌}
+use Rattle.std.specs.Prelude.{is_some, Option, Some, None, if◌then◌else◌}
 use Rattle.std.proofs.lemmas.Bool.{or_parts}
 use Rattle.gw_base.specs.declared.condition.Condition.TheVariants.{Busy, UnavailableDevice, UnavailableService}
 use Rattle.gw_base.specs.declared.key.Key.{Key}
 use Rattle.jrn_record.specs.declared.records.Record.{Record}
 use Rattle.sale_values.specs.declared.header.Header.{Header}
-use Rattle.sale_values.specs.declared.request.Output.{Output}
 use Rattle.sale_values.specs.declared.request.SaleRequest.{SaleRequest}
 use Rattle.sale_values.specs.declared.request.SaleRequest.TheVariants as requests
 use Rattle.xlate.specs.Display.{show}
@@ -25,11 +24,10 @@ use Rattle.gw_owes.specs.Steps.{StepResult, Fails, Begins, Waits, is_ready, is_u
 use Rattle.gw_owes.specs.Terminals.{of_terminal, terminal_at}
 use Rattle.gw_owes.specs.WaitingRows.{abort_row, joins_row, queue_row, waits_under}
 use Rattle.gw_owes.specs.Waits.{waiting_for}
-use Rattle.gw_owes.specs.declared.terminal.Terminal.{Terminal}
 use Rattle.gw_owes.proofs.PaymentLemmas.{waits-steps}
 use Rattle.gw_core.specs.Beginning.{key_aborted}
 use Rattle.gw_core.specs.IsRow.{IsRow, alone, known_with}
-use Rattle.gw_core.specs.ReplyOf.{IsKnownAt, QueuesAt}
+use Rattle.gw_core.specs.ReplyOf.{QueuesAt}
 use Rattle.gw_core.specs.declared.act.Act.{Act}
 use Rattle.gw_core.specs.declared.gateway.Gateway.{Gateway}
 use Rattle.gw_core.proofs.BegunLemmas.{QueuesNamed, queues-named}

@@ -5,6 +5,7 @@ pub mod CoreLemmas
 pub mod DeviceLemmas
 pub mod DisplayLemmas
 pub mod FirstInQueueLemmas
+pub mod GivenLemmas
 pub mod HandlingLemmas
 pub mod JoinLemmas
 pub mod KeptLemmas

@@ -1,9 +1,9 @@
 -- The lists of requests that wait as the code keeps them: which are first, which are left, and that they stay apart.
-use Rattle.std.proofs.Common.{◌≡◌, ◌≢◌, ◌⊎◌, inl, inr, ◌∙◌, ℕ, ℤ, pos, zero, suc, ◌+◌, ◌≤◌, ◌<◌, Bool, true, false, not, cond, eqb, List, [], ◌∷◌, ◌++◌, length, map, refl, sym, ap, subst, arith, eq-eqb, ne_eqb, length-append}
-use Rattle.std.specs.Prelude.{filter, fold, int_lt, nat_lt, IfSome, Option, Some, None, option_map}
+use Rattle.std.proofs.Common.{◌≡◌, ◌≢◌, ◌⊎◌, inl, inr, ◌∙◌, ℕ, pos, ◌+◌, ◌≤◌, ◌<◌, Bool, true, false, not, cond, eqb, List, [], ◌∷◌, ◌++◌, length, refl, sym, ap, subst, arith, eq-eqb, ne_eqb, length-append}
+use Rattle.std.specs.Prelude.{filter, fold, int_lt, nat_lt, IfSome, Option, Some, None}
 use Rattle.std.proofs.lemmas.Bool.{cases_eq, eqb-true, le-ltb, lt-ltb, ltb-false, ltb-true}
 use Rattle.std.proofs.lemmas.List.{length-map}
-use Rattle.std.proofs.lemmas.Option.{none-some, same_Some}
+use Rattle.std.proofs.lemmas.Option.{same_Some}
 use Rattle.gw_base.specs.declared.key.Key.{Key}
 use Rattle.gw_ledger.specs.Keys.{same_key}
 use Rattle.gw_links.specs.Waiting.{Waiting, item_of, without_request, of_seat, at_terminal, by_deadline, due_at, first_id, place, place_all}

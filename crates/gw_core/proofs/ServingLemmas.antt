@@ -1,6 +1,6 @@
 -- The end of a payment: its row, and the reply to its till.
 use Rattle.std.proofs.Common.{◌≡◌, ◌<◌, ℕ, List, [], ◌++◌, refl, ap, subst}
-use Rattle.std.specs.Prelude.{Bool, if◌then◌else◌, Option, Some, None, option_and_then}
+use Rattle.std.specs.Prelude.{Bool, if◌then◌else◌, IfSome, Option, Some, None, option_and_then}
 use Rattle.std.proofs.lemmas.Bool.{lt-ltb}
 use Rattle.gw_base.specs.declared.figures.Figures.{Figures}
 use Rattle.jrn_record.specs.declared.records.Outcome.{Outcome}
@@ -9,11 +9,11 @@ use Rattle.gw_ledger.specs.declared.entry.Entry.{Entry as TheEntry}
 use Rattle.gw_ledger.specs.declared.entry.Found.TheVariants.{Entry}
 use Rattle.gw_ledger.specs.Slots.{entry_at}
 use Rattle.sale_reply.specs.declared.reply.SaleReply.{SaleReply}
-use Rattle.sale_reply.specs.Limits.{IsWithinLimits}
+use Rattle.sale_reply.specs.Limits.{HasUnlimitedParts, IsWithinLimits}
 use Rattle.xlate.specs.Reply.{reply_for}
 use Rattle.gw_owes.specs.declared.terminal.Standing.TheVariants.{Ready, Aside}
 use Rattle.gw_owes.specs.declared.terminal.Terminal.{Terminal}
-use Rattle.gw_owes.specs.Calls.{keep_calls}
+use Rattle.gw_owes.specs.Calls.{OwedCall}
 use Rattle.gw_owes.specs.KeptReplies.{kept_reply}
 use Rattle.gw_owes.specs.Reply.{ReplyValue}
 use Rattle.gw_owes.specs.Row.{Known}
@@ -31,11 +31,17 @@ outcome-replied kept slot entry outcome reply found is within =
     subst (λ (o : Option TheEntry). AreSameReplies (Some reply) (option_and_then (λ (e : TheEntry). kept_reply (Entry (record e { result = Some outcome }))) o)) found
     (kept-is (Entry (record entry { result = Some outcome })) reply is within)
 
--- it is sent after the Outcome is kept
-pub reply-sent : (slot till : ℕ) (the_record : Record) (given : SaleReply) (owed : Option ReplyValue) → AreSameReplies (Some given) owed
-    → AreCallsWith (keep_calls slot the_record) (Some (SendTill till given)) (keep_calls slot the_record ++ reply_calls_to (Some till) owed)
-reply-sent slot till the_record given None same = absurd same
-reply-sent slot till the_record given (Some reply) same = (reply, same, refl)
+-- the reply that is owed is sent after these calls
+pub reply-sent : (before : List OwedCall) (till : ℕ) (given : SaleReply) (owed : Option ReplyValue) → AreSameReplies (Some given) owed
+    → AreCallsWith before (Some (SendTill till given)) (before ++ reply_calls_to (Some till) owed)
+reply-sent before till given None same = absurd same
+reply-sent before till given (Some reply) same = (reply, same, refl)
+
+-- a reply that is the one owed lies within the limits where its types don't see to it
+pub owed-limited : (given : Option SaleReply) (owed : Option ReplyValue) → AreSameReplies given owed → IfSome given (λ (reply : SaleReply). HasUnlimitedParts reply → IsWithinLimits reply)
+owed-limited None owed same = tt
+owed-limited (Some given) None same = absurd same
+owed-limited (Some given) (Some reply) same = same.1
 
 -- a payment is approved with a trace number above the number before
 pub approval-believed : (known : Known) (number : ℕ) (terminal : Terminal) (slot last : ℕ) (figures : Figures) → last < figures.number

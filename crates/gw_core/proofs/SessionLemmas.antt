@@ -1,32 +1,67 @@
 -- A Login or a Logout: what is given to it is given to its request, and where it begins its row is that of a success.
 use Rattle.std.proofs.Common.{◌≡◌, ℕ, List, [], ◌∷◌, refl, sym, ◌∙◌, ap, subst}
-use Rattle.std.specs.Prelude.{slice_get, Bool, true, false, if◌then◌else◌, Some}
+use Rattle.std.specs.Prelude.{slice_get, Bool, true, false, if◌then◌else◌, Option, Some, None}
+use Rattle.gw_base.specs.declared.condition.Condition.{Condition}
 use Rattle.gw_base.specs.declared.condition.Condition.TheVariants.{UnavailableService}
 use Rattle.gw_base.specs.declared.setup.Setup.{Setup}
 use Rattle.jrn_record.specs.declared.records.Record.{Record}
 use Rattle.sale_values.specs.declared.header.Header.{Header}
 use Rattle.sale_values.specs.declared.request.SaleRequest.{SaleRequest}
 use Rattle.sale_values.specs.declared.request.SaleRequest.TheVariants as requests
+use Rattle.sale_reply.specs.declared.reply.SaleReply.{SaleReply}
 use Rattle.gw_owes.specs.Core.{Core as CoreValue}
-use Rattle.gw_owes.specs.Diagnosis.{named_terminal}
+use Rattle.gw_owes.specs.Diagnosis.{NamedTerminal, named_terminal}
 use Rattle.gw_owes.specs.Items.{Serve}
 use Rattle.gw_owes.specs.Payments.{serve_row}
 use Rattle.gw_owes.specs.ReadAs.{Request}
+use Rattle.gw_owes.specs.Replies.{failure_reply}
 use Rattle.gw_owes.specs.Requests.{begun_by}
 use Rattle.gw_owes.specs.Row.{Known, Row, owing_where}
 use Rattle.gw_owes.specs.SessionRows.{session_items, session_result, session_row, session_succeeds}
 use Rattle.gw_owes.specs.Sessions.{is_one_too_many, is_session}
-use Rattle.gw_owes.specs.Steps.{StepResult, Fails, Begins, is_beginning}
+use Rattle.gw_owes.specs.Steps.{StepResult, Fails, Begins, is_beginning, items_of_result, reply_of_result}
 use Rattle.gw_owes.specs.Terminals.{of_terminal}
 use Rattle.gw_owes.specs.declared.terminal.Terminal.{Terminal}
 use Rattle.gw_core.specs.IsRow.{IsRow, known_with}
-use Rattle.gw_core.specs.ReplyOf.{BeginsAt, IsGivenFor, IsGivenToSession, IsKnownAt}
+use Rattle.gw_core.specs.ReplyOf.{ArePrepared, AreSameReplies, BeginsAt, IsGivenFor, IsGivenToSession, IsKnownAt, IsSameReply}
 use Rattle.gw_core.specs.declared.act.Acts.{Acts}
 use Rattle.gw_core.specs.declared.gateway.Gateway.{Gateway}
 use Rattle.gw_core.specs.declared.till.Given.{Given}
+use Rattle.gw_core.specs.declared.till.Given.TheVariants as given
 use Rattle.gw_core.proofs.BeginLemmas.{begins-own, known-is, known_kept}
 use Rattle.gw_core.proofs.BegunLemmas.{ServesNamed, serves-named}
+use Rattle.gw_core.proofs.GivenLemmas.{none-begins}
 use Rattle.gw_core.proofs.NamedLemmas.{named-there}
+
+-- where it is refused, its refusal is given
+pub session-refused : (known : Known) (header : Header) (request : SaleRequest) (named : Option NamedTerminal) (condition : Condition) (reply : SaleReply) → session_result known header request named ≡ Fails condition
+    → IsSameReply reply (failure_reply header condition) → IsGivenToSession known header request named (given.Reply reply)
+session-refused known header request named condition reply fails same = record {
+  reply = subst (λ (result : StepResult). AreSameReplies (Some reply) (reply_of_result known.kept header result)) (sym fails) same;
+  begun = λ till. ap (items_of_result till header request named) fails ∙ none-begins till header request named condition;
+  prepared = tt;
+}
+
+-- where it begins, that is
+pub session-begun : (known : Known) (header : Header) (request : SaleRequest) (named : Option NamedTerminal) (pt : ℕ) (terminal : Terminal) → is_session request ≡ true → named ≡ Some (record { number = pt; terminal = terminal })
+    → session_result known header request named ≡ Begins → IsGivenToSession known header request named (given.Begins pt header request None)
+session-begun known header request named pt terminal session named_is begins = record {
+  reply = subst (λ (result : StepResult). AreSameReplies None (reply_of_result known.kept header result)) (sym begins) tt;
+  begun = λ till. ap (items_of_result till header request named) begins ∙ ap (λ (n : Option NamedTerminal). items_of_result till header request n Begins) named_is;
+  prepared = none-prepared request session;
+}
+  where
+    none-prepared : (request : SaleRequest) → is_session request ≡ true → ArePrepared request None
+    none-prepared requests.Login session = tt
+    none-prepared requests.Logout session = tt
+    none-prepared (requests.Payment ask) session = tt
+    none-prepared (requests.Reversal ask) session = tt
+    none-prepared (requests.Abort reference) session = tt
+    none-prepared (requests.Status reference) session = tt
+    none-prepared (requests.Reconciliation period) session = tt
+    none-prepared (requests.Display outputs) session = absurd cc
+    none-prepared (requests.Print qualifier) session = tt
+    none-prepared requests.Diagnosis session = tt
 
 -- what is given to a Login or a Logout is given to the request that it is
 pub given-session : (known : Known) (header : Header) (request : SaleRequest) (wanted : Given) → is_session request ≡ true → IsGivenToSession known header request (named_terminal known.core header.poi) wanted → IsGivenFor known (Request header request) wanted

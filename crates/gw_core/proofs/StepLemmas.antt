@@ -1,6 +1,6 @@
 -- The steps of a request whose key is on record, and of one whose key is new.
-use Rattle.std.proofs.Common.{◌≡◌, ℕ, Bool, ◌&&◌, [], refl, sym, ◌∙◌, ap, subst}
-use Rattle.std.specs.Prelude.{Option, Some, None, option_map, true, false, if◌then◌else◌}
+use Rattle.std.proofs.Common.{◌≡◌, ℕ, refl, sym, ◌∙◌, ap, subst}
+use Rattle.std.specs.Prelude.{Option, Some, None, option_map, true, false}
 use Rattle.gw_base.specs.declared.condition.Condition.{Condition}
 use Rattle.gw_base.specs.declared.condition.Condition.TheVariants.{InProgress, NotAllowed}
 use Rattle.gw_base.specs.declared.key.Key.{Key}
@@ -28,6 +28,7 @@ use Rattle.gw_owes.proofs.PaymentLemmas.{passes-steps}
 use Rattle.gw_core.specs.declared.till.Given.{Given}
 use Rattle.gw_core.specs.declared.till.Given.TheVariants as given
 use Rattle.gw_core.specs.ReplyOf.{ArePrepared, AreSameReplies, IsGivenByService, IsGivenFor, IsSameReply, result_by}
+use Rattle.gw_core.proofs.GivenLemmas.{none-begins}
 
 -- ---- a key on record
 
@@ -125,13 +126,9 @@ refused-given known header request named condition reply none fails same =
     let result_is : step_result known header request named ≡ Fails condition = ap (λ (found : Option Found). result_by known header request found named) none ∙ fails in
     record {
       reply = subst (λ (result : StepResult). AreSameReplies (Some reply) (reply_of_result known.kept header result)) (sym result_is) same;
-      begun = λ till. ap (items_of_result till header request named) result_is ∙ no-items till header request named condition;
+      begun = λ till. ap (items_of_result till header request named) result_is ∙ none-begins till header request named condition;
       prepared = tt;
     }
-  where
-    no-items : (till : ℕ) (header : Header) (request : SaleRequest) (named : Option NamedTerminal) (condition : Condition) → items_of_result till header request named (Fails condition) ≡ []
-    no-items till header request None condition = refl
-    no-items till header request (Some one) condition = refl
 
 -- what is given to a payment, a reversal or a reconciliation is given to its request
 pub given-payment : (known : Known) (header : Header) (ask : PaymentAsk) (wanted : Given) → IsGivenByService known header (requests.Payment ask) (named_terminal known.core header.poi) wanted → IsGivenFor known (Request header (requests.Payment ask)) wanted

@@ -1,5 +1,5 @@
 //! What the gateway remembers, and what each event of a terminal makes of it.
-ghost use Rattle.std.specs.Prelude.{◌≡◌, ◌<◌, ◌≤◌, ℕ, true, false, None, length, List, slice_get, IfOk, IfSome, Some, option_map};
+ghost use Rattle.std.specs.Prelude.{◌≡◌, ◌<◌, ◌≤◌, ℕ, true, false, None, length, List, slice_get, IfOk, IfSome, Some, map, option_map};
 ghost use Rattle.gw_base.specs.Setup.{IsSetup};
 ghost use Rattle.gw_base.specs.Moment.{moment_of};
 ghost use Rattle.gw_base.specs.declared.setup.Setup.{Setup};
@@ -75,16 +75,27 @@ pub enum Timer {
 }
 
 /// A terminal as a run begins: it isn't linked, and is due at once.
-fn new_terminal(pt: Pt) -> Terminal
-    ensures { result ≡ new_terminal pt }
+fn new_terminal(pt: &Pt) -> Result<Terminal, AllocError>
+    ensures { IfOk result (λ terminal. terminal ≡ new_terminal pt.now) }
 {
-    Terminal {
-        pt,
+    Ok(Terminal {
+        pt: pt.clone()?,
         standing: Standing::Unlinked { due: None },
         talk: None,
         awaited: 0,
         asker: None,
+    })
+}
+
+/// The terminals of a setup as a run begins.
+fn new_terminals(alloc: Global, setup: &Setup) -> Result<Vec<Terminal>, AllocError>
+    ensures { IfOk result (λ terminals. terminals.items ≡ map new_terminal setup.now.terminals) }
+{
+    let mut terminals = Vec::with_capacity(alloc, setup.terminals.as_slice().len())?;
+    for pt in setup.terminals.as_slice() {
+        terminals.push(new_terminal(pt)?)?;
     }
+    Ok(terminals)
 }
 
 /// The status that a Diagnosis reports of a terminal of this standing.
@@ -149,10 +160,7 @@ impl Core {
         requires { IsSetup setup.now }
         ensures { IfOk result (λ core. core ≡ new_core setup.now) }
     {
-        let mut terminals = Vec::with_capacity(alloc, setup.terminals.as_slice().len())?;
-        for pt in setup.terminals.as_slice() {
-            terminals.push(new_terminal(pt.clone()?))?;
-        }
+        let terminals = new_terminals(alloc, setup)?;
         let sessions = Sessions::new(alloc)?;
         Ok(Core {
             terminals,

@@ -1,6 +1,6 @@
 -- What is owed as the loop serves a till.
 use Rattle.std.proofs.Common.{◌≡◌, true, false, ℕ, ◌+◌, ◌<◌, ◌≤◌, List, [], ◌∷◌, ◌++◌, length, refl, sym, ◌∙◌, ap, arith, length-append, subst, inl, inr, get_or}
-use Rattle.std.specs.Prelude.{ℤ, Option, None, Some, map, unwrap_or, slice_set, Result, Ok, Err, IfOk, OnOk}
+use Rattle.std.specs.Prelude.{ℤ, None, Some, map, unwrap_or, slice_set, Result, Ok, Err, IfOk, OnOk}
 use Rattle.gw_base.specs.Moment.{moment_of}
 use Rattle.gw_base.specs.declared.setup.Setup.{Setup}
 use Rattle.gw_site.specs.Observed.{Observed}
@@ -8,19 +8,13 @@ use Rattle.gw_site.specs.Outside.{Outside, nothing_yet, is_connected}
 use Rattle.jrn_record.specs.declared.records.Record.{Record}
 use Rattle.sale_frame.specs.Grammar.{frame, IsPayload, IsIncompleteFrame, BeginsWithBadLength}
 use Rattle.sale_frame.specs.Decode.{decode_frames, DecodedFrames}
-use Rattle.sale_reply.specs.declared.reply.SaleReply.{SaleReply}
-use Rattle.sale_reply.specs.Reply.{tree_of}
-use Rattle.sale_reply.specs.declared.reply.Shown.{Shown}
-use Rattle.sale_values.specs.declared.header.Header.{Header}
-use Rattle.sale_values.specs.declared.request.SaleRequest.{SaleRequest}
 use Rattle.jrn_log.specs.Journal.{JournalValue, StandsFor}
-use Rattle.gw_owes.specs.Calls.{OwedCall, SendTill, CutTill}
+use Rattle.gw_owes.specs.Calls.{OwedCall, CutTill}
 use Rattle.gw_owes.specs.Core.{Core}
 use Rattle.gw_owes.specs.Waits.{memory_reserved}
 use Rattle.gw_owes.specs.Events.{decoded_items}
-use Rattle.gw_owes.specs.Items.{RoundItem, Message, Asked, Queue, Serve, Unframed}
+use Rattle.gw_owes.specs.Items.{RoundItem, Message, Asked, Unframed}
 use Rattle.gw_owes.specs.ReadAs.{ReadAs, IsReadAs}
-use Rattle.gw_owes.specs.Reply.{ReplyValue, reply_value_tree}
 use Rattle.gw_owes.specs.Row.{Known, Row, owing, owing_where}
 use Rattle.gw_owes.specs.Rows.{row_of, asked_row}
 use Rattle.gw_owes.proofs.FrameLemmas.{items-waiting, items-unframed, items-payload, reading-payload}
@@ -30,10 +24,9 @@ use Rattle.gw_rules.specs.Stage.{busy}
 use Rattle.gw_rules.specs.Triple.{Triple, Owing}
 use Rattle.gw_rules.specs.View.{View, at_item, begun}
 use Rattle.gw_rules.proofs.TripleLemmas.{triple-refl, triple-then, triple-after, triple-before, triple-some, begin-triple, read-triple}
-use Rattle.gw_core.specs.ReplyOf.{IsTillRow, items_given}
+use Rattle.gw_core.specs.ReplyOf.{AreSendOf, IsTillRow, items_given, reply_given}
 use Rattle.gw_core.specs.declared.gateway.Gateway.{Gateway}
 use Rattle.gw_core.specs.declared.till.Given.{Given}
-use Rattle.gw_core.specs.declared.till.Given.TheVariants as given
 use Rattle.gw_dispatch.specs.Growth.{GoesOnBesideDisk}
 use Rattle.gw_dispatch.specs.RunState.{ForgetsAny, gateway_of, HoldsSame, IsOrderly, IsWell}
 use Rattle.gw_dispatch.specs.MidRound.{AreHeard, AreLinked, HeldRound, MidRound}
@@ -180,29 +173,11 @@ module _ (setup : Setup) (core : Core) (kept : List Record) (tills : List Till) 
         (λ v p. into calls _ o v h (subst (λ list. Pending knows polls o calls (list ++ (decoded_items till (decode_frames new) ++ items)) v) row-is.items_are
         (subst (λ list. Pending knows polls o list (row.items ++ (decoded_items till (decode_frames new) ++ items)) v) is p))))
 
-  -- a message that gets nothing
-  pub taken-silent : (gateway : Gateway) → gateway_of setup ≡ gateway → (till : ℕ) → IsThere till tills → (old new : List ℕ) → TakesMessage gateway kept core (moment_of now) given.Nothing old new → (s : Observed) (items : List RoundItem) →
-      Triple s s (Owes [] (decoded_items till (decode_frames old) ++ items)) (Owes [] (decoded_items till (decode_frames new) ++ items))
-  taken-silent gateway same till there old new t s items = taken gateway same till there given.Nothing old new t s items [] (row-is gateway same till there given.Nothing old new t).calls_are
-
-  -- one that begins at a terminal
-  pub taken-begins : (gateway : Gateway) → gateway_of setup ≡ gateway → (till : ℕ) → IsThere till tills → (pt : ℕ) (header : Header) (request : SaleRequest) (results : Option (List Shown)) (old new : List ℕ) → TakesMessage gateway kept core (moment_of now) (given.Begins pt header request results) old new →
-      (s : Observed) (items : List RoundItem) → Triple s s (Owes [] (decoded_items till (decode_frames old) ++ items)) (Owes [] (Serve pt till header request ∷ (decoded_items till (decode_frames new) ++ items)))
-  taken-begins gateway same till there pt header request results old new t s items =
-      taken gateway same till there (given.Begins pt header request results) old new t s items [] (row-is gateway same till there (given.Begins pt header request results) old new t).calls_are
-
-  -- one that joins those that wait, or takes one out
-  pub taken-queues : (gateway : Gateway) → gateway_of setup ≡ gateway → (till : ℕ) → IsThere till tills → (pt : ℕ) (header : Header) (request : SaleRequest) (old new : List ℕ) → TakesMessage gateway kept core (moment_of now) (given.Queues pt header request) old new →
-      (s : Observed) (items : List RoundItem) → Triple s s (Owes [] (decoded_items till (decode_frames old) ++ items)) (Owes [] (Queue pt till header request ∷ (decoded_items till (decode_frames new) ++ items)))
-  taken-queues gateway same till there pt header request old new t s items =
-      taken gateway same till there (given.Queues pt header request) old new t s items [] (row-is gateway same till there (given.Queues pt header request) old new t).calls_are
-
-  -- one that gets its reply
-  pub taken-replied : (gateway : Gateway) → gateway_of setup ≡ gateway → (till : ℕ) → IsThere till tills → (reply : SaleReply) (old new : List ℕ) → TakesMessage gateway kept core (moment_of now) (given.Reply reply) old new →
-      (owed : ReplyValue) × (tree_of reply ≡ reply_value_tree owed) × ((s : Observed) (items : List RoundItem) → Triple s s (Owes [] (decoded_items till (decode_frames old) ++ items)) (Owes (SendTill till owed ∷ []) (decoded_items till (decode_frames new) ++ items)))
-  taken-replied gateway same till there reply old new t =
-      let send = (row-is gateway same till there (given.Reply reply) old new t).calls_are in
-      (send.0, send.1.0, λ s items. taken gateway same till there (given.Reply reply) old new t s items (SendTill till send.0 ∷ []) send.2)
+  -- the reply that is given is owed, and what that begins comes before the items of what its reader still holds
+  taken-given : (gateway : Gateway) → gateway_of setup ≡ gateway → (till : ℕ) → IsThere till tills → (wanted : Given) (old new : List ℕ) → TakesMessage gateway kept core (moment_of now) wanted old new →
+      (calls : List OwedCall) × AreSendOf till (reply_given wanted) calls × ((s : Observed) (items : List RoundItem) → Triple s s (Owes [] (decoded_items till (decode_frames old) ++ items)) (Owes calls (items_given till wanted ++ (decoded_items till (decode_frames new) ++ items))))
+  taken-given gateway same till there wanted old new t =
+      ((row gateway same till there wanted old new t).calls, (row-is gateway same till there wanted old new t).calls_are, λ s items. taken gateway same till there wanted old new t s items _ refl)
 
 -- ---- where only the ledger's memory differs
 
@@ -224,6 +199,17 @@ moved old new same tills left rests setup polls now heard calls items v h =
       linked = h.linked;
       also = h.also;
     })
+
+-- a message is taken, and then what it wants is done
+pub message-served : (s t : Observed) (old mid : RunState) → HoldsSame old mid → (tills left : List Till) → map rested left ≡ map rested tills → (setup : Setup) (polls : ℕ) (now : ℤ) (heard : ℕ → List ℕ) (till : ℕ) (items : List RoundItem) (wanted : Given) → gateway_of setup ≡ old.gateway → IsThere till tills →
+    TakesMessage old.gateway old.records.ledger.records old.core (moment_of now) wanted (bytes_held till tills) (bytes_held till left) → (Q : View → Type 0) →
+    ((calls : List OwedCall) → AreSendOf till (reply_given wanted) calls → Triple s t (HeldRound setup mid left polls now (AreHeard heard) calls (items_given till wanted ++ (items_of till left ++ items))) Q) →
+    Triple s t (HeldRound setup old tills polls now (AreHeard heard) [] (items_of till tills ++ items)) Q
+message-served s t old mid holds tills left rests setup polls now heard till items wanted same there takes Q serves =
+    let owed = taken-given setup old.core old.records.ledger.records tills polls now heard old.gateway same till there wanted (bytes_held till tills) (bytes_held till left) takes in
+    triple-then s s t _ _ Q
+    (triple-after s s _ _ _ (owed.2 s items) (λ v p. moved old mid holds tills left rests setup polls now heard owed.0 (items_given till wanted ++ (items_of till left ++ items)) v p))
+    (serves owed.0 owed.1)
 
 -- it is in order
 pub same-well : (old new : RunState) (next : Next) (s : Observed) → HoldsSame old new → HasSpareAfter next old.core old.records.ledger.spare new.records.ledger.spare → IsWell old s → IsWell new s

@@ -316,9 +316,33 @@ impl Dispatch {
             Err(fault) => Err(fault),
         }
     }
+
+    /// The rounds of a run, at most so many, from the first on.
+    fn rounds<S: Site>(&mut self, site: &mut S, most: u64) -> Ended
+        requires ready { IsReady self.old (S.observed site.old) }
+        ensures failed { result ≡ Ended.Disk → HasBroken (S.observed site.old) (S.observed site.new) }
+        ensures triple { (setup : TheSetup) → gateway_of setup ≡ self.old.state.gateway → Triple (S.observed site.old) (S.observed site.new)
+            (IsBetweenRounds setup self.old 0)
+            (EndedBy result most) }
+        ensures ran { EndsRounds result }
+        ensures memory { MayLackMemory result → IfObserved (S.observed site.old) (λ before. EndsForMemory (S.observed site.new)) }
+        ensures goes_on { GoesOnByPolls most (S.observed site.old) (S.observed site.new) }
+    {
+        // One buffer for all polls of the run, so that it is filled with zeros once.
+        let mut buf = [0; LONGEST_CHUNK];
+        for made in 0..most {
+            match self.turn(site, &mut buf) {
+                Ok(RoundEnd::Went) => {}
+                Ok(RoundEnd::Stopped) => return Ended::Done,
+                Err(TurnFault::Disk) => return Ended::Disk,
+                Err(TurnFault::Memory) => return Ended::NoMemory,
+            }
+        }
+        Ended::Done
+    }
 }
 
-/// The rounds of a run with this setup, at most so many, once its opening is done.
+/// Makes what a run with this setup holds, once its opening is done, and then its rounds, at most so many.
 pub(crate) fn rounds<S: Site>(
     alloc: Global,
     setup: &Setup,
@@ -335,21 +359,10 @@ pub(crate) fn rounds<S: Site>(
     ensures memory { MayLackMemory result → IfObserved (S.observed site.old) (λ before. EndsForMemorySince before (S.observed site.new)) }
     ensures goes_on { GoesOnByPolls most (S.observed site.old) (S.observed site.new) }
 {
-    let mut dispatch = match Dispatch::open(alloc, setup, records) {
-        Ok(dispatch) => dispatch,
-        Err(AllocError) => return Ended::NoMemory,
-    };
-    // One buffer for all polls of the run, so that it is filled with zeros once.
-    let mut buf = [0; LONGEST_CHUNK];
-    for made in 0..most {
-        match dispatch.turn(site, &mut buf) {
-            Ok(RoundEnd::Went) => {}
-            Ok(RoundEnd::Stopped) => return Ended::Done,
-            Err(TurnFault::Disk) => return Ended::Disk,
-            Err(TurnFault::Memory) => return Ended::NoMemory,
-        }
+    match Dispatch::open(alloc, setup, records) {
+        Ok(mut dispatch) => dispatch.rounds(site, most),
+        Err(AllocError) => Ended::NoMemory,
     }
-    Ended::Done
 }
 
 /// How a run ends whose records were not opened.

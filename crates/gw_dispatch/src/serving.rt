@@ -3,10 +3,11 @@ ghost use Rattle.std.specs.Prelude.{◌≡◌, ◌+◌, ◌<◌, ◌≤◌, ◌+
 ghost use Rattle.gw_base.specs.Moment.{moment_of};
 ghost use Rattle.gw_base.specs.declared.setup.Setup.{Setup};
 ghost use Rattle.sale_frame.specs.Grammar.{IsIncompleteFrame};
+ghost use Rattle.gw_owes.specs.Calls.{OwedCall};
 ghost use Rattle.gw_owes.specs.Items.{RoundItem, Queue, Serve};
 ghost use Rattle.gw_owes.specs.Waits.{memory_reserved};
 ghost use Rattle.gw_rules.specs.Triple.{Triple};
-ghost use Rattle.gw_core.specs.ReplyOf.{ArePrepared, BeginsAt, QueuesAt};
+ghost use Rattle.gw_core.specs.ReplyOf.{ArePrepared, AreSendOf, BeginsAt, IsGivenToBegin, IsGivenWithinLimits, QueuesAt, items_given, reply_given};
 ghost use Rattle.gw_dispatch.specs.RunState.{HoldsSame, IsWell, UnlessBroken, gateway_of};
 ghost use Rattle.gw_dispatch.specs.Growth.{HasGoneOn, HasBroken};
 ghost use Rattle.gw_dispatch.specs.MidRound.{AreHeard, HeldRound};
@@ -181,6 +182,57 @@ fn queue<S: Site>(
     }
 }
 
+/// Does what a till's message wants: nothing, its reply, its beginning at a terminal, or a change of those that wait.
+fn serve_message<S: Site>(
+    state: &mut RunState,
+    tills: &mut Tills,
+    site: &mut S,
+    now: i64,
+    till: u64,
+    given: Given,
+) -> Result<(), TurnFault>
+    requires well { IsWell state.old (S.observed site.old) }
+    requires begins { IsGivenToBegin state.old.gateway state.old.records.ledger.records state.old.core (moment_of now) given }
+    requires within { IsGivenWithinLimits given }
+    requires spare { memory_reserved state.old.core + 1 ≤ state.old.records.ledger.spare }
+    ensures triple { (calls : List OwedCall) → AreSendOf till (reply_given given) calls → (setup : Setup) (polls : ℕ) (heard : ℕ → List ℕ) (items : List RoundItem) → gateway_of setup ≡ state.old.gateway → Triple (S.observed site.old) (S.observed site.new)
+        (HeldRound setup state.old tills.old.list.items polls now (AreHeard heard) calls (items_given till given ++ (items_of till tills.old.list.items ++ items)))
+        (AfterTill result setup state.new tills.new.list.items polls now (AreHeard heard) till items) }
+    ensures well { OnOk result (IsWell state.new (S.observed site.new)) }
+    ensures gateway { state.new.gateway ≡ state.old.gateway }
+    ensures count { length state.new.core.terminals ≡ length state.old.core.terminals }
+    ensures still { AllStillHold tills.old.list.items tills.new.list.items }
+    ensures goes_on { HasGoneOn (S.observed site.old) (S.observed site.new) }
+    ensures failed { result ≡ Err TheFault.Disk → HasBroken (S.observed site.old) (S.observed site.new) }
+{
+    match given {
+        Given::Nothing => Ok(()),
+        Given::Reply(reply) => {
+            deliver(&mut state.core, tills, site, till, &reply);
+            Ok(())
+        }
+        Given::Begins {
+            pt,
+            header,
+            request,
+            results,
+        } => match begin(
+            state, tills, site, pt, till, &header, &request, results, now,
+        ) {
+            Ok(()) => Ok(()),
+            Err(Failed) => Err(TurnFault::Disk),
+        },
+        Given::Queues {
+            pt,
+            header,
+            request,
+        } => match queue(state, tills, site, pt, till, header, request, now) {
+            Ok(()) => Ok(()),
+            Err(AllocError) => Err(TurnFault::Memory),
+        },
+    }
+}
+
 /// Serves what is first in a till's reader. False where less than a frame waits there, or the till was cut.
 fn serve_next<S: Site>(
     state: &mut RunState,
@@ -209,37 +261,9 @@ fn serve_next<S: Site>(
             cut_till(&mut state.core, tills, site, till);
             Ok(false)
         }
-        Ok(Next::Message(Given::Nothing)) => Ok(true),
-        Ok(Next::Message(Given::Reply(reply))) => {
-            deliver(&mut state.core, tills, site, till, &reply);
-            Ok(true)
-        }
-        Ok(
-            Next::Message(
-                Given::Begins {
-                    pt,
-                    header,
-                    request,
-                    results,
-                },
-            ),
-        ) => match begin(
-            state, tills, site, pt, till, &header, &request, results, now,
-        ) {
+        Ok(Next::Message(given)) => match serve_message(state, tills, site, now, till, given) {
             Ok(()) => Ok(true),
-            Err(Failed) => Err(TurnFault::Disk),
-        },
-        Ok(
-            Next::Message(
-                Given::Queues {
-                    pt,
-                    header,
-                    request,
-                },
-            ),
-        ) => match queue(state, tills, site, pt, till, header, request, now) {
-            Ok(()) => Ok(true),
-            Err(AllocError) => Err(TurnFault::Memory),
+            Err(fault) => Err(fault),
         },
     }
 }

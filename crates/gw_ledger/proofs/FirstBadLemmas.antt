@@ -1,7 +1,6 @@
 -- The first record that may not come next: the first whose key an earlier one has, or the one after those that were added.
-use Rattle.std.proofs.Common.{◌≡◌, ◌∙◌, ℕ, zero, suc, ◌+◌, ◌-◌, ◌<◌, ◌≤◌, Bool, true, false, ◌&&◌, cond, not, List, [], ◌∷◌, ◌++◌, length, map, take, drop, get_or, slice_get, Option, Some, None, is_some, IsTrue, refl, sym, ap, subst, arith, ◌⊎◌, inl, inr}
+use Rattle.std.proofs.Common.{◌≡◌, ◌∙◌, ℕ, zero, suc, ◌+◌, ◌-◌, ◌<◌, ◌≤◌, Bool, true, false, ◌&&◌, cond, not, List, [], ◌∷◌, ◌++◌, length, map, take, drop, get_or, slice_get, Option, Some, None, is_some, IsTrue, refl, sym, ap, subst, arith, inl, inr}
 use Rattle.std.specs.Prelude.{IsSorted, MatchOption, min, option_and_then}
-use Rattle.std.specs.List.{All, Contains, IsDistinct}
 use Rattle.std.specs.Ordering.{is_lt, nat_cmp, ordering_reverse, ordering_then}
 use Rattle.std.specs.declared.cmp.Ordering.{Ordering}
 use Rattle.std.specs.declared.cmp.Ordering.TheVariants.{Less, Equal, Greater}
@@ -20,7 +19,7 @@ use Rattle.jrn_record.specs.Grammar.{record_body}
 use Rattle.jrn_record.specs.Limits.{IsRecord}
 use Rattle.jrn_record.specs.declared.records.Record.{Record}
 use Rattle.jrn_record.specs.declared.records.Record.TheVariants.{Intent, Outcome, Settled}
-use Rattle.gw_ledger.specs.Fold.{AreBodiesOf, AreFirstBodiesOf, AreFolded, AreFoldedBesideKeys, FitBy, IsFirstBad, fits, fits_beside_key, has_new_key, is_unknown}
+use Rattle.gw_ledger.specs.Fold.{AreBodiesOf, AreFirstBodiesOf, AreFoldedBesideKeys, FitBy, IsFirstBad, fits, fits_beside_key, has_new_key}
 use Rattle.gw_ledger.specs.Keys.{intent_key, key_at, record_key, settled_key, slot_of}
 use Rattle.gw_ledger.specs.KeyTable.{AreKeyRows, AreRowsOf, FallsAt, IsLeastFall, IsLeastFallTo, RiseTo, least_with, lesser_of, row_cmp, same_slot}
 use Rattle.gw_ledger.specs.Table.{IsTable}

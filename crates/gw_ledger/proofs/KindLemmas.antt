@@ -1,5 +1,5 @@
 -- The records of each kind in a list of their own: what is at a slot, and one more record.
-use Rattle.std.proofs.Common.{◌≡◌, ◌∙◌, ℕ, zero, suc, ◌+◌, ◌<◌, List, [], ◌∷◌, ◌++◌, length, map, get_or, Option, Some, None, slice_get, refl, sym, ap, subst, arith}
+use Rattle.std.proofs.Common.{◌≡◌, ◌∙◌, ℕ, suc, ◌<◌, List, [], ◌∷◌, ◌++◌, length, get_or, Option, slice_get, refl, ap, arith}
 use Rattle.std.specs.Prelude.{option_map}
 use Rattle.std.specs.List.{All}
 use Rattle.std.proofs.lemmas.List.{length-append, map-append}
@@ -10,7 +10,6 @@ use Rattle.std.proofs.Math.Seq.{get_or-append_seam}
 use Rattle.jrn_record.specs.declared.records.Intent.{Intent as TheIntent}
 use Rattle.jrn_record.specs.declared.records.Outcome.{Outcome as TheOutcome}
 use Rattle.jrn_record.specs.declared.records.Settled.{Settled as TheSettled}
-use Rattle.jrn_record.specs.declared.records.Record.{Record}
 use Rattle.jrn_record.specs.declared.records.Record.TheVariants.{Intent, Outcome, Settled}
 use Rattle.gw_ledger.specs.declared.records.Index.{Index}
 use Rattle.gw_ledger.specs.declared.records.Index.TheVariants.{Intent as IntentIndex, Outcome as OutcomeIndex, Settled as SettledIndex}

@@ -2,6 +2,7 @@
 pub mod BlockLemmas
 pub mod BodyLemmas
 pub mod EmptyLemmas
+pub mod EndedLemmas
 pub mod ExampleLemmas
 pub mod FitLemmas
 pub mod FoldLemmas

@@ -1,6 +1,6 @@
 -- Keys that are sorted once: where each is below the next, the slots are the table of keys, and each key was new.
 use Rattle.std.proofs.Common.{◌≡◌, ◌∙◌, ℕ, zero, suc, ◌+◌, ◌-◌, ◌<◌, ◌≤◌, Bool, true, false, ◌&&◌, cond, not, List, [], ◌∷◌, ◌++◌, length, map, get_or, Option, Some, None, IsSome, is_some, IsTrue, refl, sym, ap, subst, arith, ◌⊎◌, inl, inr, append_assoc}
-use Rattle.std.specs.List.{All, Contains, IsDistinct}
+use Rattle.std.specs.List.{All, Contains}
 use Rattle.std.specs.List.Sorted.{IsPermutation}
 use Rattle.std.specs.Ordering.{is_eq, is_lt}
 use Rattle.std.specs.declared.cmp.Ordering.{Ordering}
@@ -25,7 +25,7 @@ use Rattle.gw_ledger.specs.History.{history}
 use Rattle.gw_ledger.specs.Keys.{intent_key, is_key, key_at, record_key, settled_key, slot_of}
 use Rattle.gw_ledger.specs.KeyTable.{AreKeyRows, AreKeys, AreRowsBelow, AreRowsOf, RiseTo, key_rows, rows_with, same_slot, slots_in}
 use Rattle.gw_ledger.specs.Table.{IsRowOf, IsTable, value_at}
-use Rattle.gw_ledger.proofs.KeyTableLemmas.{key_last, key_row, key_stays, key_total, slot_push}
+use Rattle.gw_ledger.proofs.KeyTableLemmas.{key_last, key_stays, key_total, slot_push}
 use Rattle.gw_ledger.proofs.TableLemmas.{absent, value_found}
 use Rattle.gw_ledger.proofs.TieLemmas.{is_equal}
 

@@ -1,12 +1,12 @@
 -- A terminal's last trace number is the greatest in its records.
-use Rattle.std.proofs.Common.{◌≡◌, ◌∙◌, ℕ, zero, suc, ◌<◌, ◌≤◌, Bool, true, false, cond, List, [], ◌∷◌, length, Option, Some, None, slice_get, refl, sym, ap, subst, arith, ◌⊎◌, inl, inr}
-use Rattle.std.specs.Prelude.{if◌then◌else◌, max}
+use Rattle.std.proofs.Common.{◌≡◌, ◌∙◌, ℕ, zero, suc, ◌≤◌, Bool, true, false, List, [], ◌∷◌, length, Some, slice_get, refl, sym, subst, arith, ◌⊎◌, inl, inr}
+use Rattle.std.specs.Prelude.{if◌then◌else◌}
 use Rattle.std.proofs.lemmas.Bool.{cases_lt}
 use Rattle.std.proofs.lemmas.Option.{same_Some}
 use Rattle.jrn_record.specs.declared.records.Record.{Record}
 use Rattle.jrn_record.specs.declared.records.Record.TheVariants.{Intent, Outcome, Settled}
 use Rattle.gw_ledger.specs.declared.account.Account.{Account}
-use Rattle.gw_ledger.specs.Accounts.{account_in, account_with, is_poi, last_number_of, poi_of}
+use Rattle.gw_ledger.specs.Accounts.{account_in, account_with, last_number_of}
 use Rattle.gw_ledger.specs.History.{Placed, history}
 use Rattle.gw_ledger.specs.Laws.{IsTraceOf, is_of_poi, trace_in}
 

@@ -1,9 +1,9 @@
 -- Each field of an entry and of what is found lies within its limits.
-use Rattle.std.proofs.Common.{◌≡◌, ◌∙◌, ℕ, List, length, Option, Some, None, All, slice_get, refl, sym, ap, subst}
+use Rattle.std.proofs.Common.{◌≡◌, ℕ, List, Option, Some, None, slice_get, refl, subst}
 use Rattle.std.specs.Prelude.{IfSome, option_and_then, option_map}
 use Rattle.std.proofs.lemmas.Option.{get_or_from_slice_get, slice_get_within}
 use Rattle.gw_base.specs.declared.key.Key.{Key}
-use Rattle.jrn_record.specs.Limits.{IsIntent, IsOutcome, IsRecord, IsSettled}
+use Rattle.jrn_record.specs.Limits.{IsIntent, IsOutcome, IsRecord}
 use Rattle.jrn_record.specs.declared.records.Intent.{Intent as TheIntent}
 use Rattle.jrn_record.specs.declared.records.Outcome.{Outcome as TheOutcome}
 use Rattle.jrn_record.specs.declared.records.Record.{Record}

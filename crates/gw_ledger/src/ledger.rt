@@ -6,7 +6,7 @@ ghost use Rattle.jrn_record.specs.declared.records.Record.{Record};
 ghost use Rattle.gw_ledger.specs.Accounts.{is_settled, last_number_of};
 ghost use Rattle.gw_ledger.specs.Fold.{AreBodiesOf, AreFolded, IfBad, IsFirstBad, fits, found_of, last_entry, open_entry};
 ghost use Rattle.gw_ledger.specs.Keys.{slot_of};
-ghost use Rattle.gw_ledger.specs.KeyTable.{AreKeyRows};
+ghost use Rattle.gw_ledger.specs.KeyTable.{AreKeyRows, AreKeys, HaveTheirKeys};
 ghost use Rattle.gw_ledger.specs.Slots.{entry_at, is_reversed};
 ghost use Rattle.gw_ledger.specs.Sums.{open_count_of, tally_of, totals_of};
 ghost use Rattle.gw_ledger.specs.Table.{IsTable};
@@ -46,6 +46,20 @@ impl Model for Ledger {
 
     ghost invariant = { λ l. AreFolded l.tables.records × AreKeys l.tables.records l.slots.slots
         × HaveTheirKeys l.tables.records l.slots.firsts × (l.tables.spare ≤ l.slots.spare) };
+}
+
+/// The slots of these keys in their order, with room for as many more as the tables have.
+fn sorted_slots(alloc: Global, tables: &Tables, keys: &SortedKeys) -> Result<Blocks, AllocError>
+    requires table { IsTable key_cmp keys.now }
+    requires rows { AreKeyRows tables.now.records keys.now }
+    ensures keys { IfOk result (λ slots. AreKeys tables.now.records slots.slots) }
+    ensures firsts { IfOk result (λ slots. HaveTheirKeys tables.now.records slots.firsts) }
+    ensures spare { IfOk result (λ slots. tables.now.spare ≤ slots.spare) }
+{
+    let order = keys.slots(alloc)?;
+    let mut slots = Blocks::of(alloc, tables, &order)?;
+    slots.reserve(tables.spare())?;
+    Ok(slots)
 }
 
 impl Ledger {
@@ -88,10 +102,8 @@ impl Ledger {
         requires rows { AreKeyRows tables.records keys.now }
         ensures { IfOk result (λ ledger. ledger.records ≡ tables.records) }
     {
-        let order = keys.slots(alloc)?;
-        let mut slots = Blocks::of(alloc, &tables, &order)?;
+        let slots = sorted_slots(alloc, &tables, keys)?;
         tables.law_folded();
-        slots.reserve(tables.spare())?;
         Ok(Ledger { tables, slots })
     }
 

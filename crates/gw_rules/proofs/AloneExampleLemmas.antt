@@ -1,25 +1,60 @@
 -- The example logs of what an APDU outside the grammar, and one above the limit, change.
-use Rattle.std.proofs.Common.{[], ◌∷◌, ◌++◌, refl}
-use Rattle.std.specs.Prelude.{pos}
+use Rattle.std.proofs.Common.{◌≡◌, ◌≢◌, ℕ, true, List, [], ◌∷◌, ◌++◌, refl, ap, arith}
+use Rattle.std.proofs.lemmas.List.Elements.{All-from_recursion}
+use Rattle.std.specs.Prelude.{pos, slice_get, Option, Some, None}
+use Rattle.gw_base.specs.Setup.{IsPt, IsSetup}
+use Rattle.gw_base.specs.declared.setup.Pt.{Pt}
 use Rattle.gw_site.specs.Outside.{outside_of}
-use Rattle.gw_site.specs.declared.turn.Turn.TheVariants.{Polled, CutPt, Stopped}
+use Rattle.gw_site.specs.declared.turn.Turn.TheVariants.{Start, Polled, CutPt, Stopped}
 use Rattle.zvt_apdu.specs.DecodeStream.{decode_apdus, decode_apdus_within}
 use Rattle.zvt_apdu.proofs.DecodeStreamLemmas.{split_is}
 use Rattle.zvt_bmp.specs.Decode.{decode_field_value, decode_status_field, decode_status_within, decode_status}
 use Rattle.zvt_msg.specs.MessageDecode.{decode_pt_message}
 use Rattle.gw_owes.specs.TerminalExample.{ack}
 use Rattle.gw_rules.specs.CutCauseExample.{completion_apdu}
-use Rattle.gw_rules.specs.AloneExample.{both_polled, alone_chunk, alone_cut_log, alone_cut_course, OutsideLeavesOther, TooLongEndsOwnLink}
+use Rattle.gw_rules.specs.AloneExample.{other_pt, two_setup, both_polled, alone_chunk, alone_cut_log, alone_cut_course, OutsideLeavesOther, TooLongEndsOwnLink}
 use Rattle.gw_rules.specs.CauseExample.{outside_apdu, too_long_log, too_long_course}
+use Rattle.gw_rules.specs.Lawful.{IsCourse}
 use Rattle.gw_rules.specs.LinkLaws.{HasSaid}
+use Rattle.gw_rules.specs.RowExample.{example_pt}
 use Rattle.gw_rules.specs.TerminalLogExample.{linked_log, items_begin}
-use Rattle.gw_rules.specs.View.{Make}
+use Rattle.gw_rules.specs.View.{Move, Make, after, at_first}
 use Rattle.gw_rules.proofs.AloneLemmas.{outside-is-alone, too-long-is-alone}
 use Rattle.gw_rules.proofs.CauseExampleLemmas.{begun, ack_apdu, outside-cause, too-long-said, is-too-long, too-long-cut}
-use Rattle.gw_rules.proofs.CutExampleLemmas.{from-two}
 use Rattle.gw_rules.proofs.PrefixLemmas.{lawful-along}
+use Rattle.gw_rules.proofs.RowExampleLemmas.{pt-formed, formed}
 use Rattle.gw_rules.proofs.TerminalLogLemmas.{after_start}
-use Rattle.gw_rules.proofs.TextLemmas.{bytes-tested}
+use Rattle.gw_rules.proofs.TestedLemmas.{passes_course, course-tested}
+use Rattle.gw_rules.proofs.TextLemmas.{bytes-tested, ident-tested}
+
+-- ---- two terminals
+
+two-formed : IsSetup two_setup
+two-formed = record {
+  name = formed.name;
+  line = formed.line;
+  wait = formed.wait;
+  slots = formed.slots;
+  count = omega arith;
+  each = All-from_recursion IsPt (example_pt ∷ other_pt ∷ []) (pt-formed, (other-formed, tt));
+  distinct = (All-from_recursion (λ (other : Pt). example_pt.poi ≢ other.poi) (other_pt ∷ []) (differs, tt), (All-from_recursion _ [] tt, tt));
+}
+  where
+    code : Option ℕ → ℕ
+    code None = 0
+    code (Some byte) = byte
+
+    differs : example_pt.poi ≡ other_pt.poi → ⊥
+    differs same = let codes_are : ◌≡◌ {A = ℕ} 49 50 = ap (λ l. code (slice_get l 1)) same in omega (arith, codes_are)
+
+    other-formed : IsPt other_pt
+    other-formed = record { poi = ident-tested 40 other_pt.poi refl; password = pt-formed.password; config = pt-formed.config; none = pt-formed.none; answer = pt-formed.answer; command = pt-formed.command }
+
+-- a course of both from the start on
+pub from-two : (moves : List Move) → passes_course (after at_first (Make (Start two_setup))) moves ≡ true → IsCourse at_first (Make (Start two_setup) ∷ moves)
+from-two moves e = ((refl, two-formed), course-tested (after at_first (Make (Start two_setup))) moves e)
+
+-- ---- an APDU outside the grammar
 
 alone-said : HasSaid (outside_of both_polled) 0 alone_chunk (outside_apdu ∷ completion_apdu ∷ []) []
 unfolding decode_apdus decode_apdus_within

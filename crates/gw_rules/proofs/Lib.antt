@@ -12,9 +12,7 @@ pub mod CourseLemmas
 pub mod CrowdLemmas
 pub mod CutCauseExampleLemmas
 pub mod CutCauseLemmas
-pub mod CutExampleLemmas
 pub mod CutLemmas
-pub mod DayLogExampleLemmas
 pub mod DayLogLemmas
 pub mod DayTextLemmas
 pub mod DayTranscriptLemmas
@@ -52,7 +50,6 @@ pub mod PendingLemmas
 pub mod PrefixLemmas
 pub mod ReadyQueueLemmas
 pub mod QueueDueLemmas
-pub mod QueueExampleLemmas
 pub mod QueueFifoLemmas
 pub mod QueueListLemmas
 pub mod QueueMoveLemmas
@@ -80,7 +77,6 @@ pub mod TestedLemmas
 pub mod TextLemmas
 pub mod TranscriptLogLemmas
 pub mod TillLawLemmas
-pub mod TillLogExampleLemmas
 pub mod TillRowLemmas
 pub mod TrickleExampleLemmas
 pub mod TripleLemmas

@@ -14,7 +14,6 @@ use Rattle.gw_owes.specs.TerminalLaws.{BreaksDialogue, IsLateAt}
 use Rattle.gw_owes.specs.declared.terminal.Standing.TheVariants.{Unlinked}
 use Rattle.gw_rules.specs.CauseExample.{outside_log, outside_course, outside_apdu, too_long_log, too_long_course}
 use Rattle.gw_rules.specs.CutCauses.{HasSaidApdu, HasBegunTooLong, BeginsCut, CutCause, SendFailed, SaidOutside, BegunTooLong, BrokeDialogue, DeadlineCame}
-use Rattle.gw_rules.specs.CutExample.{unacknowledged_done_log}
 use Rattle.gw_rules.specs.Lawful.{IsLawful}
 use Rattle.gw_rules.specs.RowExample.{terminal_setup}
 use Rattle.gw_rules.specs.Scene.{known_in}
@@ -122,6 +121,14 @@ pub record ExampleLateCut : Type 0 where
 -- the log before a send of the acknowledgement that its registration is done
 abbrev pub unsent_log : List Turn
 unsent_log = linked_log ++ Polled (pos 1) ∷ HeardPt 0 (ack ++ completion) ∷ []
+
+-- the registration is done, and that can't be acknowledged
+abbrev pub unacknowledged_done_log : List Turn
+unacknowledged_done_log = linked_log ++ Polled (pos 1) ∷ HeardPt 0 (ack ++ completion) ∷ SentPt 0 (0x80 ∷ []) false ∷ []
+
+-- its course
+abbrev pub unacknowledged_done_course : List Move
+unacknowledged_done_course = linked_course ++ Make (Polled (pos 1)) ∷ Make (HeardPt 0 (ack ++ completion)) ∷ (items_begin 4 ++ Make (SentPt 0 (0x80 ∷ []) false) ∷ [])
 
 -- the terminal is cut because that has failed
 pub record ExampleFailedCut : Type 0 where

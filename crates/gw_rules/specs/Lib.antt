@@ -8,7 +8,6 @@ pub mod ChunkExample
 pub mod ChunkLaws
 pub mod CutCauseExample
 pub mod CutCauses
-pub mod CutExample
 pub mod DayLogExample
 pub mod DayLogs
 pub mod DialogueLaws
@@ -25,7 +24,6 @@ pub mod LinkLaws
 pub mod Opening
 pub mod OutsideLaws
 pub mod PaymentLogExample
-pub mod QueueExample
 pub mod QueueLaws
 pub mod RecordOrder
 pub mod RecoveryLogExample
@@ -36,7 +34,6 @@ pub mod Stage
 pub mod StopLogs
 pub mod TerminalLogExample
 pub mod TillLaws
-pub mod TillLogExample
 pub mod TillRounds
 pub mod TranscriptLaws
 pub mod TrickleExample

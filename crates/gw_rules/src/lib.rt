@@ -20,11 +20,9 @@ ghost use Rattle.gw_rules.specs.ChunkExample.{PollBeforeSplitEnquiry, SplitIsEnq
 ghost use Rattle.gw_rules.specs.ChunkLaws.{DoneAtOnceIsEnquired};
 ghost use Rattle.gw_rules.specs.CutCauseExample.{ExampleDeclinedCut, ExampleFailedCut, ExampleLateCut, ExampleOutsideCut, ExampleTooLongCut, ExampleUnclearCut};
 ghost use Rattle.gw_rules.specs.CutCauses.{EachPtCutHasCause, FailedSendCuts};
-ghost use Rattle.gw_rules.specs.DayLogExample.{DayIsLawful, DisplayIsLawful, LostDayIsLawful};
 ghost use Rattle.gw_rules.specs.DayLogs.{CutDayFails, EachDayKeptWasCompleted, LostDayFails};
 ghost use Rattle.gw_rules.specs.DialogueLaws.{DoneRegistrationIsEnquired, ReportMakesReady};
 ghost use Rattle.gw_rules.specs.DoneExample.{ExampleDone, ExampleDoneAtOnce};
-ghost use Rattle.gw_rules.specs.CutExample.{BothAreCut, BothAreLinkedAgain, EnquiryUnacknowledged, OtherIsNotCutFirst, PollBeforeOtherCut, UnacknowledgedDoneIsCut};
 ghost use Rattle.gw_rules.specs.LinkLaws.{DueIsTried, EachUsesLinks, EnquiryFollowsRegistration, LinkedRegisters, OutsideCuts, SilentEnquiryIsCut, TriedOnceRested, UnfinishedRegistrationIsCut};
 ghost use Rattle.gw_rules.specs.OutsideLaws.{OutsideIsAlone, TooLongIsAlone};
 ghost use Rattle.gw_rules.specs.SilenceLaws.{SilentDialogueIsCut, SilentRegistrationIsCut};
@@ -33,7 +31,6 @@ ghost use Rattle.gw_rules.specs.StopLogs.{EachStopIsWishedOnce, ExampleStops, St
 ghost use Rattle.gw_rules.specs.Laws.{BadFrameCuts, CallsEndInOne, CrowdedCuts, EachHasOneLeanCourse, EachHeardIsBytes, PrefixIsLawful, PtBytesBring, RestartIsLawful, SetupIsWithinLimits, TillBytesBring};
 ghost use Rattle.gw_rules.specs.TranscriptLaws.{ClearOwesItsCalls, EachCommandWasSent, EachLogFollowsTranscript, EachMessageWasSaid, EachPollFollowsTranscript, ExampleLogTranscript};
 ghost use Rattle.gw_rules.specs.TillLaws.{EachBeginningIsThere, EachQueueingIsThere, EachServedIsThere, EachUsesTills, OwedIsThere};
-ghost use Rattle.gw_rules.specs.TillLogExample.{ClosedTillIsLawful, UnsentDayIsLawful};
 ghost use Rattle.gw_rules.specs.TrickleExample.{PollBeforeTrickleCut, TrickleIsCut, TrickleIsSilent};
 
 pub use queue_laws::law_queues;
@@ -109,16 +106,12 @@ pub fn law_links()
 /// Along each lawful log a till is sent something, or that fails, only while it is there: each till that is owed anything at once is. The
 /// till of what a terminal serves is there, or has just closed its connection, which is handled next; and so is the till whose request a
 /// terminal is to begin to serve next, or whose request next joins those that wait, or takes one of them out.
-///
-/// In an example a till closes in the middle of the device requests of its payment: it gets none after, and no other till does; the
-/// payment ends and its Outcome is kept, and nobody gets a reply.
 pub fn law_tills()
     ensures used { EachUsesTills }
     ensures owed { OwedIsThere }
     ensures served { EachServedIsThere }
     ensures begins { EachBeginningIsThere }
     ensures queues { EachQueueingIsThere }
-    ensures closed_example { ClosedTillIsLawful }
 {}
 
 /// In a lawful log, after bytes of a terminal that say an APDU outside the grammar, or begin one above the limit, it is cut before
@@ -393,18 +386,6 @@ pub fn law_terminal_logs()
     ensures sent_after_cut { EnquiryAfterCut }
 {}
 
-/// Two terminals whose deadlines come at one moment are both cut then, in the order of the setup: the other not before the first, and
-/// no poll comes between. Five seconds later both are due, and are linked and registered in that order again. A terminal to which the
-/// acknowledgement that its registration is done can't be sent is cut, and not enquired.
-pub fn law_cut_examples()
-    ensures both_cut { BothAreCut }
-    ensures both_linked { BothAreLinkedAgain }
-    ensures order { OtherIsNotCutFirst }
-    ensures poll_between { PollBeforeOtherCut }
-    ensures unacknowledged { UnacknowledgedDoneIsCut }
-    ensures no_enquiry { EnquiryUnacknowledged }
-{}
-
 /// A terminal that has said an APDU outside the grammar, and one that has begun an APDU above the limit, are cut, and no poll comes
 /// before; a terminal whose enquiry is ended by the second part of a Completion, with the report that came before, is ready; and one
 /// whose registration is ended as done by a part of its Ack and its Completion is enquired.
@@ -463,20 +444,10 @@ pub fn law_stop_logs()
 /// day on its present link, and no other command after it but stops, and has then said a Completion with the bytes that began the round; and its
 /// till gets the totals only after the Settled is kept. Where the link of a terminal that serves an end of day is cut or lost, its till
 /// gets a Failure for `UnavailableDevice`, where it is there, no other call is owed, and no record is kept.
-///
-/// In examples, a till asks for an end of day, of which nothing is kept before the terminal has completed it; what the
-/// terminal shows on its way is shown at the till, the Settled is kept after the records before it, and then the till gets their totals.
-/// Where the terminal's link is lost before that, the till gets a Failure and no Settled is kept; and so where the command can't be sent,
-/// as the terminal is cut then. A display is done with the acknowledgement of its command, and then its till gets the results of its
-/// outputs.
 pub fn law_day_logs()
     ensures kept { EachDayKeptWasCompleted }
     ensures cut { CutDayFails }
     ensures lost { LostDayFails }
-    ensures done_example { DayIsLawful }
-    ensures lost_example { LostDayIsLawful }
-    ensures unsent_example { UnsentDayIsLawful }
-    ensures display_example { DisplayIsLawful }
 {
     gw_owes::law_transcript();
     gw_owes::law_records();

@@ -1,5 +1,4 @@
 //! Laws of lawful logs on the requests that wait for a terminal. Each function does nothing: its contract is the law.
-ghost use Rattle.gw_rules.specs.QueueExample.{ExampleQueues};
 ghost use Rattle.gw_rules.specs.QueueLaws.{EachLogHasWaitsInOrder, EachMoveChangesQueues, EachMoveLooksInOrder, EachQueueIsDueInOrder, EachQueueIsFirstInFirstOut, EachWaitingIsThere, NoneIsOverdue, OutsideLeavesQueues, ReadyHasNoQueue};
 
 /// Along each lawful course what waits is in order, and its till is there, or has just closed its connection. A terminal's queue changes
@@ -10,9 +9,6 @@ ghost use Rattle.gw_rules.specs.QueueLaws.{EachLogHasWaitsInOrder, EachMoveChang
 /// that is ready. With each poll, and with its event, the deadlines of all that wait are to be looked at, the earliest first, and those of
 /// one deadline in the order in which they came; then they are looked at in this order, and where the next poll may come nothing waits
 /// whose deadline has come. Bytes that are outside leave each queue as it is, but for the requests of a till that is cut for them.
-///
-/// In an example an end of day joins the queue of a terminal that serves a payment, is there one second later, and is refused at its
-/// deadline.
 pub fn law_queues()
     ensures order { EachLogHasWaitsInOrder }
     ensures there { EachWaitingIsThere }
@@ -23,7 +19,6 @@ pub fn law_queues()
     ensures looks { EachMoveLooksInOrder }
     ensures overdue { NoneIsOverdue }
     ensures outside { OutsideLeavesQueues }
-    ensures example { ExampleQueues }
 {
     gw_owes::law_records();
     gw_owes::law_waits();

@@ -1,17 +1,25 @@
 -- What the words ask for, by what clap says.
-use Rattle.std.proofs.Common.{◌≡◌, ◌^◌, ◌<◌, ◌≤◌, ℕ, Bool, true, false, List, refl, sym, ◌∙◌, ap, arith}
+use Rattle.std.proofs.Common.{◌≡◌, ◌^◌, ◌<◌, ◌≤◌, ℕ, ◌≢◌, Bool, true, false, List, [], ◌∷◌, refl, sym, ◌∙◌, ap, subst, arith, inl, inr}
 use Rattle.std.specs.Prelude.{Option, Some, None, Result, Ok, Err, if◌then◌else◌, option_and_then}
+use Rattle.std.proofs.lemmas.Bool.Decides.{nat_tests}
 use Rattle.std.specs.Str.Parse.{ParsesUnsigned, digits_value, without_leading_plus}
-use Rattle.clap.specs.Matches.{ReadsOne, one_text}
+use Rattle.clap.specs.Faults.{fault_of, is_simple_and_free}
+use Rattle.clap.specs.Kinds.{HasKind, Kinds}
+use Rattle.clap.specs.Matches.{ReadsOne, found_of, one_text}
 use Rattle.clap.specs.ValueTests.{accepts}
-use Rattle.clap.specs.Walk.{rows_of}
+use Rattle.clap.specs.Values.{kind_of}
+use Rattle.clap.specs.Walk.{Row, is_empty, rows_of}
 use Rattle.clap.specs.declared.parser.matches.Found.{Found}
 use Rattle.clap.proofs.ValueTestLemmas.{accepts-Accepts, Accepts-accepts}
 use Rattle.clap.proofs.WalkLemmas.{one_text-rows}
-use Rattle.clap.specs.Simple.{app_of, app_of_fields, new_app, on_top}
+use Rattle.clap.specs.Simple.{HasMatchesOf, app_of, app_of_fields, matches_of, new_app, on_top}
+use Rattle.clap.specs.declared.error.Error.{Error}
+use Rattle.clap.specs.declared.error.kind.ErrorKind.TheVariants.{OutOfMemory}
+use Rattle.clap.specs.declared.parser.matches.ArgMatches.{ArgMatches}
 use Rattle.clap.specs.declared.builder.command.Command.{Command}
 use Rattle.clap.specs.declared.builder.command.Command.TheViews.{out-Command}
-use Rattle.gw_run.specs.Words.{bare_command, number_in, number_of, number_parser}
+use Rattle.gw_run.specs.Words.{bare_command, gateway_command, number_in, number_of, number_parser, order_in, order_of}
+use Rattle.gw_run.specs.declared.words.Order.{Order}
 
 number-small : (n : ℕ) → n < 2 ^ 64 → n ≤ 18446744073709551615
 number-small n lt = omega arith
@@ -54,3 +62,45 @@ bare-settings name first second third last is a b c =
     ap app_of_fields c ∙ ap (on_top (λ shape. record shape { disable_version_flag = true }))
     (ap app_of_fields b ∙ ap (on_top (λ shape. record shape { disable_help_flag = true }))
     (ap app_of_fields a ∙ ap (on_top (λ shape. record shape { no_binary_name = true })) is))
+
+-- ---- what it says of words
+
+order-by : (faults : Kinds) (rows matches : List Row) → faults ≡ [] → rows ≡ matches → order_in rows ≡ (if is_empty faults then order_in matches else None)
+order-by [] rows matches e is = ap order_in is
+order-by (fault ∷ faults) rows matches e is = cc
+
+none-by : (faults : Kinds) (order : Option Order) → faults ≢ [] → None ≡ (if is_empty faults then order else None)
+none-by [] order some = absurd (some refl)
+none-by (fault ∷ faults) order some = grind (arith, nat_tests)
+
+-- the command takes these words and was given this, or it doesn't take them
+abbrev pub IsTaken : List (List ℕ) → Option ArgMatches → Type 0
+IsTaken words None = fault_of gateway_command words ≢ []
+IsTaken words (Some matches) = (fault_of gateway_command words ≡ []) × (rows_of (found_of matches) ≡ matches_of gateway_command words)
+
+-- what words ask for that the command takes
+pub order-taken : (words : List (List ℕ)) (matches : ArgMatches) → IsTaken words (Some matches) → order_in (rows_of (found_of matches)) ≡ order_of words
+order-taken words matches taken = order-by (fault_of gateway_command words) (rows_of (found_of matches)) (matches_of gateway_command words) taken.0 taken.1
+
+-- nothing, where it doesn't take them
+pub order-refused : (words : List (List ℕ)) → IsTaken words None → None ≡ order_of words
+order-refused words refused = none-by (fault_of gateway_command words) (order_in (matches_of gateway_command words)) refused
+
+-- the command takes the words that clap has read
+pub command-takes : (command : Command) (words : List (List ℕ)) (matches : ArgMatches) → app_of command ≡ gateway_command → HasMatchesOf (app_of command) words matches →
+    (is_simple_and_free (app_of command) ≡ true → fault_of (app_of command) words ≡ []) → IsTaken words (Some matches)
+command-takes command words matches is has free = (
+  subst (λ app. is_simple_and_free app ≡ true → fault_of app words ≡ []) is free refl,
+  (subst (λ app. HasMatchesOf app words matches) is has refl).0,
+)
+
+with-fault : (faults : Kinds) (error : Error) → HasKind faults error → kind_of error ≢ OutOfMemory → faults ≢ []
+with-fault [] error (inl memory) other = absurd (other memory)
+with-fault [] error (inr among) other = absurd among
+with-fault (fault ∷ faults) error has other = λ e. cc
+
+-- it doesn't take those that clap refuses
+pub command-refuses : (command : Command) (words : List (List ℕ)) (error : Error) → app_of command ≡ gateway_command →
+    (is_simple_and_free (app_of command) ≡ true → HasKind (fault_of (app_of command) words) error) → kind_of error ≢ OutOfMemory → IsTaken words None
+command-refuses command words error is kinds other =
+    with-fault (fault_of gateway_command words) error (subst (λ app. is_simple_and_free app ≡ true → HasKind (fault_of app words) error) is kinds refl) other

@@ -12,4 +12,3 @@ pub mod Serving
 pub mod Top
 pub mod Words
 pub mod WordsExample
-pub mod WordsRead

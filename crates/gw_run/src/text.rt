@@ -1,10 +1,11 @@
 //! The text of a log.
 ghost use Rattle.std.specs.Prelude.{◌≡◌, ◌≤◌, ◌++◌, ◌∷◌, [], drop, string_bytes, codes, if◌then◌else◌, IsErrOf, OnOk, Some, None, true};
 ghost use Rattle.std.specs.Option.{option_copied};
+ghost use Rattle.std.specs.Fmt.{decimal};
 ghost use Rattle.std.specs.List.{list_all};
 ghost use Rattle.hex.specs.Hex.{encode_lower};
 ghost use Rattle.gw_site.specs.Failures.{Rose};
-ghost use Rattle.gw_site.specs.declared.turn.Turn.TheVariants.{SentTill, SentPt};
+ghost use Rattle.gw_site.specs.declared.turn.Turn.TheVariants.{HeardTill, HeardPt, SentTill, SentPt, Wrote, Crash};
 ghost use Rattle.gw_script.specs.LogText.{is_space_or_visible, is_printable_frame, till_bytes_text, taken, log_text, turn_text};
 ghost use Rattle.gw_run.specs.LogWritten.{Adds, LogWritten};
 
@@ -84,6 +85,20 @@ fn printable_str(bytes: &[u8]) -> &str
     unsafe { str::from_utf8_unchecked(bytes) }
 }
 
+/// Appends a text and a number.
+fn push_number(lines: &mut String, before: &str, number: u64) -> Result<(), AllocError>
+    ensures { OnOk result (string_bytes lines.new ≡ string_bytes lines.old ++ (before.now ++ decimal number)) }
+{
+    write!(lines, "{before}{number}")
+}
+
+/// Appends a number between two texts.
+fn push_number_between(lines: &mut String, before: &str, number: u64, after: &str) -> Result<(), AllocError>
+    ensures { OnOk result (string_bytes lines.new ≡ string_bytes lines.old ++ (before.now ++ (decimal number ++ after.now))) }
+{
+    write!(lines, "{before}{number}{after}")
+}
+
 /// Appends bytes in lower-case hexadecimal.
 fn push_hex(alloc: Global, lines: &mut String, bytes: &[u8]) -> Result<(), AllocError>
     ensures { OnOk result (string_bytes lines.new ≡ string_bytes lines.old ++ encode_lower bytes.now) }
@@ -104,14 +119,47 @@ fn push_till_bytes(alloc: Global, lines: &mut String, bytes: &[u8]) -> Result<()
 
 /// Appends the bytes that a failed send took.
 fn push_taken(alloc: Global, lines: &mut String, bytes: &[u8]) -> Result<(), AllocError>
-    ensures { OnOk result (string_bytes lines.new ≡ string_bytes lines.old ++ (taken bytes.now ++ codes " failed")) }
+    ensures { OnOk result (string_bytes lines.new ≡ string_bytes lines.old ++ taken bytes.now) }
 {
     if bytes.is_empty() {
-        lines.push_str("-")?;
+        lines.push_str("-")
     } else {
-        push_hex(alloc, lines, bytes)?;
+        push_hex(alloc, lines, bytes)
     }
+}
+
+/// Appends the bytes that a failed send took, and that it failed.
+fn push_failed(alloc: Global, lines: &mut String, bytes: &[u8]) -> Result<(), AllocError>
+    ensures { OnOk result (string_bytes lines.new ≡ string_bytes lines.old ++ (taken bytes.now ++ codes " failed")) }
+{
+    push_taken(alloc, lines, bytes)?;
     lines.push_str(" failed")
+}
+
+/// Appends the line of bytes that come from a till, without its end.
+fn push_heard_till(
+    alloc: Global,
+    lines: &mut String,
+    till: u64,
+    bytes: &SharedBytes,
+) -> Result<(), AllocError>
+    ensures { OnOk result (string_bytes lines.new ≡ string_bytes lines.old ++ turn_text (HeardTill till bytes.now)) }
+{
+    write!(lines, "till {till} in ")?;
+    push_till_bytes(alloc, lines, bytes.as_slice())
+}
+
+/// Appends the line of bytes that come from a terminal, without its end.
+fn push_heard_pt(
+    alloc: Global,
+    lines: &mut String,
+    pt: u16,
+    bytes: &SharedBytes,
+) -> Result<(), AllocError>
+    ensures { OnOk result (string_bytes lines.new ≡ string_bytes lines.old ++ turn_text (HeardPt pt bytes.now)) }
+{
+    write!(lines, "pt {pt} in ")?;
+    push_hex(alloc, lines, bytes.as_slice())
 }
 
 /// Appends the line of a send to a till, without its end.
@@ -128,7 +176,7 @@ fn push_sent_till(
     if ok {
         push_till_bytes(alloc, lines, bytes.as_slice())
     } else {
-        push_taken(alloc, lines, bytes.as_slice())
+        push_failed(alloc, lines, bytes.as_slice())
     }
 }
 
@@ -146,8 +194,29 @@ fn push_sent_pt(
     if ok {
         push_hex(alloc, lines, bytes.as_slice())
     } else {
-        push_taken(alloc, lines, bytes.as_slice())
+        push_failed(alloc, lines, bytes.as_slice())
     }
+}
+
+/// Appends the line of a write to the disk, without its end.
+fn push_wrote(
+    alloc: Global,
+    lines: &mut String,
+    offset: u64,
+    bytes: &SharedBytes,
+) -> Result<(), AllocError>
+    ensures { OnOk result (string_bytes lines.new ≡ string_bytes lines.old ++ turn_text (Wrote offset bytes.now)) }
+{
+    write!(lines, "wrote {offset} ")?;
+    push_hex(alloc, lines, bytes.as_slice())
+}
+
+/// Appends the line of a power failure, without its end.
+fn push_crash(lines: &mut String, file: &SharedBytes) -> Result<(), AllocError>
+    ensures { OnOk result (string_bytes lines.new ≡ string_bytes lines.old ++ turn_text (Crash file.now)) }
+{
+    let length = file.as_slice().len();
+    write!(lines, "power {length}")
 }
 
 /// Appends the line of a turn, without its end.
@@ -158,34 +227,22 @@ fn push_turn(alloc: Global, lines: &mut String, turn: &Turn) -> Result<(), Alloc
         Turn::Start(_) => lines.push_str("start"),
         Turn::OpenFailed => lines.push_str("open failed"),
         Turn::Polled { now } => write!(lines, "at {now}"),
-        Turn::Opened { till } => write!(lines, "open {till}"),
-        Turn::HeardTill { till, bytes } => {
-            write!(lines, "till {till} in ")?;
-            push_till_bytes(alloc, lines, bytes.as_slice())
-        }
-        Turn::Closed { till } => write!(lines, "close {till}"),
-        Turn::HeardPt { pt, bytes } => {
-            write!(lines, "pt {pt} in ")?;
-            push_hex(alloc, lines, bytes.as_slice())
-        }
-        Turn::Lost { pt } => write!(lines, "lost {pt}"),
+        Turn::Opened { till } => push_number(lines, "open ", *till),
+        Turn::HeardTill { till, bytes } => push_heard_till(alloc, lines, *till, bytes),
+        Turn::Closed { till } => push_number(lines, "close ", *till),
+        Turn::HeardPt { pt, bytes } => push_heard_pt(alloc, lines, *pt, bytes),
+        Turn::Lost { pt } => push_number(lines, "lost ", u64::from(*pt)),
         Turn::Stopped => lines.push_str("stop"),
-        Turn::Linked { pt } => write!(lines, "link {pt}"),
-        Turn::LinkFailed { pt } => write!(lines, "link {pt} failed"),
+        Turn::Linked { pt } => push_number(lines, "link ", u64::from(*pt)),
+        Turn::LinkFailed { pt } => push_number_between(lines, "link ", u64::from(*pt), " failed"),
         Turn::SentTill { till, bytes, ok } => push_sent_till(alloc, lines, *till, bytes, *ok),
         Turn::SentPt { pt, bytes, ok } => push_sent_pt(alloc, lines, *pt, bytes, *ok),
-        Turn::CutTill { till } => write!(lines, "till {till} cut"),
-        Turn::CutPt { pt } => write!(lines, "pt {pt} cut"),
-        Turn::Wrote { pos, bytes } => {
-            write!(lines, "wrote {pos} ")?;
-            push_hex(alloc, lines, bytes.as_slice())
-        }
+        Turn::CutTill { till } => push_number_between(lines, "till ", *till, " cut"),
+        Turn::CutPt { pt } => push_number_between(lines, "pt ", u64::from(*pt), " cut"),
+        Turn::Wrote { pos, bytes } => push_wrote(alloc, lines, *pos, bytes),
         Turn::Synced => lines.push_str("synced"),
         Turn::DiskFailed => lines.push_str("disk failed"),
-        Turn::Crash { file } => {
-            let length = file.as_slice().len();
-            write!(lines, "power {length}")
-        }
+        Turn::Crash { file } => push_crash(lines, file),
     }
 }
 

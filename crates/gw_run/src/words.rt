@@ -1,13 +1,13 @@
 //! What the words ask for.
-ghost use Rattle.std.specs.Prelude.{◌≡◌, IfOk, false, map};
+ghost use Rattle.std.specs.Prelude.{◌≡◌, ◌≢◌, IfOk, None, codes, false, map};
 ghost use Rattle.clap.specs.Matches.{found_of};
-ghost use Rattle.clap.specs.Simple.{app_of};
+ghost use Rattle.clap.specs.Simple.{app_of, with_rule};
+ghost use Rattle.clap.specs.Values.{kind_of};
 ghost use Rattle.clap.specs.Walk.{rows_of, rule_of};
-ghost use Rattle.gw_run.specs.Words.{gateway_command, mode_in, mode_of, number_in, number_rule, order_below, order_in, order_of};
-ghost use Rattle.gw_run.specs.WordsRead.{IsTaken};
+ghost use Rattle.gw_run.specs.Words.{bare_command, gateway_command, mode_in, mode_of, mode_rule, number_in, number_rule, order_below, order_in, order_of};
 
 use clap::error::ErrorKind;
-use clap::{Arg, ArgMatches, Command, value_parser};
+use clap::{Arg, ArgMatches, Command, Error, value_parser};
 use gw_base::Text;
 use gw_bytes::MOST_DRILL_PAYMENTS;
 use std::alloc::{AllocError, Global};
@@ -40,39 +40,52 @@ fn number_option<'a>(alloc: Global, name: &'a str, default: &'a str) -> Arg<'a>
         .default_value(default)
 }
 
-/// The command that the words are for.
-fn gateway_command<'a>(alloc: Global) -> Result<Command<'a>, AllocError>
-    ensures { IfOk result (λ command. app_of command ≡ gateway_command) }
+/// The one word that has to be there.
+fn mode_word<'a>(alloc: Global) -> Arg<'a>
+    ensures rule { rule_of result ≡ mode_rule }
+    ensures local { result.global ≡ false }
 {
-    let mode = Arg::new(alloc, "mode").required(true);
-    let polls = number_option(alloc, "turns", "18446744073709551615");
-    let from = number_option(alloc, "from", "1");
-    let payments = number_option(alloc, "payments", "100");
+    Arg::new(alloc, "mode").required(true)
+}
+
+/// The command, which takes no words yet.
+fn bare_command<'a>(alloc: Global) -> Command<'a>
+    ensures { app_of result ≡ bare_command (codes "gateway") }
+{
     Command::new(alloc, "gateway")
         .no_binary_name(true)
         .disable_help_flag(true)
         .disable_version_flag(true)
-        .arg(mode)?
-        .arg(polls)?
-        .arg(from)?
-        .arg(payments)
 }
 
-/// What the command was given with these words, where it takes them.
-fn taken<'a>(alloc: Global, words: &'a [&'a str]) -> Result<Option<ArgMatches<'a>>, AllocError>
-    ensures { IfOk result (IsTaken (map (λ word. word.now) words.entry.now)) }
+/// The command with one option more.
+fn with_option<'a>(
+    alloc: Global,
+    command: Command<'a>,
+    name: &'a str,
+    default: &'a str,
+) -> Result<Command<'a>, AllocError>
+    ensures { IfOk result (λ more. app_of more ≡ with_rule (app_of command.entry) (number_rule name.entry.now default.entry.now)) }
 {
-    let command = gateway_command(alloc)?;
-    match command.try_get_matches_from(words) {
-        Ok(matches) => Ok(Some(matches)),
-        Err(error) => {
-            if error.kind() == ErrorKind::OutOfMemory {
-                Err(AllocError)
-            } else {
-                Ok(None)
-            }
-        }
-    }
+    command.arg(number_option(alloc, name, default))
+}
+
+/// The command with the options of a drill.
+fn with_drill_options<'a>(alloc: Global, command: Command<'a>) -> Result<Command<'a>, AllocError>
+    ensures { IfOk result (λ more. app_of more
+        ≡ with_rule (with_rule (app_of command.entry) (number_rule (codes "from") (codes "1"))) (number_rule (codes "payments") (codes "100"))) }
+{
+    let command = with_option(alloc, command, "from", "1")?;
+    with_option(alloc, command, "payments", "100")
+}
+
+/// The command that the words are for.
+fn gateway_command<'a>(alloc: Global) -> Result<Command<'a>, AllocError>
+    ensures { IfOk result (λ command. app_of command ≡ gateway_command) }
+{
+    let command = bare_command(alloc).arg(mode_word(alloc))?;
+    let command = with_option(alloc, command, "turns", "18446744073709551615")?;
+    with_drill_options(alloc, command)
 }
 
 /// The mode with this name.
@@ -137,13 +150,32 @@ fn slices<'a>(alloc: Global, words: &'a [Text]) -> Result<Vec<&'a str>, AllocErr
     Ok(list)
 }
 
+/// What refused words ask for: nothing; an error where memory was refused.
+fn refused(error: &Error) -> Result<Option<Order>, AllocError>
+    ensures { IfOk result (λ order. (order ≡ None) × (kind_of error.now ≢ ErrorKind.OutOfMemory)) }
+{
+    if error.kind() == ErrorKind::OutOfMemory {
+        Err(AllocError)
+    } else {
+        Ok(None)
+    }
+}
+
+/// What the words ask for, as slices.
+fn order_of_slices<'a>(alloc: Global, words: &'a [&'a str]) -> Result<Option<Order>, AllocError>
+    ensures { IfOk result (λ order. order ≡ order_of (map (λ word. word.now) words.entry.now)) }
+{
+    let command = gateway_command(alloc)?;
+    match command.try_get_matches_from(words) {
+        Ok(matches) => Ok(order_in(&matches)),
+        Err(error) => refused(&error),
+    }
+}
+
 /// What the words ask for; nothing where they are refused.
 pub(crate) fn order_of(alloc: Global, words: &[Text]) -> Result<Option<Order>, AllocError>
     ensures { IfOk result (λ order. order ≡ order_of words.now) }
 {
     let list = slices(alloc, words)?;
-    match taken(alloc, &list)? {
-        Some(matches) => Ok(order_in(&matches)),
-        None => Ok(None),
-    }
+    order_of_slices(alloc, &list)
 }

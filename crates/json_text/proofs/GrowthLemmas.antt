@@ -1,5 +1,5 @@
 -- Buffers that only grow: each append leaves what was there as a prefix.
-use Rattle.std.proofs.Common.{◌≡◌, ℕ, List, [], ◌++◌, length, take, cond, sym, ap, ◌∙◌, append_assoc, Result, Ok, Err}
+use Rattle.std.proofs.Common.{◌≡◌, ℕ, List, [], ◌++◌, length, take, cond, sym, ap, ◌∙◌, append_assoc, Result, Ok, Err, OnOk, OnErr}
 use Rattle.std.specs.Result.{is_ok}
 use Rattle.std.proofs.lemmas.List.{append-nil}
 use Rattle.std.proofs.Math.Seq.{take-append_seam}
@@ -17,6 +17,11 @@ grows_on old between new (a, e) (b, f) = (a ++ b, f ∙ ap (λ l. l ++ b) e ∙ 
 pub append_grows : {T E : Type 0} (r : Result T E) (old chunk new : List ℕ) → new ≡ cond (is_ok r) (old ++ chunk) old → IsPrefix old new
 append_grows (Ok x) old chunk new e = (chunk, e)
 append_grows (Err x) old chunk new e = same_grows old new e
+
+-- a text is written, or where it is refused nothing
+pub text_grows : {T E : Type 0} (r : Result T E) (old chunk new : List ℕ) → OnOk r (new ≡ old ++ chunk) → OnErr r (new ≡ old) → IsPrefix old new
+text_grows (Ok x) old chunk new e f = (chunk, e)
+text_grows (Err x) old chunk new e f = same_grows old new f
 
 -- a buffer that has grown, truncated to its length before, is what it was
 pub truncated : (old now new : List ℕ) (n : ℕ) → IsPrefix old now → n ≡ length old → new ≡ take n now → new ≡ old

@@ -26,3 +26,4 @@ pub mod TreeLemmas
 pub mod UniqueLemmas
 pub mod Utf8Lemmas
 pub mod ValueLemmas
+pub mod WrittenLemmas

@@ -1,9 +1,9 @@
 -- The prefix of a string that is written where memory is refused.
-use Rattle.std.proofs.Common.{◌≡◌, ℕ, List, [], ◌∷◌, ◌++◌, take, drop, cond, sym, ap, subst, ◌∙◌, append_assoc, Result, Ok, Err, OnErr}
+use Rattle.std.proofs.Common.{◌≡◌, ℕ, ◌+◌, ◌<◌, ◌≤◌, List, [], ◌∷◌, ◌++◌, length, get_or, take, drop, cond, sym, ap, subst, ◌∙◌, append_assoc, Result, Ok, Err, OnErr}
 use Rattle.std.specs.Prelude.{flat_map}
 use Rattle.std.specs.Result.{is_ok}
 use Rattle.std.proofs.lemmas.Grind.{flat_map-append}
-use Rattle.std.proofs.lemmas.List.{take-append-drop}
+use Rattle.std.proofs.lemmas.List.{append-nil, take-append-drop, take_all, take_more}
 use Rattle.json_text.specs.Canonical.{AppendsPrefix, canonical_byte, canonical_string}
 
 split : (text : List ℕ) (n : ℕ) → canonical_string text ≡ (34 ∷ flat_map canonical_byte (take n text)) ++ (flat_map canonical_byte (drop n text) ++ 34 ∷ [])
@@ -25,3 +25,21 @@ pub unchanged : {T E : Type 0} (r : Result T E) (new old chunk : List ℕ) (P : 
     → OnErr r (P new)
 unchanged (Ok x) new old chunk P e h = tt
 unchanged (Err x) new old chunk P e h = subst P (sym e) h
+
+-- one more byte is written
+pub byte_written : (text old now new : List ℕ) (n : ℕ) → n < length text → now ≡ old ++ (34 ∷ flat_map canonical_byte (take n text)) → new ≡ now ++ canonical_byte (get_or text n 0)
+    → new ≡ old ++ (34 ∷ flat_map canonical_byte (take (n + 1) text))
+byte_written text old now new n inside e f =
+    let before = flat_map canonical_byte (take n text) in
+    let byte = canonical_byte (get_or text n 0) in
+    let more = ap (flat_map canonical_byte) (take_more text n 0 inside)
+    ∙ flat_map-append canonical_byte (take n text) (get_or text n 0 ∷ [])
+    ∙ ap (λ l. before ++ l) (append-nil byte) in
+    f ∙ ap (λ l. l ++ byte) e ∙ append_assoc old (34 ∷ before) byte ∙ ap (λ l. old ++ (34 ∷ l)) (sym more)
+
+-- the closing quotation mark, after all bytes
+pub text_closed : (text old now : List ℕ) (n : ℕ) → length text ≤ n → now ≡ old ++ (34 ∷ flat_map canonical_byte (take n text)) → now ++ (34 ∷ []) ≡ old ++ canonical_string text
+text_closed text old now n all e =
+    ap (λ l. l ++ (34 ∷ [])) e
+    ∙ append_assoc old (34 ∷ flat_map canonical_byte (take n text)) (34 ∷ [])
+    ∙ ap (λ l. old ++ canonical_string l) (take_all n text all)

@@ -19,6 +19,12 @@ value_of-List v = search (rules, the_lemmas)
 pub value_of-Object : (v : Vec (List ℕ × Json) Global) → value_of (jsons.Object v) ≡ object (members_onto (map (λ m. (m.0, value_of m.1)) v.items) no_members)
 value_of-Object v = search (rules, the_lemmas)
 
+pub value_of-Null : value_of variants.Null ≡ null
+value_of-Null = search (rules, the_lemmas)
+
+pub value_of-Bool : (b : Bool) → value_of (variants.Bool b) ≡ boolean b
+value_of-Bool b = search (rules, the_lemmas)
+
 pub value_of-Number : (text : List ℕ) → value_of (variants.Number text) ≡ number text
 value_of-Number text = search (rules, the_lemmas)
 

@@ -1,10 +1,10 @@
 //! The canonical spelling of a tree.
-ghost use Rattle.std.specs.Prelude.{◌≡◌, ℕ, List, ◌∷◌, ◌++◌, ◌<◌, map, flat_map, OnOk, OnErr};
+ghost use Rattle.std.specs.Prelude.{◌≡◌, ◌==◌, ℕ, List, [], ◌∷◌, ◌++◌, ◌<◌, if◌then◌else◌, map, flat_map, OnOk, OnErr};
 ghost use Rattle.gw_bytes.specs.Bytes.{IsPrefix};
-ghost use Rattle.json_text.specs.Tree.{Tree, no_elements};
+ghost use Rattle.json_text.specs.Tree.{Tree, array, no_elements, object};
 ghost use Rattle.json_text.specs.ValueOf.{value_of, elements_onto, members_value};
 ghost use Rattle.json_text.specs.Grammar.{Spells};
-ghost use Rattle.json_text.specs.Canonical.{AppendsPrefix, canonical, canonical_first, canonical_first_member, canonical_string, canonical_byte};
+ghost use Rattle.json_text.specs.Canonical.{AppendsPrefix, canonical, canonical_string, canonical_byte};
 
 use crate::tree::{Chars, Json};
 use arrayvec::ArrayVec;
@@ -47,45 +47,49 @@ fn write_value(tree: &Json, out: &mut Vec<u8>) -> Result<(), AllocError>
         Json::Bool(false) => out.extend_from_slice(b"false"),
         Json::Number(text) => out.extend_from_slice(text.as_bytes()),
         Json::Str(text) => write_text(text.as_bytes(), out),
-        Json::List(elements) => {
-            out.extend_from_slice(b"[")?;
-            write_elements(elements, out)
-        }
-        Json::Object(members) => {
-            out.extend_from_slice(b"{")?;
-            write_members(members, out)
-        }
+        Json::List(elements) => write_array(elements, out),
+        Json::Object(members) => write_object(members, out),
     }
 }
 
-/// Appends the elements of an array, with commas between them, and the closing bracket.
+/// Appends an array of these elements.
 #[cycle(values)]
-fn write_elements(elements: &[Json], out: &mut Vec<u8>) -> Result<(), AllocError>
-    ensures ok { OnOk result (out.new.items ≡ out.old.items ++ canonical_first (elements_onto (map value_of elements.now) no_elements)) }
+fn write_array(elements: &[Json], out: &mut Vec<u8>) -> Result<(), AllocError>
+    ensures ok { OnOk result (out.new.items ≡ out.old.items ++ canonical (array (elements_onto (map value_of elements.now) no_elements))) }
     ensures grows { IsPrefix out.old.items out.new.items }
 {
+    out.extend_from_slice(b"[")?;
     for (i, element) in elements.iter().enumerate() {
-        if i > 0 {
-            out.extend_from_slice(b",")?;
-        }
+        write_comma(i, out)?;
         write_value(element, out)?;
     }
     out.extend_from_slice(b"]")
 }
 
-/// Appends the members of an object, with commas between them, and the closing brace.
+/// Appends an object of these members.
 #[cycle(values)]
-fn write_members(members: &[(Chars, Json)], out: &mut Vec<u8>) -> Result<(), AllocError>
-    ensures ok { OnOk result (out.new.items ≡ out.old.items ++ canonical_first_member (members_value members.now)) }
+fn write_object(members: &[(Chars, Json)], out: &mut Vec<u8>) -> Result<(), AllocError>
+    ensures ok { OnOk result (out.new.items ≡ out.old.items ++ canonical (object (members_value members.now))) }
     ensures grows { IsPrefix out.old.items out.new.items }
 {
+    out.extend_from_slice(b"{")?;
     for (i, (name, value)) in members.iter().enumerate() {
-        if i > 0 {
-            out.extend_from_slice(b",")?;
-        }
+        write_comma(i, out)?;
         write_member(name, value, out)?;
     }
     out.extend_from_slice(b"}")
+}
+
+/// Appends the comma before the element or member of this index; none comes before the first.
+#[inline]
+fn write_comma(index: usize, out: &mut Vec<u8>) -> Result<(), AllocError>
+    ensures ok { OnOk result (out.new.items ≡ out.old.items ++ (if index == 0 then [] else 44 ∷ [])) }
+    ensures grows { IsPrefix out.old.items out.new.items }
+{
+    if index == 0 {
+        return Ok(());
+    }
+    out.extend_from_slice(b",")
 }
 
 /// Appends a member: its name, a colon and its value.

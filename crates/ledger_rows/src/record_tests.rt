@@ -184,7 +184,7 @@ const SETTLED_CHANGES: &[Change] = &[
     (105, 1, 105),
 ];
 
-fn are_reported(rt: &impl Abort, bytes: &[u8; 255], changes: &[Change]) {
+fn assert_reported(rt: &impl Abort, bytes: &[u8; 255], changes: &[Change]) {
     for &(changed_at, byte, reported) in changes {
         assert_eq!(rt;
             from_body(&changed(bytes, changed_at, byte)),
@@ -195,8 +195,8 @@ fn are_reported(rt: &impl Abort, bytes: &[u8; 255], changes: &[Change]) {
 
 #[test]
 fn faults(rt: HostRuntime) {
-    are_reported(&rt, &body(&INTENT), INTENT_CHANGES);
-    are_reported(&rt, &body(&APPROVED), APPROVED_CHANGES);
-    are_reported(&rt, &body(&DECLINED), DECLINED_CHANGES);
-    are_reported(&rt, &body(&SETTLED), SETTLED_CHANGES);
+    assert_reported(&rt, &body(&INTENT), INTENT_CHANGES);
+    assert_reported(&rt, &body(&APPROVED), APPROVED_CHANGES);
+    assert_reported(&rt, &body(&DECLINED), DECLINED_CHANGES);
+    assert_reported(&rt, &body(&SETTLED), SETTLED_CHANGES);
 }

@@ -309,6 +309,26 @@ impl<R: Drop> NetSite<R> {
 impl<
     R: Net<Listener = TcpListener, Stream = TcpStream> + Files<File = File> + Clock + Drop,
 > NetSite<R> {
+    /// Opens the file at this path, once descriptors 0 to 2 are taken.
+    fn open_file(&mut self, path: &str) -> io::Result<()>
+        ensures same { self.new ≡ record self.old { disk = self.new.disk } }
+        ensures disk { self.new.disk.failed ≡ self.old.disk.failed }
+        ensures file { OnOk result (self.new.disk.is_open ≡ true) }
+        ensures failed { self.old.disk.failed ≡ true → IsErr result }
+    {
+        file::take_standard(&self.rt, &mut self.standard)?;
+        self.disk.open(&self.rt, path)
+    }
+
+    /// Listens at this address.
+    fn listen_at(&mut self, address: &str) -> io::Result<()>
+        ensures same { self.new ≡ record self.old { listens = self.new.listens } }
+        ensures listens { OnOk result (self.new.listens ≡ true) }
+    {
+        self.listener = Some(listen(&self.rt, address)?);
+        Ok(())
+    }
+
     /// Opens the file, takes the terminals and listens, where poll(2) can be asked for all of them.
     fn start(&mut self, setup: &Setup) -> io::Result<()>
         requires { self.old.links ≡ [] }
@@ -323,11 +343,9 @@ impl<
         ensures failed { self.old.disk.failed ≡ true → IsErr result }
     {
         self.try_poll()?;
-        file::take_standard(&self.rt, &mut self.standard)?;
-        self.disk.open(&self.rt, setup.journal.as_str())?;
+        self.open_file(setup.journal.as_str())?;
         self.links.set(setup.terminals.as_slice())?;
-        self.listener = Some(listen(&self.rt, setup.listen.as_str())?);
-        Ok(())
+        self.listen_at(setup.listen.as_str())
     }
 }
 

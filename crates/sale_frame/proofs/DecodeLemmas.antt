@@ -1,7 +1,7 @@
 -- Decoding byte by byte gives what Frames relates to the stream.
 use Rattle.std.proofs.Common.{◌≡◌, ℕ, lit<, ◌+◌, ◌<◌, ◌≤◌, inl, inr, Bool, true, false, cond, List, [], ◌∷◌, ◌++◌, length, drop, refl, ap, sym, ◌∙◌, subst, arith, append_assoc, length-drop}
 use Rattle.std.proofs.lemmas.Bool.{cases_lt, and_from, lt-ltb, le-leb, eq-eqb}
-use Rattle.std.specs.Prelude.{◌↔◌}
+use Rattle.std.specs.Prelude.{◌↔◌, if◌then◌else◌, Option, Some, None}
 use Rattle.std.proofs.lemmas.Bool.Decides.{nat_tests}
 use Rattle.std.proofs.lemmas.Nat.{be_bytes_4}
 use Rattle.std.proofs.lemmas.Grind.{flat_map-append}
@@ -145,6 +145,18 @@ whole_frame bytes payload (possible, left, is) size =
 pub no_whole_frame : (bytes payload : List ℕ) → BeginsWithPayload bytes payload → (4 + length payload ≡ length bytes → ⊥) → is_frame bytes ≡ false
 no_whole_frame bytes payload (possible, left, is) longer =
     no_frame bytes (length payload) (payload_begins bytes payload left possible is) (λ _ size. longer (sym size))
+
+-- the payload of a frame
+abbrev pub payload_of : List ℕ → Option (List ℕ)
+payload_of bytes = if is_frame bytes then Some (drop 4 bytes) else None
+
+pub no_payload : (bytes : List ℕ) → is_frame bytes ≡ false → None ≡ payload_of bytes
+no_payload bytes other = ap (λ (test : Bool). if test then Some (drop 4 bytes) else None) (sym other)
+
+pub whole_payload : (bytes payload : List ℕ) → BeginsWithPayload bytes payload → 4 + length payload ≡ length bytes → Some payload ≡ payload_of bytes
+whole_payload bytes payload begins size =
+    let whole = whole_frame bytes payload begins size in
+    sym (ap (λ (test : Bool). if test then Some (drop 4 bytes) else None) whole.0 ∙ ap Some whole.1)
 
 frames-append : (payloads : List (List ℕ)) (payload : List ℕ) → frames (payloads ++ payload ∷ []) ≡ frames payloads ++ frame payload
 frames-append payloads payload = flat_map-append frame payloads (payload ∷ []) ∙ ap (λ s. frames payloads ++ s) (append-nil (frame payload))

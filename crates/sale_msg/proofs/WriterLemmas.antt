@@ -1,51 +1,52 @@
 -- The parts of a written request, put together.
-use Rattle.std.proofs.Common.{◌≡◌, ℕ, List, [], ◌∷◌, ◌++◌, Option, Some, None, Bool, true, false, cond, sym, ap, ◌∙◌, append_assoc, Result, Ok, Err, OnOk, codes}
+use Rattle.std.proofs.Common.{◌≡◌, ◌<◌, ℕ, zero, suc, ◌+◌, List, [], ◌∷◌, ◌++◌, Option, Some, None, Bool, true, false, cond, refl, sym, ap, ◌∙◌, append_assoc, add-one, nat_eq, length, drop, drop-cons, get_or, Result, Ok, Err, OnOk, codes}
 use Rattle.std.specs.Result.{is_ok}
-use Rattle.json_text.specs.Canonical.{canonical, canonical_first, canonical_string}
-use Rattle.json_text.specs.Tree.{boolean, array, object, Elements, Members, no_members, member, number}
-use Rattle.sale_msg.specs.inner.OptionalParts.{money_part, texts_part}
-use Rattle.sale_values.specs.MemberShapes.{object_member, optional_member, text_member}
-use Rattle.sale_values.specs.Money.{money_text}
+use Rattle.std.proofs.Math.Dec.{eqb-suc-zero}
+use Rattle.json_text.specs.Canonical.{canonical, canonical_elements, canonical_first, canonical_more, canonical_more_members, canonical_string}
+use Rattle.json_text.specs.Tree.{Tree, boolean, string, object, Elements, no_elements, element, Members, no_members, member}
+use Rattle.sale_msg.specs.inner.OptionalParts.{comma_before, texts_part}
+use Rattle.sale_values.specs.MemberShapes.{number_member, object_member, only, optional_member, text_member}
 use Rattle.sale_values.specs.PartBytes.{optional_text}
-use Rattle.sale_msg.specs.Canonical.{payment_data, reversed_amount, text_elements, texts_members}
+use Rattle.sale_values.specs.declared.request.Output.{Output}
+use Rattle.sale_msg.specs.Canonical.{display_output_tree, output_elements, text_elements, texts_members}
 
--- the last part
-pub last : {T E : Type 0} (r : Result T E) (new prev old q part total : List ℕ) → new ≡ cond (is_ok r) (prev ++ part) prev
-    → prev ≡ old ++ q → q ++ part ≡ total → OnOk r (new ≡ old ++ total)
-last (Ok x) new prev old q part total e f g = e ∙ ap (λ l. l ++ part) f ∙ append_assoc old q part ∙ ap (λ l. old ++ l) g
-last (Err x) new prev old q part total e f g = tt
+-- an append that wasn't refused
+pub appended : {T E : Type 0} (r : Result T E) (new old part : List ℕ) → new ≡ cond (is_ok r) (old ++ part) old → OnOk r (new ≡ old ++ part)
+appended (Ok x) new old part e = e
+appended (Err x) new old part e = tt
 
-regroup : (a b c d e f g : List ℕ) → (((((a ++ b) ++ c) ++ d) ++ e) ++ f) ++ g ≡ a ++ (b ++ (c ++ (d ++ (e ++ (f ++ g)))))
-regroup a b c d e f g = simp append_assoc
+-- two parts, each of them appended
+pub joined : (new mid old a b : List ℕ) → mid ≡ old ++ a → new ≡ mid ++ b → new ≡ old ++ (a ++ b)
+joined new mid old a b e f = f ∙ ap (λ l. l ++ b) e ∙ append_assoc old a b
 
-closing : (h n b : List ℕ) → h ++ (44 ∷ (n ++ (58 ∷ (b ++ 125 ∷ 125 ∷ [])))) ≡ (h ++ (44 ∷ (n ++ (58 ∷ (b ++ 125 ∷ []))))) ++ 125 ∷ []
-closing h n b =
-    sym (append_assoc h (44 ∷ (n ++ (58 ∷ (b ++ 125 ∷ [])))) (125 ∷ [])
-    ∙ ap (λ l. h ++ (44 ∷ l)) (append_assoc n (58 ∷ (b ++ 125 ∷ [])) (125 ∷ []) ∙ ap (λ l. n ++ (58 ∷ l)) (append_assoc b (125 ∷ []) (125 ∷ []))))
+-- two parts, the second of which may have been refused
+pub two : {T E : Type 0} (r : Result T E) (new mid old a b total : List ℕ) → mid ≡ old ++ a → OnOk r (new ≡ mid ++ b)
+    → a ++ b ≡ total → OnOk r (new ≡ old ++ total)
+two (Ok x) new mid old a b total e f g = joined new mid old a b e f ∙ ap (λ l. old ++ l) g
+two (Err x) new mid old a b total e f g = tt
 
--- six parts
-pub grown : (old a b c d e f s1 s2 s3 s4 s5 s6 : List ℕ) → s1 ≡ old ++ a → s2 ≡ s1 ++ b → s3 ≡ s2 ++ c → s4 ≡ s3 ++ d → s5 ≡ s4 ++ e → s6 ≡ s5 ++ f
-    → s6 ≡ old ++ (((((a ++ b) ++ c) ++ d) ++ e) ++ f)
-grown old a b c d e f s1 s2 s3 s4 s5 s6 e1 e2 e3 e4 e5 e6 = rw (e6, e5, e4, e3, e2, e1) (simp append_assoc)
+-- three parts, the third of which may have been refused
+pub three : {T E : Type 0} (r : Result T E) (new later mid old a b c total : List ℕ) → mid ≡ old ++ a → later ≡ mid ++ b
+    → OnOk r (new ≡ later ++ c) → a ++ (b ++ c) ≡ total → OnOk r (new ≡ old ++ total)
+three r new later mid old a b c total d e f g =
+    two r new later old (a ++ b) c total (joined later mid old a b d e) f (append_assoc a b c ∙ g)
 
--- a message up to its end
-abbrev pub message_prefix : Members → List ℕ → Members → List ℕ
-message_prefix header name body =
-    ((((codes "{\"SaleToPOIRequest\":{\"MessageHeader\":" ++ canonical (object header)) ++ codes ",") ++ canonical_string name) ++ codes ":")
-    ++ canonical (object body)
-
-pub message_spelled : (header body : Members) (name : List ℕ) → message_prefix header name body ++ codes "}}"
+-- a message, from its header and its body
+pub message_spelled : (header : Members) (name : List ℕ) (body : Members)
+    → (codes "{\"SaleToPOIRequest\":{\"MessageHeader\":" ++ canonical (object header)) ++ (canonical_more_members (object_member name body no_members) ++ codes "}")
     ≡ canonical (object (member (codes "SaleToPOIRequest") (object (object_member (codes "MessageHeader") header (object_member name body no_members))) no_members))
-message_spelled header body name =
-    regroup (codes "{\"SaleToPOIRequest\":{\"MessageHeader\":") (canonical (object header)) (codes ",") (canonical_string name) (codes ":") (canonical (object body)) (codes "}}")
-    ∙ ap (λ l. codes "{\"SaleToPOIRequest\":{\"MessageHeader\":" ++ l) (closing (canonical (object header)) (canonical_string name) (canonical (object body)))
+message_spelled header name body =
+    ap (λ l. codes "{\"SaleToPOIRequest\":{\"MessageHeader\":" ++ l)
+    (sym (append_assoc (canonical (object header)) (canonical_more_members (object_member name body no_members)) (codes "}")))
 
-abbrev pub referring_prefix : List ℕ → Option (List ℕ) → Option (List ℕ) → List ℕ
-referring_prefix service sale poi =
-    ((codes "{\"MessageReference\":{\"ServiceID\":" ++ canonical_string service) ++ optional_text (codes ",\"SaleID\":") sale)
-    ++ optional_text (codes ",\"POIID\":") poi
+-- a body after its name
+pub body_spelled : (name : List ℕ) (body : Members) → (44 ∷ (canonical_string name ++ 58 ∷ [])) ++ (canonical (object body) ++ codes "}}")
+    ≡ canonical_more_members (object_member name body no_members) ++ codes "}"
+body_spelled name body = simp append_assoc
 
-pub referring_spelled : (service : List ℕ) (sale poi : Option (List ℕ)) → referring_prefix service sale poi ++ codes "}}"
+pub referring_spelled : (service : List ℕ) (sale poi : Option (List ℕ))
+    → codes "{\"MessageReference\":{\"ServiceID\":" ++ (canonical_string service
+    ++ (optional_text (codes ",\"SaleID\":") sale ++ (optional_text (codes ",\"POIID\":") poi ++ codes "}}")))
     ≡ canonical (object (object_member (codes "MessageReference")
     (text_member (codes "ServiceID") service (optional_member (codes "SaleID") sale (optional_member (codes "POIID") poi no_members))) no_members))
 referring_spelled service None None = simp append_assoc
@@ -53,51 +54,35 @@ referring_spelled service None (Some p) = simp append_assoc
 referring_spelled service (Some s) None = simp append_assoc
 referring_spelled service (Some s) (Some p) = simp append_assoc
 
-abbrev pub reversal_prefix : List ℕ → Option ℕ → List ℕ
-reversal_prefix transaction amount =
-    ((codes "{\"OriginalPOITransaction\":{\"POITransactionID\":{\"TransactionID\":" ++ canonical_string transaction)
-    ++ codes "}},\"ReversalReason\":\"MerchantCancel\"") ++ money_part (codes ",\"ReversedAmount\":") amount
-
-pub reversal_spelled : (transaction : List ℕ) (amount : Option ℕ) → reversal_prefix transaction amount ++ codes "}"
+pub reversal_spelled : (transaction : List ℕ) (amount : Members)
+    → (codes "{\"OriginalPOITransaction\":{\"POITransactionID\":{\"TransactionID\":" ++ (canonical_string transaction
+    ++ codes "}},\"ReversalReason\":\"MerchantCancel\"")) ++ canonical_more_members amount
     ≡ canonical (object (object_member (codes "OriginalPOITransaction")
     (object_member (codes "POITransactionID") (text_member (codes "TransactionID") transaction no_members) no_members)
-    (text_member (codes "ReversalReason") (codes "MerchantCancel") (reversed_amount amount))))
-reversal_spelled transaction None = simp append_assoc
-reversal_spelled transaction (Some n) = simp append_assoc
+    (text_member (codes "ReversalReason") (codes "MerchantCancel") amount)))
+reversal_spelled transaction amount = simp append_assoc
 
-abbrev pub payment_prefix : List ℕ → List ℕ → List ℕ → ℕ → List ℕ
-payment_prefix transaction stamp currency amount =
-    ((((codes "{\"SaleData\":{\"SaleTransactionID\":{\"TransactionID\":" ++ canonical_string transaction) ++ (codes ",\"TimeStamp\":" ++ canonical_string stamp))
-    ++ (codes "}},\"PaymentTransaction\":{\"AmountsReq\":{\"Currency\":" ++ canonical_string currency)) ++ codes ",\"RequestedAmount\":") ++ money_text amount
-
-abbrev pub payment_whole : List ℕ → List ℕ → List ℕ → ℕ → Option (List ℕ) → List ℕ
-payment_whole transaction stamp currency amount payment_type = canonical (object
+pub payment_spelled : (transaction stamp currency amount : List ℕ) (others : Members)
+    → (codes "{\"SaleData\":{\"SaleTransactionID\":{\"TransactionID\":" ++ (canonical_string transaction
+    ++ (codes ",\"TimeStamp\":" ++ (canonical_string stamp
+    ++ (codes "}},\"PaymentTransaction\":{\"AmountsReq\":{\"Currency\":" ++ (canonical_string currency
+    ++ (codes ",\"RequestedAmount\":" ++ (amount ++ codes "}}")))))))) ++ canonical_more_members others
+    ≡ canonical (object
     (object_member (codes "SaleData")
     (object_member (codes "SaleTransactionID")
     (text_member (codes "TransactionID") transaction (text_member (codes "TimeStamp") stamp no_members))
     no_members)
     (object_member (codes "PaymentTransaction")
     (object_member (codes "AmountsReq")
-    (text_member (codes "Currency") currency (member (codes "RequestedAmount") (number (money_text amount)) no_members))
+    (text_member (codes "Currency") currency (number_member (codes "RequestedAmount") amount no_members))
     no_members)
-    (payment_data payment_type))))
-
-payment_plain : (transaction stamp currency : List ℕ) (amount : ℕ)
-    → payment_prefix transaction stamp currency amount ++ codes "}}}" ≡ payment_whole transaction stamp currency amount None
-payment_plain transaction stamp currency amount = simp append_assoc
-
-payment_typed : (transaction stamp currency : List ℕ) (amount : ℕ) (payment_type : List ℕ)
-    → (payment_prefix transaction stamp currency amount ++ (codes "}},\"PaymentData\":{\"PaymentType\":" ++ canonical_string payment_type)) ++ codes "}}"
-    ≡ payment_whole transaction stamp currency amount (Some payment_type)
-payment_typed transaction stamp currency amount payment_type = simp append_assoc
-
-abbrev pub output_prefix : List ℕ → List ℕ → Bool → Option (List (List ℕ)) → List ℕ
-output_prefix device qualify required texts =
-    (((((codes "{\"Device\":" ++ canonical_string device) ++ (codes ",\"InfoQualify\":" ++ canonical_string qualify)) ++ codes ",\"ResponseRequiredFlag\":")
-    ++ canonical (boolean required)) ++ codes ",\"OutputContent\":{\"OutputFormat\":\"Text\"") ++ texts_part (codes ",\"OutputText\":") texts
+    others)))
+payment_spelled transaction stamp currency amount others = simp append_assoc
 
 pub output_spelled : (device qualify : List ℕ) (required : Bool) (texts : Option (List (List ℕ)))
-    → output_prefix device qualify required texts ++ codes "}}"
+    → (codes "{\"Device\":" ++ (canonical_string device ++ (codes ",\"InfoQualify\":" ++ (canonical_string qualify
+    ++ (codes ",\"ResponseRequiredFlag\":" ++ (canonical (boolean required) ++ codes ",\"OutputContent\":{\"OutputFormat\":\"Text\""))))))
+    ++ (texts_part (codes ",\"OutputText\":") texts ++ codes "}}")
     ≡ canonical (object (text_member (codes "Device") device (text_member (codes "InfoQualify") qualify
     (member (codes "ResponseRequiredFlag") (boolean required)
     (object_member (codes "OutputContent") (text_member (codes "OutputFormat") (codes "Text") (texts_members texts)) no_members)))))
@@ -106,24 +91,9 @@ output_spelled device qualify true (Some texts) = simp append_assoc
 output_spelled device qualify false None = simp append_assoc
 output_spelled device qualify false (Some texts) = simp append_assoc
 
-pub payment_none : (transaction stamp currency : List ℕ) (amount : ℕ) (payment_type : Option (List ℕ)) → payment_type ≡ None
-    → payment_prefix transaction stamp currency amount ++ codes "}}}" ≡ payment_whole transaction stamp currency amount payment_type
-payment_none transaction stamp currency amount payment_type e =
-    payment_plain transaction stamp currency amount ∙ ap (payment_whole transaction stamp currency amount) (sym e)
-
-pub payment_some : (transaction stamp currency : List ℕ) (amount : ℕ) (payment_type : Option (List ℕ)) (text : List ℕ) → payment_type ≡ Some text
-    → (payment_prefix transaction stamp currency amount ++ (codes "}},\"PaymentData\":{\"PaymentType\":" ++ canonical_string text)) ++ codes "}}"
-    ≡ payment_whole transaction stamp currency amount payment_type
-payment_some transaction stamp currency amount payment_type text e =
-    payment_typed transaction stamp currency amount text ∙ ap (payment_whole transaction stamp currency amount) (sym e)
-
-pub display_spelled : (elements : Elements) → (codes "{\"DisplayOutput\":[" ++ canonical_first elements) ++ codes "}"
-    ≡ canonical (object (member (codes "DisplayOutput") (array elements) no_members))
-display_spelled elements = simp append_assoc
-
 texts_spelled : (old : List ℕ) (texts : List (List ℕ)) → (old ++ codes ",\"OutputText\":[") ++ canonical_first (text_elements texts)
     ≡ old ++ texts_part (codes ",\"OutputText\":") (Some texts)
-texts_spelled old texts = simp append_assoc
+texts_spelled old texts = append_assoc old (codes ",\"OutputText\":[") (canonical_first (text_elements texts))
 
 -- texts after the bytes that come before them
 pub texts_appended : {T E : Type 0} (r : Result T E) (new between old : List ℕ) (texts : List (List ℕ)) (optional : Option (List (List ℕ)))
@@ -133,3 +103,46 @@ texts_appended (Ok x) new between old texts optional is opened e =
     e ∙ ap (λ l. l ++ canonical_first (text_elements texts)) opened ∙ texts_spelled old texts
     ∙ ap (λ (o : Option (List (List ℕ))). old ++ texts_part (codes ",\"OutputText\":") o) (sym is)
 texts_appended (Err x) new between old texts optional is opened e = tt
+
+more_after : (i : ℕ) (rest : Elements) → canonical_elements (nat_eq (i + 1) 0) rest ≡ canonical_more rest
+more_after i rest = rw (add-one, eqb-suc-zero i) refl
+
+separated : (i : ℕ) (x : Tree) (rest : Elements) → comma_before i ++ (canonical x ++ canonical_more rest) ≡ canonical_elements (nat_eq i 0) (element x rest)
+separated zero x rest = refl
+separated (suc i) x rest = rw (eqb-suc-zero i) refl
+
+-- one more element is written, after its comma
+pub element_next : (i : ℕ) (x : Tree) (here rest : Elements) (new old all : List ℕ) → here ≡ element x rest → new ≡ old ++ (comma_before i ++ canonical x)
+    → old ++ canonical_elements (nat_eq i 0) here ≡ all → new ++ canonical_elements (nat_eq (i + 1) 0) rest ≡ all
+element_next i x here rest new old all is e f =
+    ap (λ l. l ++ canonical_elements (nat_eq (i + 1) 0) rest) e
+    ∙ ap (λ l. (old ++ (comma_before i ++ canonical x)) ++ l) (more_after i rest)
+    ∙ append_assoc old (comma_before i ++ canonical x) (canonical_more rest)
+    ∙ ap (λ l. old ++ l)
+    (append_assoc (comma_before i) (canonical x) (canonical_more rest) ∙ separated i x rest ∙ ap (canonical_elements (nat_eq i 0)) (sym is))
+    ∙ f
+
+closed : (first : Bool) → codes "]" ≡ canonical_elements first no_elements
+closed true = refl
+closed false = refl
+
+-- all elements are written, and the closing bracket
+pub elements_end : {T E : Type 0} (r : Result T E) (i : ℕ) (here : Elements) (new out all : List ℕ) → here ≡ no_elements
+    → new ≡ cond (is_ok r) (out ++ codes "]") out → out ++ canonical_elements (nat_eq i 0) here ≡ all → OnOk r (new ≡ all)
+elements_end (Ok x) i here new out all is e f =
+    e ∙ ap (λ l. out ++ l) (closed (nat_eq i 0) ∙ ap (canonical_elements (nat_eq i 0)) (sym is)) ∙ f
+elements_end (Err x) i here new out all is e f = tt
+
+-- the texts from an index on
+pub texts_from : (texts : List (List ℕ)) (i : ℕ) (text : List ℕ) → i < length texts → text ≡ get_or texts i text
+    → text_elements (drop i texts) ≡ element (only (codes "Text") (string text)) (text_elements (drop (i + 1) texts))
+texts_from texts i text inside is =
+    rw add-one (ap text_elements (drop-cons texts i text inside)
+    ∙ ap (λ (t : List ℕ). element (only (codes "Text") (string t)) (text_elements (drop (suc i) texts))) (sym is))
+
+-- the outputs from an index on
+pub outputs_from : (outputs : List Output) (i : ℕ) (output : Output) → i < length outputs → output ≡ get_or outputs i output
+    → output_elements (drop i outputs) ≡ element (display_output_tree output) (output_elements (drop (i + 1) outputs))
+outputs_from outputs i output inside is =
+    rw add-one (ap output_elements (drop-cons outputs i output inside)
+    ∙ ap (λ (o : Output). element (display_output_tree o) (output_elements (drop (suc i) outputs))) (sym is))

@@ -1,19 +1,22 @@
 //! Requests, written.
-ghost use Rattle.std.specs.Prelude.{◌≡◌, ◌++◌, codes, OnOk, OnErr};
+ghost use Rattle.std.specs.Prelude.{◌≡◌, [], ◌∷◌, ◌++◌, Some, codes, OnOk, OnErr};
 ghost use Rattle.gw_bytes.specs.Bytes.{IsPrefix};
-ghost use Rattle.json_text.specs.Canonical.{canonical, canonical_first, canonical_string};
-ghost use Rattle.json_text.specs.Tree.{boolean, object};
-ghost use Rattle.sale_msg.specs.inner.OptionalParts.{money_part, texts_part};
+ghost use Rattle.json_text.specs.Canonical.{canonical, canonical_first, canonical_more_members, canonical_string};
+ghost use Rattle.json_text.specs.Tree.{boolean, string, object, no_members};
+ghost use Rattle.sale_msg.specs.inner.OptionalParts.{comma_before, texts_part};
+ghost use Rattle.sale_values.specs.CanonicalHeader.{header_members};
+ghost use Rattle.sale_values.specs.MemberShapes.{object_member, only};
 ghost use Rattle.sale_values.specs.Money.{money_text};
-ghost use Rattle.sale_values.specs.PartBytes.{optional_text, part_text, parts_text};
-ghost use Rattle.sale_msg.specs.Canonical.{body_members, body_name, output_elements, display_output_tree, payment_members, referring_members, request_tree, reversal_members, text_elements};
+ghost use Rattle.sale_values.specs.PartBytes.{part_text, parts_text};
+ghost use Rattle.sale_values.specs.declared.request.SaleRequest.TheVariants as requests;
+ghost use Rattle.sale_msg.specs.Canonical.{body_members, body_name, output_elements, display_output_tree, payment_data, payment_members, referring_members, request_tree, reversal_members, reversed_amount, text_elements};
 
 use crate::paths;
 use gw_base::{Ident, Text};
 use json_text::write_text;
 use sale_values::{
-    Header, Output, Part, PaymentAsk, Reference, ReversalAsk, SaleRequest, Texts, header_parts,
-    money,
+    Header, Output, Outputs, Part, PaymentAsk, Period, Reference, ReversalAsk, SaleRequest, Texts,
+    ident_bytes, header_parts, money,
 };
 use std::alloc::{AllocError, Global};
 
@@ -56,13 +59,38 @@ fn write_message(
     ensures ok { OnOk result (out.new.items ≡ out.old.items ++ canonical (request_tree header.now request.now)) }
     ensures grows { IsPrefix out.old.items out.new.items }
 {
+    write_header(header, out)?;
+    write_named_body(request, out)
+}
+
+/// A message up to the end of its header.
+fn write_header(header: &Header, out: &mut Vec<u8>) -> Result<(), AllocError>
+    ensures ok { OnOk result (out.new.items ≡ out.old.items ++ (codes "{\"SaleToPOIRequest\":{\"MessageHeader\":" ++ canonical (object (header_members header.now)))) }
+    ensures grows { IsPrefix out.old.items out.new.items }
+{
     out.extend_from_slice(b"{\"SaleToPOIRequest\":{\"MessageHeader\":")?;
-    write_parts(&header_parts(header), out)?;
-    out.extend_from_slice(b",")?;
-    write_text(name_of_body(request).as_bytes(), out)?;
-    out.extend_from_slice(b":")?;
+    write_parts(&header_parts(header), out)
+}
+
+/// A message from the end of its header on.
+fn write_named_body(request: &SaleRequest, out: &mut Vec<u8>) -> Result<(), AllocError>
+    ensures ok { OnOk result (out.new.items ≡ out.old.items ++ (canonical_more_members (object_member (body_name request.now) (body_members request.now) no_members) ++ codes "}")) }
+    ensures grows { IsPrefix out.old.items out.new.items }
+{
+    write_parts(&name_parts(request), out)?;
     write_body(request, out)?;
     out.extend_from_slice(b"}}")
+}
+
+/// The parts of the name of a request's body, after another member.
+fn name_parts(request: &SaleRequest) -> [Part<'_>; 3]
+    ensures { parts_text result ≡ 44 ∷ (canonical_string (body_name request.now) ++ 58 ∷ []) }
+{
+    [
+        Part::Raw(b","),
+        Part::Text(name_of_body(request).as_bytes()),
+        Part::Raw(b":"),
+    ]
 }
 
 /// The name of a request's body.
@@ -115,21 +143,6 @@ fn write_named(prefix: &[u8], text: &[u8], out: &mut Vec<u8>) -> Result<(), Allo
     write_text(text, out)
 }
 
-/// A text after the bytes that come before it, or nothing where there is no text.
-fn write_optional<const N: usize>(
-    prefix: &[u8],
-    text: &Option<Ident<N>>,
-    out: &mut Vec<u8>,
-) -> Result<(), AllocError>
-    ensures ok { OnOk result (out.new.items ≡ out.old.items ++ optional_text prefix.now text.now) }
-    ensures grows { IsPrefix out.old.items out.new.items }
-{
-    match text {
-        None => Ok(()),
-        Some(text) => write_named(prefix, text.as_bytes(), out),
-    }
-}
-
 fn write_body(request: &SaleRequest, out: &mut Vec<u8>) -> Result<(), AllocError>
     ensures ok { OnOk result (out.new.items ≡ out.old.items ++ canonical (object (body_members request.now))) }
     ensures grows { IsPrefix out.old.items out.new.items }
@@ -137,25 +150,12 @@ fn write_body(request: &SaleRequest, out: &mut Vec<u8>) -> Result<(), AllocError
     match request {
         SaleRequest::Payment(ask) => write_payment(ask, out),
         SaleRequest::Reversal(ask) => write_reversal(ask, out),
-        SaleRequest::Abort(reference) => write_referring(reference, out),
-        SaleRequest::Status(Some(reference)) => write_referring(reference, out),
-        SaleRequest::Reconciliation(period) => {
-            write_named(b"{\"ReconciliationType\":", period.name().as_bytes(), out)?;
-            out.extend_from_slice(b"}")
+        SaleRequest::Abort(reference) | SaleRequest::Status(Some(reference)) => {
+            write_parts(&referring_parts(reference), out)
         }
-        SaleRequest::Display(outputs) => {
-            out.extend_from_slice(b"{\"DisplayOutput\":[")?;
-            write_outputs(outputs.as_slice(), out)?;
-            out.extend_from_slice(b"}")
-        }
-        SaleRequest::Print(qualifier) => {
-            write_named(
-                b"{\"PrintOutput\":{\"DocumentQualifier\":",
-                qualifier.as_bytes(),
-                out,
-            )?;
-            out.extend_from_slice(b"}}")
-        }
+        SaleRequest::Reconciliation(period) => write_parts(&period_parts(*period), out),
+        SaleRequest::Display(outputs) => write_display(outputs, out),
+        SaleRequest::Print(qualifier) => write_parts(&print_parts(qualifier), out),
         SaleRequest::Login
         | SaleRequest::Logout
         | SaleRequest::Diagnosis
@@ -167,59 +167,127 @@ fn write_payment(ask: &PaymentAsk, out: &mut Vec<u8>) -> Result<(), AllocError>
     ensures ok { OnOk result (out.new.items ≡ out.old.items ++ canonical (object (payment_members ask.now))) }
     ensures grows { IsPrefix out.old.items out.new.items }
 {
-    write_named(
-        b"{\"SaleData\":{\"SaleTransactionID\":{\"TransactionID\":",
-        ask.transaction.as_bytes(),
-        out,
-    )?;
-    write_named(b",\"TimeStamp\":", ask.stamp.as_bytes(), out)?;
-    write_named(
-        b"}},\"PaymentTransaction\":{\"AmountsReq\":{\"Currency\":",
-        &ask.currency,
-        out,
-    )?;
-    out.extend_from_slice(b",\"RequestedAmount\":")?;
-    write_money(ask.amount, out)?;
-    match &ask.kind {
-        None => out.extend_from_slice(b"}}}"),
-        Some(payment_type) => {
-            write_named(
-                b"}},\"PaymentData\":{\"PaymentType\":",
-                payment_type.as_str().as_bytes(),
-                out,
-            )?;
-            out.extend_from_slice(b"}}")
-        }
+    let amount = money(ask.amount);
+    write_parts(&payment_parts(ask, amount.as_slice()), out)?;
+    write_payment_data(&ask.kind, out)
+}
+
+/// The parts of a Payment up to its type, with the text of its amount.
+fn payment_parts<'a>(ask: &'a PaymentAsk, amount: &'a [u8]) -> [Part<'a>; 9]
+    requires { amount.now ≡ money_text ask.now.amount }
+    ensures { parts_text result ++ canonical_more_members (payment_data ask.now.kind) ≡ canonical (object (payment_members ask.now)) }
+{
+    [
+        Part::Raw(b"{\"SaleData\":{\"SaleTransactionID\":{\"TransactionID\":"),
+        Part::Text(ask.transaction.as_bytes()),
+        Part::Raw(b",\"TimeStamp\":"),
+        Part::Text(ask.stamp.as_bytes()),
+        Part::Raw(b"}},\"PaymentTransaction\":{\"AmountsReq\":{\"Currency\":"),
+        Part::Text(&ask.currency),
+        Part::Raw(b",\"RequestedAmount\":"),
+        Part::Raw(amount),
+        Part::Raw(b"}}"),
+    ]
+}
+
+/// The end of a Payment: its type, where it has one, and the closing brace.
+fn write_payment_data(payment_type: &Option<Text>, out: &mut Vec<u8>) -> Result<(), AllocError>
+    ensures ok { OnOk result (out.new.items ≡ out.old.items ++ canonical_more_members (payment_data payment_type.now)) }
+    ensures grows { IsPrefix out.old.items out.new.items }
+{
+    match payment_type {
+        None => out.extend_from_slice(b"}"),
+        Some(payment_type) => write_parts(&payment_type_parts(payment_type), out),
     }
+}
+
+fn payment_type_parts(payment_type: &Text) -> [Part<'_>; 3]
+    ensures { parts_text result ≡ canonical_more_members (payment_data (Some payment_type.now)) }
+{
+    [
+        Part::Raw(b",\"PaymentData\":{\"PaymentType\":"),
+        Part::Text(payment_type.as_str().as_bytes()),
+        Part::Raw(b"}}"),
+    ]
 }
 
 fn write_reversal(ask: &ReversalAsk, out: &mut Vec<u8>) -> Result<(), AllocError>
     ensures ok { OnOk result (out.new.items ≡ out.old.items ++ canonical (object (reversal_members ask.now))) }
     ensures grows { IsPrefix out.old.items out.new.items }
 {
-    write_named(
-        b"{\"OriginalPOITransaction\":{\"POITransactionID\":{\"TransactionID\":",
-        ask.transaction.as_bytes(),
-        out,
-    )?;
-    out.extend_from_slice(b"}},\"ReversalReason\":\"MerchantCancel\"")?;
-    write_optional_money(b",\"ReversedAmount\":", ask.amount, out)?;
-    out.extend_from_slice(b"}")
+    write_parts(&reversal_parts(ask), out)?;
+    write_reversed_amount(ask.amount, out)
 }
 
-/// An object whose only member is the reference.
-fn write_referring(reference: &Reference, out: &mut Vec<u8>) -> Result<(), AllocError>
-    ensures ok { OnOk result (out.new.items ≡ out.old.items ++ canonical (object (referring_members reference.now))) }
+/// The parts of a Reversal up to its amount.
+fn reversal_parts(ask: &ReversalAsk) -> [Part<'_>; 3]
+    ensures { parts_text result ++ canonical_more_members (reversed_amount ask.now.amount) ≡ canonical (object (reversal_members ask.now)) }
+{
+    [
+        Part::Raw(b"{\"OriginalPOITransaction\":{\"POITransactionID\":{\"TransactionID\":"),
+        Part::Text(ask.transaction.as_bytes()),
+        Part::Raw(b"}},\"ReversalReason\":\"MerchantCancel\""),
+    ]
+}
+
+/// The end of a Reversal: its amount, where it has one, and the closing brace.
+fn write_reversed_amount(units: Option<u64>, out: &mut Vec<u8>) -> Result<(), AllocError>
+    ensures ok { OnOk result (out.new.items ≡ out.old.items ++ canonical_more_members (reversed_amount units)) }
     ensures grows { IsPrefix out.old.items out.new.items }
 {
-    write_named(
-        b"{\"MessageReference\":{\"ServiceID\":",
-        reference.service.as_bytes(),
-        out,
-    )?;
-    write_optional(b",\"SaleID\":", &reference.sale, out)?;
-    write_optional(b",\"POIID\":", &reference.poi, out)?;
-    out.extend_from_slice(b"}}")
+    match units {
+        None => out.extend_from_slice(b"}"),
+        Some(units) => write_parts(
+            &[
+                Part::Raw(b",\"ReversedAmount\":"),
+                Part::Raw(money(units).as_slice()),
+                Part::Raw(b"}"),
+            ],
+            out,
+        ),
+    }
+}
+
+/// The parts of an object whose only member is the reference.
+fn referring_parts(reference: &Reference) -> [Part<'_>; 5]
+    ensures { parts_text result ≡ canonical (object (referring_members reference.now)) }
+{
+    [
+        Part::Raw(b"{\"MessageReference\":{\"ServiceID\":"),
+        Part::Text(reference.service.as_bytes()),
+        Part::Optional(b",\"SaleID\":", ident_bytes(&reference.sale)),
+        Part::Optional(b",\"POIID\":", ident_bytes(&reference.poi)),
+        Part::Raw(b"}}"),
+    ]
+}
+
+fn period_parts(period: Period) -> [Part<'static>; 3]
+    ensures { parts_text result ≡ canonical (object (body_members (requests.Reconciliation period))) }
+{
+    [
+        Part::Raw(b"{\"ReconciliationType\":"),
+        Part::Text(period.name().as_bytes()),
+        Part::Raw(b"}"),
+    ]
+}
+
+fn print_parts(qualifier: &Ident<40>) -> [Part<'_>; 3]
+    ensures { parts_text result ≡ canonical (object (body_members (requests.Print qualifier.now))) }
+{
+    [
+        Part::Raw(b"{\"PrintOutput\":{\"DocumentQualifier\":"),
+        Part::Text(qualifier.as_bytes()),
+        Part::Raw(b"}}"),
+    ]
+}
+
+fn write_display(outputs: &Outputs, out: &mut Vec<u8>) -> Result<(), AllocError>
+    ensures ok { OnOk result (out.new.items ≡ out.old.items ++ canonical (object (body_members (requests.Display outputs.now)))) }
+    ensures grows { IsPrefix out.old.items out.new.items }
+{
+    out.extend_from_slice(b"{\"DisplayOutput\":[")?;
+    write_outputs(outputs.as_slice(), out)?;
+    out.extend_from_slice(b"}")
 }
 
 /// Outputs after the opening bracket, with the closing one.
@@ -228,25 +296,41 @@ fn write_outputs(outputs: &[Output], out: &mut Vec<u8>) -> Result<(), AllocError
     ensures grows { IsPrefix out.old.items out.new.items }
 {
     for (i, output) in outputs.iter().enumerate() {
-        if i > 0 {
-            out.extend_from_slice(b",")?;
-        }
+        out.extend_from_slice(comma_before(i))?;
         write_output(output, out)?;
     }
     out.extend_from_slice(b"]")
+}
+
+/// The comma before an element that isn't the first.
+fn comma_before(i: usize) -> &'static [u8]
+    ensures { result.now ≡ comma_before i }
+{
+    if i > 0 { b"," } else { b"" }
 }
 
 fn write_output(output: &Output, out: &mut Vec<u8>) -> Result<(), AllocError>
     ensures ok { OnOk result (out.new.items ≡ out.old.items ++ canonical (display_output_tree output.now)) }
     ensures grows { IsPrefix out.old.items out.new.items }
 {
-    write_named(b"{\"Device\":", output.device.as_bytes(), out)?;
-    write_named(b",\"InfoQualify\":", output.qualify.as_bytes(), out)?;
-    out.extend_from_slice(b",\"ResponseRequiredFlag\":")?;
-    out.extend_from_slice(word_of(output.required))?;
-    out.extend_from_slice(b",\"OutputContent\":{\"OutputFormat\":\"Text\"")?;
+    write_parts(&output_parts(output), out)?;
     write_optional_texts(&output.texts, out)?;
     out.extend_from_slice(b"}}")
+}
+
+/// The parts of an output up to its texts.
+fn output_parts(output: &Output) -> [Part<'_>; 7]
+    ensures { parts_text result ++ (texts_part (codes ",\"OutputText\":") output.now.texts ++ codes "}}") ≡ canonical (display_output_tree output.now) }
+{
+    [
+        Part::Raw(b"{\"Device\":"),
+        Part::Text(output.device.as_bytes()),
+        Part::Raw(b",\"InfoQualify\":"),
+        Part::Text(output.qualify.as_bytes()),
+        Part::Raw(b",\"ResponseRequiredFlag\":"),
+        Part::Raw(word_of(output.required)),
+        Part::Raw(b",\"OutputContent\":{\"OutputFormat\":\"Text\""),
+    ]
 }
 
 /// The literal of true or false.
@@ -276,36 +360,19 @@ fn write_texts(texts: &[Text], out: &mut Vec<u8>) -> Result<(), AllocError>
     ensures grows { IsPrefix out.old.items out.new.items }
 {
     for (i, text) in texts.iter().enumerate() {
-        if i > 0 {
-            out.extend_from_slice(b",")?;
-        }
-        write_named(b"{\"Text\":", text.as_str().as_bytes(), out)?;
-        out.extend_from_slice(b"}")?;
+        write_parts(&text_parts(i, text), out)?;
     }
     out.extend_from_slice(b"]")
 }
 
-fn write_money(units: u64, out: &mut Vec<u8>) -> Result<(), AllocError>
-    ensures ok { OnOk result (out.new.items ≡ out.old.items ++ money_text units) }
-    ensures grows { IsPrefix out.old.items out.new.items }
+/// The parts of a text's object, and of the comma before it.
+fn text_parts(i: usize, text: &Text) -> [Part<'_>; 4]
+    ensures { parts_text result ≡ comma_before i ++ canonical (only (codes "Text") (string text.now)) }
 {
-    out.extend_from_slice(money(units).as_slice())
-}
-
-/// Money after the bytes that come before it, or nothing where there is none.
-fn write_optional_money(
-    prefix: &[u8],
-    units: Option<u64>,
-    out: &mut Vec<u8>,
-) -> Result<(), AllocError>
-    ensures ok { OnOk result (out.new.items ≡ out.old.items ++ money_part prefix.now units) }
-    ensures grows { IsPrefix out.old.items out.new.items }
-{
-    match units {
-        None => Ok(()),
-        Some(units) => {
-            out.extend_from_slice(prefix)?;
-            write_money(units, out)
-        }
-    }
+    [
+        Part::Raw(comma_before(i)),
+        Part::Raw(b"{\"Text\":"),
+        Part::Text(text.as_str().as_bytes()),
+        Part::Raw(b"}"),
+    ]
 }

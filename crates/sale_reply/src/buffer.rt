@@ -112,6 +112,7 @@ impl Out {
     }
 
     /// Appends the bytes of a string between these bytes.
+    // Inlined, since what is before and after is constant nearly everywhere, and then copied by a few moves.
     #[inline(always)]
     fn string_between(&mut self, before: &[u8], text: &[u8], after: &[u8])
         ensures { Appends self.old self.new (before.now ++ (flat_map canonical_byte text.now ++ after.now)) }

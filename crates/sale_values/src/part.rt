@@ -33,8 +33,8 @@ pub fn header_parts(header: &Header) -> [Part<'_>; 13]
         Part::Text(header.category.as_bytes()),
         Part::Raw(b",\"MessageType\":"),
         Part::Text(header.kind.name().as_bytes()),
-        Part::Optional(b",\"ServiceID\":", bytes_of(&header.service)),
-        Part::Optional(b",\"DeviceID\":", bytes_of(&header.device)),
+        Part::Optional(b",\"ServiceID\":", ident_bytes(&header.service)),
+        Part::Optional(b",\"DeviceID\":", ident_bytes(&header.device)),
         Part::Raw(b",\"SaleID\":"),
         Part::Text(header.sale.as_bytes()),
         Part::Raw(b",\"POIID\":"),
@@ -44,7 +44,7 @@ pub fn header_parts(header: &Header) -> [Part<'_>; 13]
 }
 
 /// The bytes of an identifier, where there is one.
-fn bytes_of<const N: usize>(id: &Option<Ident<N>>) -> Option<&[u8]>
+pub fn ident_bytes<const N: usize>(id: &Option<Ident<N>>) -> Option<&[u8]>
     ensures { option_copied result ≡ id.now }
 {
     match id {

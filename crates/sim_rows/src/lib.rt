@@ -1,4 +1,4 @@
-//! Scripts and journals over the site in memory, by calls made by hand, and streams over memory: rows that no clause of one crate says.
+//! Scripts and journals over the site in memory, by calls made by hand, and streams over memory.
 #![tactic(auto)]
 
 #[cfg(test)]

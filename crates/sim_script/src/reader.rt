@@ -1,9 +1,9 @@
 //! Reading a script.
 ghost use Rattle.std.specs.Prelude.{◌≡◌, ◌<◌, ◌≤◌, ◌↔◌, ◌==◌, ◌∷◌, ◌⊎◌, ℕ, pos, length, position, option_map, option_and_then, Ok, Some, IfOk, IfErr, OnOk, IsErrOf};
 ghost use Rattle.gw_base.specs.Moment.{last_moment};
-ghost use Rattle.gw_script.specs.Decode.{is_blank, script_limit, split_lines};
-ghost use Rattle.gw_script.specs.site.Decode.{entry_of, event_forms, formed, forms, no_lines, number_within, polling, script_of, setting, spelled, with_entry};
-ghost use Rattle.gw_script.specs.site.ScriptLine.{At, Playing, Queue, Setting, Slots, Wait};
+ghost use Rattle.gw_script.specs.Decode.{is_blank, number, script_limit, split_lines};
+ghost use Rattle.gw_script.specs.site.Decode.{entry_of, event_forms, failing_of, formed, forms, link_number, name_word, no_lines, number_within, polling, power_of, pt_bytes, script_of, setting, spelled, terminal_words, till_bytes, till_said, with_entry};
+ghost use Rattle.gw_script.specs.site.ScriptLine.{At, Close, Fail, Lose, Name, Open, Playing, Queue, Setting, Slots, Wait};
 ghost use Rattle.sim_script.specs.Read.{IsTakenIn, IsScriptFault, read_line_value};
 ghost use Rattle.sim_script.specs.Values.{script_event_value, script_line_value, whole_script_value, setting_value};
 
@@ -56,26 +56,82 @@ fn moment(word: &str) -> Option<ScriptLine>
     Some(ScriptLine::At(n as i64))
 }
 
+/// The line `open` with this word after it.
+fn open_line(word: &str) -> Option<ReadEntry>
+    ensures { option_map read_line_value result ≡ polling (option_map Open (number word.now)) }
+{
+    polling(number(word).map(ScriptEvent::Open))
+}
+
+/// The line `close` with this word after it.
+fn close_line(word: &str) -> Option<ReadEntry>
+    ensures { option_map read_line_value result ≡ polling (option_map Close (number word.now)) }
+{
+    polling(number(word).map(ScriptEvent::Close))
+}
+
+/// The line `till` with this text after it.
+fn till_line(alloc: Global, text: &str) -> Result<Option<ReadEntry>, AllocError>
+    ensures { IfOk result (λ entry. option_map read_line_value entry ≡ polling (till_bytes text.now)) }
+{
+    Ok(polling(till_bytes(alloc, text)?))
+}
+
+/// The line `say` with this text after it.
+fn say_line(alloc: Global, text: &str) -> Result<Option<ReadEntry>, AllocError>
+    ensures { IfOk result (λ entry. option_map read_line_value entry ≡ polling (till_said text.now)) }
+{
+    Ok(polling(till_said(alloc, text)?))
+}
+
+/// The line `pt` with this text after it.
+fn pt_line(alloc: Global, text: &str) -> Result<Option<ReadEntry>, AllocError>
+    ensures { IfOk result (λ entry. option_map read_line_value entry ≡ polling (pt_bytes text.now)) }
+{
+    Ok(polling(pt_bytes(alloc, text)?))
+}
+
+/// The line `lost` with this word after it.
+fn lost_line(word: &str) -> Option<ReadEntry>
+    ensures { option_map read_line_value result ≡ polling (option_map Lose (link_number word.now)) }
+{
+    polling(link_number(word).map(ScriptEvent::Lose))
+}
+
+/// The line `fail` with this text after it.
+fn fail_line(text: &str) -> Option<ReadEntry>
+    ensures { option_map read_line_value result ≡ option_map (λ failing. Playing (Fail failing)) (failing_of text.now) }
+{
+    playing(failing_of(text).map(ScriptLine::Fail))
+}
+
+/// The line `power` with this text after it.
+fn power_line(alloc: Global, text: &str) -> Result<Option<ReadEntry>, AllocError>
+    ensures { IfOk result (λ entry. option_map read_line_value entry ≡ option_map Playing (power_of text.now)) }
+{
+    Ok(playing(power_of(alloc, text)?))
+}
+
 /// The line of a first word of these, by which a poll brings something or something fails, and of what follows its space.
 fn event_formed(alloc: Global, word: &str, rest: &str) -> Result<Option<ReadEntry>, AllocError>
     ensures { IfOk result (λ entry. option_map read_line_value entry ≡ formed event_forms word.now rest.now) }
 {
     if word == "open" {
-        Ok(polling(number(rest).map(ScriptEvent::Open)))
+        Ok(open_line(rest))
     } else if word == "close" {
-        Ok(polling(number(rest).map(ScriptEvent::Close)))
+        Ok(close_line(rest))
     } else if word == "till" {
-        Ok(polling(till_bytes(alloc, rest)?))
+        till_line(alloc, rest)
     } else if word == "say" {
-        Ok(polling(till_said(alloc, rest)?))
+        say_line(alloc, rest)
     } else if word == "pt" {
-        Ok(polling(pt_bytes(alloc, rest)?))
+        pt_line(alloc, rest)
     } else if word == "lost" {
-        Ok(polling(link_number(rest).map(ScriptEvent::Lose)))
+        Ok(lost_line(rest))
     } else if word == "fail" {
-        Ok(playing(failing_of(rest).map(ScriptLine::Fail)))
+        Ok(fail_line(rest))
     } else if word == "power" {
-        Ok(playing(power_of(alloc, rest)?))
+        power_line(alloc, rest)
     } else {
         Ok(None)
     }
@@ -105,12 +161,26 @@ fn slots(word: &str) -> Option<SetupLine>
     Some(SetupLine::Slots(n as u32))
 }
 
+/// The line `name` with this word after it.
+fn name_line(word: &str) -> Option<ReadEntry>
+    ensures { option_map read_line_value result ≡ setting (option_map Name (name_word word.now)) }
+{
+    setting(name_word(word).map(SetupLine::Name))
+}
+
+/// The line `terminal` with this text after it.
+fn terminal_line(alloc: Global, text: &str) -> Result<Option<ReadEntry>, AllocError>
+    ensures { IfOk result (λ entry. option_map read_line_value entry ≡ setting (terminal_words text.now)) }
+{
+    Ok(setting(terminal_words(alloc, text)?))
+}
+
 /// The line of a first word and of what follows its space.
 fn formed(alloc: Global, word: &str, rest: &str) -> Result<Option<ReadEntry>, AllocError>
     ensures { IfOk result (λ entry. option_map read_line_value entry ≡ formed forms word.now rest.now) }
 {
     if word == "name" {
-        Ok(setting(name_word(rest).map(SetupLine::Name)))
+        Ok(name_line(rest))
     } else if word == "line" {
         Ok(setting(queue(rest)))
     } else if word == "wait" {
@@ -118,7 +188,7 @@ fn formed(alloc: Global, word: &str, rest: &str) -> Result<Option<ReadEntry>, Al
     } else if word == "slots" {
         Ok(setting(slots(rest)))
     } else if word == "terminal" {
-        Ok(setting(terminal_words(alloc, rest)?))
+        terminal_line(alloc, rest)
     } else if word == "at" {
         Ok(playing(moment(rest)))
     } else {

@@ -1,13 +1,15 @@
 -- The disk of a site, as turns change it.
-use Rattle.std.proofs.Common.{◌≡◌, ℕ, ◌+◌, ◌-◌, ◌<◌, List, [], ◌∷◌, ◌++◌, length, get_or, take, refl, sym, ◌∙◌, ap, arith, inl, inr}
+use Rattle.std.proofs.Common.{◌≡◌, ℕ, ◌+◌, ◌-◌, ◌<◌, List, [], ◌∷◌, ◌++◌, length, get_or, take, refl, sym, ◌∙◌, ap, arith, inl, inr, subst}
 use Rattle.std.proofs.lemmas.Bool.{cases_lt, or_parts, both_ways}
 use Rattle.std.proofs.lemmas.Grind.{same_number_lists}
 use Rattle.std.proofs.lemmas.List.{reverse-append}
-use Rattle.std.specs.Prelude.{Bool, true, false, map, replicate, if◌then◌else◌}
+use Rattle.std.specs.Prelude.{Bool, true, false, map, replicate, if◌then◌else◌, Result, Ok, Err, IfOk}
 use Rattle.gw_site.specs.Image.{covers, is_covered}
 use Rattle.gw_site.specs.Outside.{Outside, Range, outside_after, overwrite}
 use Rattle.gw_site.proofs.OverwriteLemmas.{over_below, over_above}
-use Rattle.gw_site.specs.declared.turn.Turn.TheVariants.{Synced, Wrote}
+use Rattle.gw_site.specs.declared.turn.Turn.TheVariants.{Crash, Synced, Wrote}
+use Rattle.gw_site.specs.Steps.{ImageKind}
+use Rattle.gw_script.specs.site.Hazards.{crash_file}
 use Rattle.sim_site.specs.Disks.{HasDisk}
 use Rattle.sim_site.specs.Ranges.{range_value, ranges_value}
 use Rattle.sim_site.proofs.RangeLemmas.{covers_inside}
@@ -77,3 +79,9 @@ pub disk_synced : (o : Outside) (held next : Disk) (taken : List ℕ) → HasDis
 disk_synced o held next taken h file stable size each written =
     let same : taken ≡ held.file.items = caught_up o (ranges_value held.written.items) held.stable.items held.file.items taken h.file h.stable h.ranges size h.kept each in
     record { file = h.file ∙ sym file; stable = h.file ∙ sym (stable ∙ same); ranges = ap ranges_value (sym written); kept = λ offset clean. refl }
+
+-- a power failure
+pub disk_fallen : {E : Type 0} (result : Result Disk E) (image : List ℕ) (held : Disk) (kind : ImageKind) → IfOk result (λ disk. (o : Outside) → HasDisk (outside_after o (Crash image)) disk) → ((o : Outside) → HasDisk o held → image ≡ crash_file kind o)
+    → IfOk result (λ disk. (o : Outside) → HasDisk o held → HasDisk (outside_after o (Crash (crash_file kind o))) disk)
+disk_fallen (Ok disk) image held kind there is = λ o h. subst (λ file. HasDisk (outside_after o (Crash file)) disk) (is o h) (there o)
+disk_fallen (Err error) image held kind there is = tt

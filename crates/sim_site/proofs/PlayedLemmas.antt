@@ -1,7 +1,8 @@
 -- How the log of a site goes on by calls.
 use Rattle.std.proofs.Common.{◌≡◌, ℕ, List, [], ◌∷◌, ◌++◌, get_or, refl, sym, ◌∙◌, ap, subst, true, false, append-nil, append_assoc}
 use Rattle.std.proofs.Math.Logic.{∥∥₁_map}
-use Rattle.std.specs.Prelude.{Bool, ℤ, not, is_some, ◌==◌, if◌then◌else◌, Option, Some, None, IsSome, option_map}
+use Rattle.std.specs.Prelude.{Bool, ℤ, not, is_some, ◌==◌, if◌then◌else◌, Option, Some, None, IsSome, Result, Ok, Err, IfOk, OnOk, option_map}
+use Rattle.std.specs.Result.{result_and}
 use Rattle.gw_base.specs.declared.setup.Setup.{Setup}
 use Rattle.gw_site.specs.Image.{is_covered}
 use Rattle.gw_site.specs.Outside.{Outside, is_connected, no_run, outside_after, outside_from, outside_of}
@@ -26,6 +27,7 @@ use Rattle.sim_site.specs.Disks.{HasDisk}
 use Rattle.sim_site.specs.Places.{place_value}
 use Rattle.sim_site.specs.Steps.{HasPart, HasSteps}
 use Rattle.sim_site.proofs.ConnectionLemmas.{followed}
+use Rattle.sim_site.specs.declared.brought.Brought.{Brought}
 use Rattle.sim_site.specs.declared.connections.Connections.{Connections}
 use Rattle.sim_site.specs.declared.disk.Disk.{Disk}
 use Rattle.sim_site.specs.declared.place.Place.{Place}
@@ -227,13 +229,11 @@ turned true false e = refl
 turned false true e = refl
 turned false false e = e
 
-pub till_turn : (log : List Turn) (till : ℕ) (sent bytes : List ℕ) (none : Bool) (most real : Option ℕ) → sent ≡ sent_of most bytes → is_some most ≡ not none → most ≡ real →
-    log ++ SentTill till sent none ∷ [] ≡ log ++ SentTill till (sent_of real bytes) (not (is_some real)) ∷ []
-till_turn log till sent bytes none most real s n m = rw (s, turned (is_some most) none n, m) refl
+pub till_turn : (log : List Turn) (till : ℕ) (sent bytes : List ℕ) (none : Bool) (most : Option ℕ) → sent ≡ sent_of most bytes → is_some most ≡ not none → log ++ SentTill till sent none ∷ [] ≡ log ++ SentTill till (sent_of most bytes) (not (is_some most)) ∷ []
+till_turn log till sent bytes none most s n = rw (s, turned (is_some most) none n) refl
 
-pub pt_turn : (log : List Turn) (pt : ℕ) (sent bytes : List ℕ) (none : Bool) (most real : Option ℕ) → sent ≡ sent_of most bytes → is_some most ≡ not none → most ≡ real →
-    log ++ SentPt pt sent none ∷ [] ≡ log ++ SentPt pt (sent_of real bytes) (not (is_some real)) ∷ []
-pt_turn log pt sent bytes none most real s n m = rw (s, turned (is_some most) none n, m) refl
+pub pt_turn : (log : List Turn) (pt : ℕ) (sent bytes : List ℕ) (none : Bool) (most : Option ℕ) → sent ≡ sent_of most bytes → is_some most ≡ not none → log ++ SentPt pt sent none ∷ [] ≡ log ++ SentPt pt (sent_of most bytes) (not (is_some most)) ∷ []
+pt_turn log pt sent bytes none most s n = rw (s, turned (is_some most) none n) refl
 
 -- ---- polls
 
@@ -306,6 +306,11 @@ fell_there o lines place next due on is e =
     let (kind, off) = some_image next.off is in
     let none : due ≡ [] = sym (ap (λ (q : Play). q.due) e) ∙ fell_due o p p.lines kind refl (ap (option_map image_value) on) (ap (λ (q : Play). q.off) e ∙ off) in
     e ∙ ap (λ d. record (place_value lines next) { due = d }) none
+
+-- what is brought, where the connections could follow it
+pub if_followed : {E A : Type 0} (followed : Result (Unit {0}) E) (ends : Option Brought) (P : Option Brought → Type 0) → OnOk followed A → (A → P ends) → IfOk (result_and followed (Ok ends)) P
+if_followed (Ok done) ends P has goes = goes has
+if_followed (Err error) ends P has goes = tt
 
 pub fell_turns : (o : Outside) (p q : Play) (kind : ImageKind) → after_poll o p ≡ q → q.off ≡ Some kind → call_turns o p PollCall ≡ []
 fell_turns o p q kind e off = ap (λ m. polled_turns m m.off) e ∙ ap (polled_turns q) off

@@ -2,25 +2,28 @@
 use Rattle.std.proofs.Common.{◌≡◌, ℕ, List, [], ◌∷◌, ◌++◌, refl, sym, ◌∙◌, ap, subst, true, false, append-nil, inl, inr, take, drop, take-append-drop}
 use Rattle.std.specs.Prelude.{Bool, Option, not, option_and_then, ◌||◌, if◌then◌else◌, Some, None, Result, Ok, Err, IsErr, IfOk, OnOk, OnErr, is_some}
 use Rattle.std.specs.Str.{is_utf8}
+use Rattle.std.proofs.lemmas.List.{append_cancel_left}
 use Rattle.gw_base.specs.declared.setup.Setup.{Setup}
 use Rattle.gw_site.specs.Observed.{Observed, Added, AddedWhole, Grows, GrowsBy, GrowsWhole}
 use Rattle.gw_site.specs.declared.site.Failed.{Failed}
+use Rattle.gw_site.specs.declared.site.Polled.{Polled as PollResult}
 use Rattle.gw_site.specs.declared.site.What.{What}
 use Rattle.gw_site.specs.declared.site.What.TheVariants.{Stopped}
 use Rattle.gw_site.specs.Outside.{outside_of}
-use Rattle.gw_site.specs.Turns.{SentPtTurns, SentTillTurns, WroteTurns}
+use Rattle.gw_site.specs.Turns.{PolledTurns, SentPtTurns, SentTillTurns, WroteTurns, event_turns}
 use Rattle.gw_site.specs.declared.turn.Turn.{Turn}
-use Rattle.gw_site.specs.declared.turn.Turn.TheVariants.{DiskFailed, SentPt, SentTill, Wrote}
+use Rattle.gw_site.specs.declared.turn.Turn.TheVariants.{DiskFailed, Polled, SentPt, SentTill, Stopped as StoppedTurn, Wrote}
 use Rattle.gw_site.proofs.GrowsLemmas.{all_grows}
-use Rattle.gw_site.specs.Steps.{SiteCall, WriteCall}
+use Rattle.gw_site.specs.Steps.{Plan, PollCall, SiteCall, WriteCall}
 use Rattle.gw_script.specs.site.Calls.{call_turns}
 use Rattle.gw_script.specs.site.Decode.{no_lines, script_goes_on, script_of, spelled, with_entry}
 use Rattle.gw_script.specs.site.Hazards.{sent_of}
 use Rattle.gw_script.specs.site.ScriptLine.{Script, setup_of}
-use Rattle.sim_script.specs.Values.{whole_script_value}
+use Rattle.gw_script.specs.site.StepTurns.{site_turns, turns_by}
+use Rattle.sim_script.specs.Values.{lines_value, whole_script_value}
 use Rattle.sim_site.specs.Dark.{is_dark}
-use Rattle.sim_site.specs.Made.{IsLit, IsCallMade, IsPollMade, IsRefused, IsCallReported, IsSameScript, IsUnchanged, IsWriteRefused, outside_at, play_at}
-use Rattle.sim_site.specs.Sites.{GoesOn, IsOriginSetup, IsReturned, observed_with, origin_beside, origin_of}
+use Rattle.sim_site.specs.Made.{IsLit, IsCallMade, IsPollMade, IsPollRefused, IsRefused, IsCallReported, IsSameScript, IsUnchanged, IsUnplayed, IsWriteRefused, outside_at, play_at}
+use Rattle.sim_site.specs.Sites.{GoesOn, IsOriginSetup, IsReturned, observed_with, origin_beside, origin_of, plan_from, plan_of}
 use Rattle.sim_site.specs.declared.played.Played.{Played}
 use Rattle.sim_site.specs.declared.site.SimSite.{SimSite}
 
@@ -262,3 +265,48 @@ some_same a b e = cc
 pub setup_own : {E : Type 0} (played : Played) (result : Result Setup E) → IfOk result (λ setup. setup ≡ setup_of (whole_script_value played.script).given) → IfOk result (λ setup. IsOriginSetup (origin_of played) setup)
 setup_own played (Ok setup) is = λ script e. is ∙ ap (λ (x : Script). setup_of x.given) (origin_own played script e).1
 setup_own played (Err error) is = tt
+
+-- ---- a new site
+
+observed_is : (log other : List Turn) (dark lit : Bool) (origin text : List ℕ) (plan first : Option Plan) → log ≡ other → dark ≡ lit → origin ≡ text → plan ≡ first →
+    ◌≡◌ {A = Observed} (record { log = Some log; faults = 0; dark = dark; origin = origin; plan = plan }) (record { log = Some other; faults = 0; dark = lit; origin = text; plan = first })
+observed_is log other dark lit origin text plan first l d o p = rw (l, d, o, p) refl
+
+-- nothing is played yet
+pub unplayed_observed : (text : List ℕ) (played : Played) → IsUnplayed text played →
+    observed_with 0 played ≡ record { log = Some []; faults = 0; dark = false; origin = text; plan = Some (site_turns (lines_value played.script.lines.items)) }
+unplayed_observed text played u = observed_is played.log [] (is_dark played) false (origin_of played) text (plan_of played) (Some (site_turns (lines_value played.script.lines.items)))
+    u.log
+    (lit_there played (record { whole = u.whole; power = u.power }))
+    (ap (λ s. if s then played.text.value else origin_beside) u.scripted ∙ u.text_is)
+    (ap (λ short. plan_from short played.log (play_at played)) u.whole ∙ ap (λ log. Some (turns_by log (play_at played))) u.log ∙ ap (λ place. Some (turns_by [] place)) u.place)
+
+pub unplayed_text : (text : List ℕ) (played : Played) → IsUnplayed text played → script_of text ≡ Ok (whole_script_value played.script)
+unplayed_text text played u = ap script_of (sym u.text_is) ∙ played.read_is
+
+-- ---- polls
+
+dark_by : (short off : Bool) → off ≡ true → (short || off) ≡ true
+dark_by true off e = refl
+dark_by false off e = e
+
+-- a poll that was made
+pub polled_grows : (f g : ℕ) (old new : Played) (what : What) (result : PollResult) (buf : List ℕ) → IsLit old → IsCallMade old new PollCall → IsPollMade old new what buf → IsSameScript old new → result ≡ record { now = new.place.moment; what = what } →
+    Grows (observed_with f old) (observed_with g new) (PolledTurns result buf)
+polled_grows f g old new what result buf lit made polled same is = subst (λ (r : PollResult). Grows (observed_with f old) (observed_with g new) (PolledTurns r buf)) (sym is) (grows polled)
+  where
+    turns : List Turn
+    turns = Polled new.place.moment ∷ event_turns what buf
+
+    grows : IsPollMade old new what buf → Grows (observed_with f old) (observed_with g new) (PolledTurns (record { now = new.place.moment; what = what }) buf)
+    grows (inl grown) = made_grows f g old new PollCall (PolledTurns (record { now = new.place.moment; what = what }) buf) lit made same (append_cancel_left old.log (call_turns (outside_at old) (play_at old) PollCall) turns (sym made.log ∙ grown.1))
+    grows (inr fallen) = dark_grows (observed_with f old) (observed_with g new) (PolledTurns (record { now = new.place.moment; what = what }) buf) turns refl (dark_by new.short (is_some new.place.off) fallen.0) (ap Some fallen.1) (origin_same old new same)
+
+-- a poll for which memory was refused
+pub refused_poll_grows : (f g : ℕ) (old new : Played) (result : PollResult) (buf : List ℕ) → IsLit old → IsPollRefused old new → new.short ≡ true → IsSameScript old new → result ≡ record { now = new.place.moment; what = Stopped } →
+    Grows (observed_with f old) (observed_with g new) (PolledTurns result buf)
+refused_poll_grows f g old new result buf lit (inl log) short same stop =
+    dark_grows (observed_with f old) (observed_with g new) (PolledTurns result buf) (Polled result.now ∷ event_turns result.what buf) refl (short_dark new short) (ap Some log) (origin_same old new same)
+refused_poll_grows f g old new result buf lit (inr log) short same stop =
+    part_grows (observed_with f old) (observed_with g new) (PolledTurns result buf) old.log (Polled new.place.moment ∷ StoppedTurn ∷ []) (Polled new.place.moment ∷ []) (StoppedTurn ∷ [])
+    (ap (λ (r : PollResult). Polled r.now ∷ event_turns r.what buf) (sym stop)) refl (lit_there old lit) (short_dark new short) refl (ap Some log) (origin_same old new same)

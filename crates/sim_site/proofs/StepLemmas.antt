@@ -1,7 +1,7 @@
 -- Each call on the site, and whatever happens to it beside, is a step of what it plays.
 use Rattle.std.proofs.Common.{◌≡◌, ℕ, List, [], ◌∷◌, ◌++◌, refl, sym, ◌∙◌, ap, subst, true, false, append-nil}
 use Rattle.std.proofs.lemmas.List.{append_cancel_left}
-use Rattle.std.specs.Prelude.{Bool, not, ◌&&◌, Option, Some, None, Result, Ok, Err, OnOk, OnErr, option_map}
+use Rattle.std.specs.Prelude.{Bool, not, ◌&&◌, Some, None, Result, Ok, Err, OnOk, OnErr, option_map}
 use Rattle.gw_bytes.specs.Bytes.{AreBytes}
 use Rattle.gw_site.specs.Image.{Image}
 use Rattle.gw_site.specs.Observed.{IsStep, TakesCall}
@@ -9,7 +9,7 @@ use Rattle.gw_site.specs.Outside.{outside_of}
 use Rattle.gw_site.specs.Steps.{Plan, SiteCall, SiteStep, Made, PowerBack, StopAfter, Holding, ImageKind, Old, New, Junk, Takes}
 use Rattle.gw_site.specs.declared.turn.Turn.{Turn}
 use Rattle.gw_site.specs.declared.turn.Turn.TheVariants.{Crash}
-use Rattle.gw_script.specs.site.Calls.{call_turns, place_after, set_to_fail}
+use Rattle.gw_script.specs.site.Calls.{call_turns, set_to_fail}
 use Rattle.gw_script.specs.site.Hazards.{crash_file}
 use Rattle.gw_script.specs.site.Playing.{Play, restarted}
 use Rattle.gw_script.specs.site.StepTurns.{StepFits, place_after_step, turns_by}

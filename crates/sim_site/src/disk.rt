@@ -1,6 +1,5 @@
 //! The disk: the file, that of the last sync, and what was written since then.
 ghost use Rattle.std.specs.Prelude.{ℕ, ◌≡◌, ◌<◌, ◌≤◌, ◌+◌, ◌-◌, ◌++◌, length, get_or, min, replicate, IfOk, OnOk, if◌then◌else◌};
-ghost use Rattle.gw_bytes.specs.Bytes.{AreBytes};
 ghost use Rattle.gw_site.specs.Outside.{Outside, nothing_yet, outside_after, overwrite};
 ghost use Rattle.gw_site.specs.Image.{covers, is_covered, junked_from};
 ghost use Rattle.gw_site.specs.declared.turn.Turn.TheVariants.{Crash, Synced, Wrote};
@@ -105,8 +104,7 @@ fn end_within(range: Written, size: usize) -> usize
 
 /// A copy of these bytes, where there is memory.
 fn copied(alloc: Global, bytes: &[u8]) -> Result<Vec<u8>, AllocError>
-    ensures copy { IfOk result (λ copy. copy.items ≡ bytes.now) }
-    ensures bytes { AreBytes bytes.now }
+    ensures { IfOk result (λ copy. copy.items ≡ bytes.now) }
 {
     Vec::from_slice(alloc, bytes)
 }
@@ -148,9 +146,8 @@ impl Disk {
     }
 
     /// A disk with this file, as a power failure has left it.
-    pub(crate) fn holding(alloc: Global, file: Vec<u8>) -> Result<Disk, AllocError>
-        ensures disk { IfOk result (λ disk. (o : Outside) → HasDisk (outside_after o (Crash file.items)) disk) }
-        ensures bytes { AreBytes file.items }
+    fn holding(alloc: Global, file: Vec<u8>) -> Result<Disk, AllocError>
+        ensures { IfOk result (λ disk. (o : Outside) → HasDisk (outside_after o (Crash file.items)) disk) }
     {
         Ok(Disk {
             stable: copied(alloc, &file)?,
@@ -168,7 +165,7 @@ impl Disk {
     }
 
     /// What a power failure leaves.
-    pub(crate) fn image(&self, alloc: Global, kind: ImageKind) -> Result<Vec<u8>, AllocError>
+    fn image(&self, alloc: Global, kind: ImageKind) -> Result<Vec<u8>, AllocError>
         ensures { IfOk result (λ image. (o : Outside) → HasDisk o self.now → image.items ≡ crash_file (image_value kind) o) }
     {
         match kind {
@@ -180,5 +177,13 @@ impl Disk {
                 Ok(image)
             }
         }
+    }
+
+    /// The disk after a power failure that leaves this.
+    pub(crate) fn fallen(&self, alloc: Global, kind: ImageKind) -> Result<Disk, AllocError>
+        ensures { IfOk result (λ disk. (o : Outside) → HasDisk o self.now → HasDisk (outside_after o (Crash (crash_file (image_value kind) o))) disk) }
+    {
+        let image = self.image(alloc, kind)?;
+        Disk::holding(alloc, image)
     }
 }

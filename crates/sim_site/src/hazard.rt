@@ -111,9 +111,9 @@ impl Hazard {
     {
         match failing {
             FailingCall::Open => self.open = true,
-            FailingCall::Link(pt) => add_link(&mut self.links, pt)?,
-            FailingCall::SendTill(till, most) => add_send(&mut self.tills, till, most)?,
-            FailingCall::SendPt(pt, most) => add_send(&mut self.pts, u64::from(pt), most)?,
+            FailingCall::Link(pt) => return add_link(&mut self.links, pt),
+            FailingCall::SendTill(till, most) => return add_send(&mut self.tills, till, most),
+            FailingCall::SendPt(pt, most) => return add_send(&mut self.pts, u64::from(pt), most),
             FailingCall::Write => self.write = true,
             FailingCall::Sync => self.sync = true,
             FailingCall::Length => self.length = true,

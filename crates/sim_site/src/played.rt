@@ -3,7 +3,7 @@ ghost use Rattle.std.specs.Prelude.{◌≡◌, ◌⊎◌, ◌||◌, ◌==◌, �
 ghost use Rattle.std.specs.Option.{option_to_list};
 ghost use Rattle.gw_bytes.specs.Bytes.{AreBytes};
 ghost use Rattle.gw_site.specs.Outside.{Outside, outside_from, outside_of};
-ghost use Rattle.gw_site.specs.declared.turn.Turn.TheVariants.{Crash, DiskFailed, Linked, LinkFailed, OpenFailed, Polled, Start, Synced, Wrote};
+ghost use Rattle.gw_site.specs.declared.turn.Turn.TheVariants.{Crash, DiskFailed, Linked, LinkFailed, OpenFailed, Polled, SentPt, SentTill, Start, Synced, Wrote};
 ghost use Rattle.gw_site.specs.Steps.{CutPtCall, CutTillCall, LengthCall, LinkCall, OpenCall, PollCall, ReadCall, SendPtCall, SendTillCall, SyncCall, WriteCall};
 ghost use Rattle.gw_script.specs.site.Calls.{set_to_fail};
 ghost use Rattle.gw_script.specs.site.Decode.{script_of};
@@ -55,25 +55,27 @@ fn no_turns(alloc: Global) -> Turns
     Turns::new(Vec::new(alloc))
 }
 
-/// The turn of an opening.
-fn open_turn(fails: bool, setup: BoxedSetup) -> Turn
-    ensures { result ∷ [] ≡ (if fails then OpenFailed ∷ [] else Start setup ∷ []) }
+/// Appends the turn of an opening.
+fn push_open(log: &mut Turns, alloc: Global, setup: &Setup, fails: bool) -> Result<(), AllocError>
+    ensures ok { OnOk result (log.new ≡ log.old ++ (if fails then OpenFailed ∷ [] else Start setup.now ∷ [])) }
+    ensures err { OnErr result (log.new ≡ log.old) }
 {
     if fails {
-        Turn::OpenFailed
-    } else {
-        Turn::Start(setup)
+        return log.push(Turn::OpenFailed);
     }
+    let copy = BoxedSetup::copied(alloc, setup)?;
+    log.push(Turn::Start(copy))
 }
 
-/// The turn of a link.
-fn link_turn(fails: bool, pt: u16) -> Turn
-    ensures { result ∷ [] ≡ (if fails then LinkFailed pt ∷ [] else Linked pt ∷ []) }
+/// Appends the turn of a link.
+fn push_link(log: &mut Turns, pt: u16, fails: bool) -> Result<(), AllocError>
+    ensures ok { OnOk result (log.new ≡ log.old ++ (if fails then LinkFailed pt ∷ [] else Linked pt ∷ [])) }
+    ensures err { OnErr result (log.new ≡ log.old) }
 {
     if fails {
-        Turn::LinkFailed { pt }
+        log.push(Turn::LinkFailed { pt })
     } else {
-        Turn::Linked { pt }
+        log.push(Turn::Linked { pt })
     }
 }
 
@@ -87,29 +89,90 @@ fn taken(bytes: &[u8], most: Option<u64>) -> &[u8]
     }
 }
 
+/// Appends the turn of a send to a till.
+fn push_send_till(
+    log: &mut Turns,
+    alloc: Global,
+    till: u64,
+    bytes: &[u8],
+    most: Option<u64>,
+) -> Result<(), AllocError>
+    ensures ok { OnOk result (log.new ≡ log.old ++ SentTill till (sent_of most bytes.now) (not (is_some most)) ∷ []) }
+    ensures err { OnErr result (log.new ≡ log.old) }
+{
+    let sent = SharedBytes::copied(alloc, taken(bytes, most))?;
+    log.push(Turn::SentTill {
+        till,
+        bytes: sent,
+        ok: most.is_none(),
+    })
+}
+
+/// Appends the turn of a send to a terminal.
+fn push_send_pt(
+    log: &mut Turns,
+    alloc: Global,
+    pt: u16,
+    bytes: &[u8],
+    most: Option<u64>,
+) -> Result<(), AllocError>
+    ensures ok { OnOk result (log.new ≡ log.old ++ SentPt pt (sent_of most bytes.now) (not (is_some most)) ∷ []) }
+    ensures err { OnErr result (log.new ≡ log.old) }
+{
+    let sent = SharedBytes::copied(alloc, taken(bytes, most))?;
+    log.push(Turn::SentPt {
+        pt,
+        bytes: sent,
+        ok: most.is_none(),
+    })
+}
+
+/// Appends the turn of a power failure that leaves this file.
+fn push_crash(log: &mut Turns, alloc: Global, file: &[u8]) -> Result<(), AllocError>
+    ensures ok { OnOk result (log.new ≡ log.old ++ Crash file.now ∷ []) }
+    ensures err { OnErr result (log.new ≡ log.old) }
+    ensures bytes { AreBytes file.now }
+{
+    let copy = SharedBytes::copied(alloc, file)?;
+    log.push(Turn::Crash { file: copy })
+}
+
+/// Appends the turn of what a poll brings, where there is one.
+fn push_event(log: &mut Turns, event: Option<Turn>) -> Result<(), AllocError>
+    ensures ok { OnOk result (log.new ≡ log.old ++ option_to_list event) }
+    ensures err { OnErr result (log.new ≡ log.old) }
+{
+    match event {
+        Some(turn) => log.push(turn),
+        None => Ok(()),
+    }
+}
+
 /// Appends the turn of a poll, and that of what it brings.
 fn push_poll(log: &mut Turns, now: i64, event: Option<Turn>) -> Result<(), AllocError>
     ensures ok { OnOk result (log.new ≡ log.old ++ Polled now ∷ option_to_list event) }
     ensures err { OnErr result ((log.new ≡ log.old) ⊎ (log.new ≡ log.old ++ Polled now ∷ [])) }
 {
     log.push(Turn::Polled { now })?;
-    if let Some(turn) = event {
-        log.push(turn)?;
-    }
-    Ok(())
+    push_event(log, event)
 }
 
 /// Appends the turn of a write, and that of its failure.
 fn push_write(
     log: &mut Turns,
+    alloc: Global,
     offset: u64,
-    bytes: SharedBytes,
+    bytes: &[u8],
     fails: bool,
 ) -> Result<(), AllocError>
-    ensures ok { OnOk result (log.new ≡ log.old ++ (if fails then Wrote offset bytes ∷ DiskFailed ∷ [] else Wrote offset bytes ∷ [])) }
-    ensures err { OnErr result ((log.new ≡ log.old) ⊎ (log.new ≡ log.old ++ Wrote offset bytes ∷ [])) }
+    ensures ok { OnOk result (log.new ≡ log.old ++ (if fails then Wrote offset bytes.now ∷ DiskFailed ∷ [] else Wrote offset bytes.now ∷ [])) }
+    ensures err { OnErr result ((log.new ≡ log.old) ⊎ (log.new ≡ log.old ++ Wrote offset bytes.now ∷ [])) }
 {
-    log.push(Turn::Wrote { pos: offset, bytes })?;
+    let copy = SharedBytes::copied(alloc, bytes)?;
+    log.push(Turn::Wrote {
+        pos: offset,
+        bytes: copy,
+    })?;
     if fails {
         log.push(Turn::DiskFailed)?;
     }
@@ -228,10 +291,8 @@ impl Played {
         ensures whole { self.new.short ≡ false }
         ensures same { IsSameScript self.old self.new }
     {
-        let image = self.disk.image(alloc, kind)?;
-        let file = SharedBytes::copied(alloc, &image)?;
-        let disk = Disk::holding(alloc, image)?;
-        self.log.push(Turn::Crash { file })?;
+        let disk = self.disk.fallen(alloc, kind)?;
+        push_crash(&mut self.log, alloc, &disk.file)?;
         self.place.restart();
         self.connections.clear();
         self.disk = disk;
@@ -248,9 +309,8 @@ impl Played {
         ensures short { self.new.short ≡ self.old.short }
         ensures script { self.new.script ≡ self.old.script }
     {
-        let copy = SharedBytes::copied(alloc, file)?;
         let disk = Disk::of(alloc, file)?;
-        self.log.push(Turn::Crash { file: copy })?;
+        push_crash(&mut self.log, alloc, file)?;
         self.scripted = false;
         self.connections.clear();
         self.disk = disk;
@@ -267,8 +327,7 @@ impl Played {
     {
         self.short = true;
         let fails = self.place.hazard.open;
-        let copy = BoxedSetup::copied(alloc, setup)?;
-        self.log.push(open_turn(fails, copy))?;
+        push_open(&mut self.log, alloc, setup, fails)?;
         self.place.open();
         self.connections.clear();
         self.short = false;
@@ -318,12 +377,7 @@ impl Played {
     {
         self.short = true;
         let most = takes_most(&self.place.hazard.tills, till);
-        let sent = SharedBytes::copied(alloc, taken(bytes, most))?;
-        self.log.push(Turn::SentTill {
-            till,
-            bytes: sent,
-            ok: most.is_none(),
-        })?;
+        push_send_till(&mut self.log, alloc, till, bytes, most)?;
         self.place.send_till(till);
         self.short = false;
         Ok(most.is_some())
@@ -344,12 +398,7 @@ impl Played {
     {
         self.short = true;
         let most = takes_most(&self.place.hazard.pts, u64::from(pt));
-        let sent = SharedBytes::copied(alloc, taken(bytes, most))?;
-        self.log.push(Turn::SentPt {
-            pt,
-            bytes: sent,
-            ok: most.is_none(),
-        })?;
+        push_send_pt(&mut self.log, alloc, pt, bytes, most)?;
         self.place.send_pt(pt);
         self.short = false;
         Ok(most.is_some())
@@ -366,7 +415,7 @@ impl Played {
         self.short = true;
         let fails = is_failing(&self.place.hazard.links, pt);
         link(&mut self.connections, pt, fails)?;
-        self.log.push(link_turn(fails, pt))?;
+        push_link(&mut self.log, pt, fails)?;
         self.place.link(pt);
         self.short = false;
         Ok(fails)
@@ -450,9 +499,8 @@ impl Played {
     {
         self.short = true;
         let fails = self.place.hazard.write;
-        let copy = SharedBytes::copied(alloc, bytes)?;
         self.disk.write(offset as usize, bytes)?;
-        push_write(&mut self.log, offset, copy, fails)?;
+        push_write(&mut self.log, alloc, offset, bytes, fails)?;
         self.place.write();
         self.short = false;
         Ok(fails)

@@ -26,6 +26,5 @@ pub(crate) fn polled(
         return Ok(None);
     }
     let brought = bring(line, buf)?;
-    connections.follow(brought.what)?;
-    Ok(Some(brought))
+    connections.follow(brought.what).and(Ok(Some(brought)))
 }

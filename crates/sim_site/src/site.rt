@@ -209,13 +209,13 @@ impl SimSite {
         }
     }
 
-    /// The stop, of a dark site.
-    fn stopped(&self) -> Polled
-        ensures { result ≡ record { now = self.now.played.place.moment; what = What.Stopped } }
+    /// What a poll brings, at the moment up to which the script is played.
+    fn polled(&self, what: What) -> Polled
+        ensures { result ≡ record { now = self.now.played.place.moment; what = what } }
     {
         Polled {
             now: self.played.place.moment,
-            what: What::Stopped,
+            what,
         }
     }
 }
@@ -258,14 +258,11 @@ impl Site for SimSite {
         ensures script { played_script self.new ≡ played_script self.old }
     {
         if self.played.is_dark() {
-            return self.stopped();
+            return self.polled(What::Stopped);
         }
         match self.played.poll(buf) {
-            Ok(what) => Polled {
-                now: self.played.place.moment,
-                what,
-            },
-            Err(_) => self.stopped(),
+            Ok(what) => self.polled(what),
+            Err(_) => self.polled(What::Stopped),
         }
     }
 

@@ -1,5 +1,5 @@
--- Closed examples: commands, conditions, the replies to a day's keys and what a till reads in them, and the premises of the laws.
-use Rattle.std.specs.Prelude.{◌≡◌, ℕ, ◌^◌, ◌<◌, true, false, List, [], ◌∷◌, replicate, map, Option, Some, None, option_map, option_and_then, refl, codes, pos}
+-- Closed examples: commands, conditions, the replies to a day's keys, texts and displays, and the premises of the laws.
+use Rattle.std.specs.Prelude.{◌≡◌, ℕ, true, false, List, [], ◌∷◌, replicate, map, Option, Some, None, option_map, option_and_then, refl, codes, pos}
 use Rattle.std.specs.Fmt.{digits}
 use Rattle.std.specs.Str.{chars}
 use Rattle.gw_base.specs.Bcd.{IsBcd}
@@ -26,16 +26,12 @@ use Rattle.gw_ledger.specs.Transaction.{text_of}
 use Rattle.sale_values.specs.declared.names.Period.TheVariants.{SaleReconciliation, AcquirerReconciliation}
 use Rattle.sale_values.specs.declared.request.Output.{Output}
 use Rattle.sale_reply.specs.declared.reply.PoiMark.{PoiMark}
-use Rattle.sale_reply.specs.declared.reply.ReplyResult.TheVariants.{Success, Partial, Failure}
 use Rattle.sale_reply.specs.declared.reply.Told.TheVariants.{PaymentApproved, PaymentDeclined, ReversalApproved, ReversalDeclined, Reconciled}
-use Rattle.sale_seen.specs.Grammar.{ReadReply}
 use Rattle.zvt_msg.specs.CommandCanonical.{canonical_command}
 use Rattle.xlate.specs.Ask.{HasItsOriginal, IsOriginalWithinLimits, ask}
 use Rattle.xlate.specs.Codes.{condition_of_code}
 use Rattle.xlate.specs.Display.{show, show_lines}
-use Rattle.xlate.specs.Finished.{IsResolved}
 use Rattle.xlate.specs.Reply.{result_body_of}
-use Rattle.xlate.specs.ReplyRead.{entry_reply_read}
 use Rattle.xlate.specs.Text.{IsApprovedBy}
 
 -- a payment of 10.99 euros by till `S1` at terminal `T1`
@@ -75,15 +71,15 @@ approval slot trace receipt units = record {
 }
 
 -- an approval of so many minor units of the first payment
-abbrev paid : ℕ → TheOutcome
+abbrev pub paid : ℕ → TheOutcome
 paid units = approval 0 123 17 units
 
 -- a decline of the Intent in this slot, because the request was aborted
-abbrev decline : ℕ → TheOutcome
+abbrev pub decline : ℕ → TheOutcome
 decline slot = record { approved = false; slot = slot; number = 0; receipt = 0; amount = 0; condition = Some Aborted; moment = pos 1741342264 }
 
 -- the entry of the first payment with this Outcome
-abbrev entry : TheOutcome → TheEntry
+abbrev pub entry : TheOutcome → TheEntry
 entry outcome = record { slot = 0; intent = payment; result = Some outcome }
 
 -- the entry of the first payment before it has an Outcome
@@ -214,24 +210,6 @@ pub record ExampleTexts : Type 0 where
 pub record ExampleNumbers : Type 0 where
   pub within : AreTransactionNumbers 999999 9999 4294967295
   pub text : transaction_text 999999 9999 4294967295 ≡ codes "999999-9999-4294967295"
-
--- ---- what a till reads
-
--- an approval of at least what was asked for is a success, one of less is partial, and a decline is a failure
-pub results_read : map (λ outcome. let read = entry_reply_read (entry outcome) outcome in read.result) (paid 1099 ∷ paid 1100 ∷ paid 1098 ∷ decline 0 ∷ [])
-    ≡ Success ∷ Success ∷ Partial ∷ Failure ∷ []
-results_read = refl
-
--- what a till reads where 9.00 of the first payment is approved
-abbrev partial_read : ReadReply
-partial_read = record { category = codes "Payment"; result = Partial; condition = None; transaction = Some (codes "000123-0017-0"); minor = Some 900 }
-
--- a resolved entry within the limits, of which less was approved than was asked for, and what a till reads of its reply
-pub record ExampleReplies : Type 0 where
-  pub slot_fits : let the_entry = entry (paid 900) in the_entry.slot < 2 ^ 32
-  pub outcome : let the_entry = entry (paid 900) in the_entry.result ≡ Some (paid 900)
-  pub resolved : IsResolved (entry (paid 900))
-  pub read : entry_reply_read (entry (paid 900)) (paid 900) ≡ partial_read
 
 -- ---- displays
 

@@ -5,5 +5,4 @@ pub mod Display
 pub mod Example
 pub mod Finished
 pub mod Reply
-pub mod ReplyRead
 pub mod Text

@@ -11,7 +11,7 @@ mod text;
 pub use ask::command_of;
 pub use codes::condition_of;
 pub use display::show_of;
-pub use laws::{law_commands, law_examples, law_replies, law_texts};
+pub use laws::{law_commands, law_examples, law_texts};
 pub use reply::reply_of;
 pub use text::transaction_text;
 

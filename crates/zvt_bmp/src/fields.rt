@@ -49,15 +49,22 @@ pub enum FieldFault {
 impl fmt::Display for FieldFault {
     fn fmt<W: fmt::Write>(&self, f: &mut fmt::Formatter<W>) -> fmt::Result {
         match self {
-            FieldFault::Short { at } => write!(f, "the field at {at} is truncated"),
-            FieldFault::BadLength { at } => write!(
-                f,
-                "the field at {at} has no well-formed length"
-            ),
-            FieldFault::NotDigits { at } => write!(f, "the field at {at} is not in digits"),
-            FieldFault::Twice { number } => write!(f, "a second field {number:02X}"),
+            FieldFault::Short { at } => write_wrong(f, *at, "is truncated"),
+            FieldFault::BadLength { at } => write_wrong(f, *at, "has no well-formed length"),
+            FieldFault::NotDigits { at } => write_wrong(f, *at, "is not in digits"),
+            FieldFault::Twice { number } => write_second(f, *number),
         }
     }
+}
+
+/// Writes what is wrong with the field at an offset.
+fn write_wrong<W: fmt::Write>(f: &mut fmt::Formatter<W>, at: usize, wrong: &str) -> fmt::Result {
+    write!(f, "the field at {at} {wrong}")
+}
+
+/// Writes that a field of this number is there already.
+fn write_second<W: fmt::Write>(f: &mut fmt::Formatter<W>, number: u8) -> fmt::Result {
+    write!(f, "a second field {number:02X}")
 }
 
 impl Error for FieldFault {}

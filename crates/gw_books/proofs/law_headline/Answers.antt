@@ -1,7 +1,7 @@
 -- Proof of the contract of `law_headline`.
 use Rattle.gw_owes.proofs.RecordLemmas.{LedgerLaws}
 use Rattle.gw_rules.proofs.RecordRowLemmas.{OrderLaws}
-use Rattle.gw_books.proofs.DisagreeLemmas.{not-lawful}
+use Rattle.gw_books.proofs.BrokenLemmas.{not-lawful}
 use Rattle.gw_books.proofs.HeadlineLemmas.{each-log-agrees, headline}
 use Rattle.gw_books.proofs.law_headline.Goals as goal
 

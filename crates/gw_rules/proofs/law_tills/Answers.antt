@@ -1,6 +1,5 @@
 -- Proof of the contract of `law_tills`.
 use Rattle.gw_rules.proofs.TillLawLemmas.{uses-tills, owed-is-there, served-is-there, beginning-is-there, queueing-is-there}
-use Rattle.gw_rules.proofs.TillLogExampleLemmas.{closed-till-lawful}
 use Rattle.gw_rules.proofs.law_tills.Goals as goal
 
 pub returns-clause-used : goal.returns-clause-used
@@ -17,6 +16,3 @@ returns-clause-begins c = beginning-is-there
 
 pub returns-clause-queues : goal.returns-clause-queues
 returns-clause-queues c = queueing-is-there
-
-pub returns-clause-closed_example : goal.returns-clause-closed_example
-returns-clause-closed_example c = closed-till-lawful

@@ -17,3 +17,9 @@ returns-clause-row c = λ setup core.
     subst (λ (row : Row). IsRow c.args.ledger.now.records row (with_terminal core c.args.pt c.begin_asking.new.terminal) c.begin_asking.result)
     (payment-begins known c.args.pt c.args.till c.args.header.now c.args.payment.now c.args.terminal.now c.last_number-last.result c.payment_intent-intent.result c.last_number-last.ensures intent_is)
     (simp (to_z-of_z, c.ranges.now) at (c.begin_asking.ensures.row setup core))
+
+pub payment_intent-intent-requires-clause-moment : goal.payment_intent-intent-requires-clause-moment
+payment_intent-intent-requires-clause-moment c = simp (to_z-of_z, c.ranges.now) c.requires.moment
+
+pub begin_asking-requires-clause-moment : goal.begin_asking-requires-clause-moment
+begin_asking-requires-clause-moment c = simp (to_z-of_z, c.ranges.now) c.requires.moment

@@ -29,3 +29,32 @@ pub returns-in-Display-clause-row : goal.returns-in-Display-clause-row
 returns-in-Display-clause-row c = λ setup core found. rw c.in-Display.is
     (subst (λ (now : ℤ). IsRow c.args.ledger.now.records (shows_in (known_with setup c.args.ledger.now.records core (moment_of now)) c.args.pt c.args.till c.args.header.now c.in-Display.outputs c.args.terminal.now c.args.terminal.now.standing)
     (with_terminal core c.args.pt c.begin_display.new.terminal) c.begin_display.result) (to_z-of_z w64 c.args.now c.ranges.now) (c.begin_display.ensures.row setup c.args.ledger.now.records core))
+
+pub begin_payment-requires : goal.begin_payment-requires
+begin_payment-requires c = record {
+  moment = simp (to_z-of_z, c.ranges.now) c.requires.moment;
+  settings = c.requires.settings;
+  begins = simp (to_z-of_z, c.ranges.now) (rw c.in-Payment.is at c.requires.begins);
+}
+
+pub begin_reversal-requires : goal.begin_reversal-requires
+begin_reversal-requires c = record {
+  moment = simp (to_z-of_z, c.ranges.now) c.requires.moment;
+  settings = c.requires.settings;
+  begins = simp (to_z-of_z, c.ranges.now) (rw c.in-Reversal.is at c.requires.begins);
+}
+
+pub begin_reconciliation-requires : goal.begin_reconciliation-requires
+begin_reconciliation-requires c = record {
+  moment = simp (to_z-of_z, c.ranges.now) c.requires.moment;
+  settings = c.requires.settings;
+  begins = simp (to_z-of_z, c.ranges.now) (rw c.in-Reconciliation.is at c.requires.begins);
+}
+
+pub begin_display-requires : goal.begin_display-requires
+begin_display-requires c = record {
+  moment = simp (to_z-of_z, c.ranges.now) c.requires.moment;
+  settings = c.requires.settings;
+  begins = rw c.in-Display.is at c.requires.begins;
+  prepared = rw c.in-Display.is at c.requires.prepared;
+}

@@ -22,3 +22,9 @@ returns-clause-row c = λ setup core.
     (reversal-begins known c.args.pt c.args.till c.args.header.now c.args.reversal.now c.args.terminal.now c.last_number-last.result c.reversal_intent-intent.result c.in-Some.original c.last_number-last.ensures
     (sym c.in-Some.ensures) intent_is)
     (simp (to_z-of_z, c.ranges.now) at (c.begin_asking.ensures.row setup core))
+
+pub reversal_intent-intent-requires-clause-moment : goal.reversal_intent-intent-requires-clause-moment
+reversal_intent-intent-requires-clause-moment c = simp (to_z-of_z, c.ranges.now) c.requires.moment
+
+pub begin_asking-requires-clause-moment : goal.begin_asking-requires-clause-moment
+begin_asking-requires-clause-moment c = simp (to_z-of_z, c.ranges.now) c.requires.moment

@@ -7,7 +7,11 @@ use Rattle.gw_owes.specs.Replies.{display_reply}
 use Rattle.gw_owes.specs.Terminals.{with_terminal}
 use Rattle.gw_owes.specs.declared.terminal.Terminal.{Terminal}
 use Rattle.gw_core.specs.ReplyOf.{AreSameReplies}
+use Rattle.gw_core.proofs.ServingLemmas.{owed-limited}
 use Rattle.gw_core.proofs.displays.end_display.Goals as goal
+
+pub send_to-act-requires : goal.send_to-act-requires
+send_to-act-requires c = owed-limited c.display_reply.result (display_reply c.args.header c.with_customer_verdict.result) c.display_reply.ensures
 
 pub returns-clause-row : goal.returns-clause-row
 returns-clause-row c = λ setup kept core moment pt results serves.

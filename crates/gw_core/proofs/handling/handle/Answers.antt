@@ -1,9 +1,12 @@
 -- Proof of the contract of `handle`.
-use Rattle.std.proofs.Common.{ℤ, w64, sym, ◌∙◌, subst, ap, refl}
+use Rattle.std.proofs.Common.{◌≡◌, ℤ, w64, true, sym, ◌∙◌, subst, ap, refl}
 use Rattle.std.specs.Prelude.{IfSome, Option}
 use Rattle.std.proofs.lemmas.Int.{to_z-of_z}
 use Rattle.zvt_msg.specs.Message.{value_of}
 use Rattle.gw_base.specs.Moment.{moment_of}
+use Rattle.gw_base.specs.Setup.{IsPt}
+use Rattle.gw_owes.specs.declared.terminal.Terminal.{Terminal}
+use Rattle.gw_owes.specs.Links.{is_linked}
 use Rattle.gw_owes.specs.DeviceRequests.{device_request_in, next_device_number}
 use Rattle.gw_owes.specs.Handling.{consequence, handle_message}
 use Rattle.gw_owes.specs.Terminals.{with_terminal}
@@ -58,3 +61,22 @@ returns-clause-row c = λ setup core found number_is.
     (subst (λ (now : ℤ). IsRow c.args.ledger.now.records
     (consequence (known_with setup c.args.ledger.now.records core (moment_of now)) c.args.pt c.take-heard.new.terminal c.take-heard.result c.take-heard.new.terminal.standing)
     (with_terminal core c.args.pt c.follow.new.terminal) c.follow.result) (to_z-of_z w64 c.args.now c.ranges.now) (c.follow.ensures.row setup core)))
+
+pub take-heard-requires-clause-moment : goal.take-heard-requires-clause-moment
+take-heard-requires-clause-moment c = simp (to_z-of_z, c.ranges.now) c.requires.moment
+
+pub follow-requires-clause-moment : goal.follow-requires-clause-moment
+follow-requires-clause-moment c = simp (to_z-of_z, c.ranges.now) c.requires.moment
+
+pub follow-requires-clause-linked : goal.follow-requires-clause-linked
+follow-requires-clause-linked c =
+    subst (λ (t : Terminal). is_linked t.standing ≡ true) (sym c.take-heard.ensures.taken) (sym c.is_linked.ensures ∙ c.if-not-is_linked.false)
+
+pub follow-requires-clause-settings : goal.follow-requires-clause-settings
+follow-requires-clause-settings c = subst (λ (t : Terminal). IsPt t.pt) (sym c.take-heard.ensures.taken) c.requires.settings
+
+pub returns-in-Some-clause-settings : goal.returns-in-Some-clause-settings
+returns-in-Some-clause-settings c = ap (λ (t : Terminal). t.pt) c.take-heard.ensures.taken
+
+pub returns-clause-settings : goal.returns-clause-settings
+returns-clause-settings c = c.follow.ensures.settings ∙ ap (λ (t : Terminal). t.pt) c.take-heard.ensures.taken

@@ -6,7 +6,11 @@ use Rattle.gw_owes.specs.Terminals.{reply_to_lost}
 use Rattle.gw_owes.specs.declared.terminal.Standing.{Standing}
 use Rattle.gw_owes.specs.declared.terminal.Standing.TheVariants.{Unlinked}
 use Rattle.gw_core.specs.ReplyOf.{AreSameReplies}
+use Rattle.gw_core.proofs.ServingLemmas.{owed-limited}
 use Rattle.gw_core.proofs.links.unlink.Goals as goal
+
+pub send_to-requires : goal.send_to-requires
+send_to-requires c = owed-limited c.reply_to_lost.result (reply_to_lost c.replace-standing.result) c.reply_to_lost.ensures
 
 pub returns-clause-row : goal.returns-clause-row
 returns-clause-row c = λ setup kept core pt.

@@ -26,3 +26,9 @@ returns-in-AcquirerReconciliation-clause-row c = λ setup core found.
     rw c.in-AcquirerReconciliation.is
     (subst (λ (now : ℤ). IsRow c.args.ledger.now.records (begins_day (known_with setup c.args.ledger.now.records core (moment_of now)) c.args.pt c.args.till c.args.header.now c.args.terminal.now c.args.terminal.now.standing)
     (with_terminal core c.args.pt c.begin_day.new.terminal) c.begin_day.result) (to_z-of_z w64 c.args.now c.ranges.now) (c.begin_day.ensures.row setup c.args.ledger.now.records core))
+
+pub settled_of-settled-requires-clause-moment : goal.settled_of-settled-requires-clause-moment
+settled_of-settled-requires-clause-moment c = simp (to_z-of_z, c.ranges.now) c.requires.moment
+
+pub begin_day-requires-clause-moment : goal.begin_day-requires-clause-moment
+begin_day-requires-clause-moment c = simp (to_z-of_z, c.ranges.now) c.requires.moment

@@ -31,3 +31,6 @@ returns-clause-row c = λ setup core pt.
       calls_are = subst (λ (settled : TheSettled). IsActs (length c.args.ledger.now.records) c.settle-acts.result (settle_calls c.args.ledger.now.records c.args.terminal.now.asker settled)) is c.settle-acts.ensures.calls;
       items_are = refl;
     }
+
+pub settled_of-settled-requires-clause-moment : goal.settled_of-settled-requires-clause-moment
+settled_of-settled-requires-clause-moment c = simp (to_z-of_z, c.ranges.now) c.requires.moment

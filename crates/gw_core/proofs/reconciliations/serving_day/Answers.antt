@@ -12,3 +12,6 @@ returns-in-Declined-clause-row c = λ setup core. rw c.in-Declined.is (c.day_dec
 pub returns-in-Begun-true-clause-row : goal.returns-in-Begun-true-clause-row
 returns-in-Begun-true-clause-row c = λ setup core.
     rw (c.in-Begun-true.is, c.in-Begun-true.stop-test) (c.stop.ensures.row setup c.args.ledger.now.records core (moment_of c.args.now))
+
+pub day_done-requires-clause-moment : goal.day_done-requires-clause-moment
+day_done-requires-clause-moment c = simp (to_z-of_z, c.ranges.now) c.requires.moment

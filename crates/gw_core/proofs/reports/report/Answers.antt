@@ -17,3 +17,6 @@ returns-in-Some-clause-row c = λ setup core pt.
     (report_against opened (last_number_of records c.args.terminal.now.pt.poi) (known_with setup records core (moment_of c.args.now)) pt c.args.terminal.now
     (record { trace = c.args.trace; approved = c.args.approved; result_code = c.args.result_code }))
     (with_terminal core pt c.report_of_open.new.terminal) c.report_of_open.result) c.in-Some.ensures (simp (to_z-of_z, c.ranges.now) at (c.report_of_open.ensures.row setup core pt))
+
+pub report_of_open-requires-clause-moment : goal.report_of_open-requires-clause-moment
+report_of_open-requires-clause-moment c = simp (to_z-of_z, c.ranges.now) c.requires.moment

@@ -22,3 +22,6 @@ returns-clause-row c = λ setup core pt.
     ∙ ap (λ (standing : Standing). resolves known pt c.args.terminal.now standing (outcome_reported c.args.entry.now reported (moment_of c.args.now))) c.standing_reported-standing.ensures
     ∙ report-resolves known pt c.args.terminal.now reported c.args.entry.now c.if-trace-before.false in
     subst (λ (row : Row). IsRow c.args.ledger.now.records row (with_terminal core pt c.resolve.new.terminal) c.resolve.result) row_is (c.resolve.ensures.row setup core (moment_of c.args.now) pt)
+
+pub outcome_reported-outcome-requires-clause-moment : goal.outcome_reported-outcome-requires-clause-moment
+outcome_reported-outcome-requires-clause-moment c = simp (to_z-of_z, c.ranges.now) c.requires.moment

@@ -19,3 +19,6 @@ returns-then-last-figures-clause-row c = λ setup core pt.
     ap (λ (outcome : Outcome). resolves known pt c.args.terminal.now (Ready c.args.figures.number) outcome) outcome_is
     ∙ sym (approval-believed known pt c.args.terminal.now c.args.slot c.args.last c.args.figures c.if-last-figures.true) in
     subst (λ (row : Row). IsRow c.args.ledger.now.records row (with_terminal core pt c.resolve.new.terminal) c.resolve.result) row_is (c.resolve.ensures.row setup core (moment_of c.args.now) pt)
+
+pub approved_outcome-outcome-requires-clause-moment : goal.approved_outcome-outcome-requires-clause-moment
+approved_outcome-outcome-requires-clause-moment c = simp (to_z-of_z, c.ranges.now) c.requires.moment

@@ -19,3 +19,6 @@ returns-clause-row c = λ setup core pt.
     ∙ ap (λ stopped. resolves known pt c.args.terminal.now (Ready c.last_after_decline.result) (declined_outcome c.args.slot c.args.result_code stopped (moment_of c.args.now))) c.was_stopped.ensures
     ∙ ap (λ last. resolves known pt c.args.terminal.now (Ready last) (declined_outcome c.args.slot c.args.result_code (was_stopped c.args.terminal.now.talk) (moment_of c.args.now))) c.last_after_decline.ensures in
     subst (λ (row : Row). IsRow c.args.ledger.now.records row (with_terminal core pt c.resolve.new.terminal) c.resolve.result) row_is (c.resolve.ensures.row setup core (moment_of c.args.now) pt)
+
+pub declined_outcome-outcome-requires : goal.declined_outcome-outcome-requires
+declined_outcome-outcome-requires c = record { moment = simp (to_z-of_z, c.ranges.now) c.requires.moment }

@@ -12,3 +12,9 @@ returns-in-Declined-clause-row c = λ setup core. rw c.in-Declined.is (simp (to_
 pub returns-in-Begun-true-clause-row : goal.returns-in-Begun-true-clause-row
 returns-in-Begun-true-clause-row c = λ setup core.
     rw (c.in-Begun-true.is, c.in-Begun-true.stop-test) (c.stop.ensures.row setup c.args.ledger.now.records core (moment_of c.args.now))
+
+pub approved-requires-clause-moment : goal.approved-requires-clause-moment
+approved-requires-clause-moment c = simp (to_z-of_z, c.ranges.now) c.requires.moment
+
+pub declined-requires-clause-moment : goal.declined-requires-clause-moment
+declined-requires-clause-moment c = simp (to_z-of_z, c.ranges.now) c.requires.moment

@@ -1,6 +1,6 @@
 -- Proof of the contract of `given_to_abort`.
-use Rattle.std.proofs.Common.{◌≡◌, Bool, ◌||◌, List, ap, refl, sym, ◌∙◌, subst}
-use Rattle.std.specs.Prelude.{is_some, Option, Some, None, option_map}
+use Rattle.std.proofs.Common.{◌≡◌, Bool, ◌||◌, List, ap, sym, ◌∙◌, subst}
+use Rattle.std.specs.Prelude.{is_some, Option, None}
 use Rattle.std.proofs.lemmas.Int.{to_z-of_z}
 use Rattle.jrn_record.specs.declared.records.Record.{Record}
 use Rattle.sale_values.specs.Key.{key_of}

@@ -2,7 +2,6 @@
 use Rattle.gw_rules.proofs.OutsideQueueLemmas.{outside-leaves-queues}
 use Rattle.gw_rules.proofs.OverdueLemmas.{none-is-overdue}
 use Rattle.gw_rules.proofs.QueueDueLemmas.{each-move-looks}
-use Rattle.gw_rules.proofs.QueueExampleLemmas.{example-queues}
 use Rattle.gw_rules.proofs.QueueFifoLemmas.{queue-first-in-first-out}
 use Rattle.gw_rules.proofs.QueueListLemmas.{queue-due-in-order}
 use Rattle.gw_rules.proofs.QueueMoveLemmas.{each-move-changes}
@@ -28,9 +27,6 @@ returns-clause-due_order c = queue-due-in-order
 
 pub returns-clause-looks : goal.returns-clause-looks
 returns-clause-looks c = each-move-looks
-
-pub returns-clause-example : goal.returns-clause-example
-returns-clause-example c = example-queues
 
 pub returns-clause-ready : goal.returns-clause-ready
 returns-clause-ready c = ready-has-no-queue (each-log-has-waits (record { new = c.law_records.ensures.new; rows = c.law_records.ensures.rows; cuts = c.law_records.ensures.cuts; links = c.law_records.ensures.links; items = c.law_records.ensures.items; gone = c.law_records.ensures.gone; queues = c.law_records.ensures.queues; overdue = c.law_records.ensures.overdue; next = c.law_waits.ensures.order; waits = c.law_waits.ensures.keeps }))

@@ -7,4 +7,4 @@ use Rattle.sale_reply.proofs.body.write_plain.Goals as goal
 pub returns : goal.returns
 returns c =
     spelled (and_then c.raw.ensures (and_then c.first_name.ensures (and_then c.write_verdict.ensures c.raw-2.ensures)))
-    (cc (plain_parts (verdict_tree c.args.verdict.now)))
+    (plain_parts (verdict_tree c.args.verdict.now))

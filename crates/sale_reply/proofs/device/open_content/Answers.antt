@@ -6,4 +6,4 @@ use Rattle.sale_reply.proofs.device.open_content.Goals as goal
 pub returns : goal.returns
 returns c =
     spelled (and_then c.raw.ensures (and_then c.first_text.ensures (and_then c.next_name.ensures c.raw-2.ensures)))
-    (cc (content_prefix_parts))
+    (content_prefix_parts)

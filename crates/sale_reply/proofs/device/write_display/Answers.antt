@@ -6,4 +6,4 @@ use Rattle.sale_reply.proofs.device.write_display.Goals as goal
 pub returns : goal.returns
 returns c =
     spelled (and_then c.raw.ensures (and_then c.first_name.ensures (and_then c.raw-2.ensures (and_then c.write_outputs.ensures c.raw-3.ensures))))
-    (cc (display_parts c.args.outputs.now))
+    (display_parts c.args.outputs.now)

@@ -7,4 +7,4 @@ use Rattle.sale_reply.proofs.device.write_line.Goals as goal
 pub returns : goal.returns
 returns c =
     spelled (and_then c.raw.ensures (and_then c.first_name.ensures (and_then c.line.ensures c.raw-2.ensures)))
-    (cc (text_parts (line_text c.args.line.now)))
+    (text_parts (line_text c.args.line.now))

@@ -63,25 +63,3 @@ returns-clause-numbers c = record {
   within = record { six_digits = lit≤ tt; four_digits = lit≤ tt; slot_fits = lit< tt };
   text = refl;
 }
-
-pub returns-clause-replies : goal.returns-clause-replies
-unfolding transaction_text digits
-returns-clause-replies c = record {
-  slot_fits = lit< tt;
-  outcome = refl;
-  resolved = (
-    record {
-      sale = ident 40 (codes "S1") refl;
-      poi = ident 40 (codes "T1") refl;
-      service = ident 10 (codes "1") refl;
-      transaction = ident 80 (codes "27908") refl;
-      stamp = ident 35 (codes "2025-03-07T10:11:04+00:00") refl;
-      amount = (lit≤ tt, lit≤ tt);
-      before = lit≤ tt;
-      original = tt;
-      moment = example_moment;
-    },
-    record { slot = lit< tt; number = (lit≤ tt, lit≤ tt); receipt = (lit≤ tt, lit≤ tt); amount = (lit≤ tt, lit≤ tt); condition = tt; moment = example_moment },
-  );
-  read = refl;
-}

@@ -1,5 +1,5 @@
 -- Proof of the contract of `abort`.
-use Rattle.std.proofs.Common.{◌≡◌, ◌∙◌, sym, subst, ap}
+use Rattle.std.proofs.Common.{◌∙◌, sym, subst, ap}
 use Rattle.std.specs.Prelude.{Option, option_map}
 use Rattle.gw_owes.specs.Core.{Core as CoreValue}
 use Rattle.gw_owes.specs.WaitingRows.{abort_row}

@@ -63,3 +63,6 @@ returns-clause-row c = λ known is.
     (with_terminal c.args.self.now c.args.pt c.begin_request.new.terminal) c.begin_request.result) taken (c.begin_request.ensures.row setup c.args.self.now held)) known is in
     rw c.from.ensures (subst (λ (held : CoreValue). IsRow c.args.ledger.now.records (serve_row known c.args.pt c.args.till c.args.header.now c.args.request.now)
     (with_terminal held c.args.pt c.begin_request.new.terminal) c.begin_request.result) (sym c.self.view_is) row)
+
+pub begin_request-requires-clause-moment : goal.begin_request-requires-clause-moment
+begin_request-requires-clause-moment c = subst IsMoment (sym (to_z-of_z w64 c.to_moment-now.result (assumption (c.to_moment-now.type_inv)))) c.to_moment-now.ensures.moment

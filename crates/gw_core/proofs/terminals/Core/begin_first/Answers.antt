@@ -4,7 +4,7 @@ use Rattle.std.specs.Prelude.{slice_get, IfSome, Option, Some}
 use Rattle.std.proofs.lemmas.Int.{to_z-of_z}
 use Rattle.std.proofs.lemmas.List.{length-set}
 use Rattle.std.proofs.lemmas.Option.{same_Some}
-use Rattle.gw_base.specs.Moment.{moment_of}
+use Rattle.gw_base.specs.Moment.{IsMoment, moment_of}
 use Rattle.gw_owes.specs.Core.{Core as CoreValue}
 use Rattle.gw_owes.specs.Terminals.{with_terminal}
 use Rattle.gw_owes.specs.WaitingRows.{begins_from_queue}
@@ -62,3 +62,6 @@ returns-clause-row c = λ setup one is.
     rw c.from.ensures (subst (λ (before : CoreValue). IsRow c.args.ledger.now.records (begins_from_queue known c.args.pt c.args.item.till c.args.item.header c.args.item.request one)
     (with_terminal before c.args.pt c.begin_request.new.terminal) c.begin_request.result) (sym c.self.view_is)
     (subst (λ (t : Terminal). IsRow c.args.ledger.now.records (begins_from_queue known c.args.pt c.args.item.till c.args.item.header c.args.item.request t) core c.begin_request.result) same row))
+
+pub begin_request-requires-clause-moment : goal.begin_request-requires-clause-moment
+begin_request-requires-clause-moment c = subst IsMoment (sym (to_z-of_z w64 c.to_moment-now.result (assumption (c.to_moment-now.type_inv)))) c.to_moment-now.ensures.moment

@@ -1,5 +1,5 @@
 -- Proof of the contract of `begin_waiting`.
-use Rattle.std.proofs.Common.{◌≡◌, ◌∙◌, ℕ, ℤ, w64, [], ◌∷◌, refl, sym, subst, ap}
+use Rattle.std.proofs.Common.{◌≡◌, ◌∙◌, ℤ, w64, [], ◌∷◌, refl, sym, subst, ap}
 use Rattle.std.proofs.lemmas.Int.{to_z-of_z}
 use Rattle.std.specs.Prelude.{slice_get, IfSome, Option, Some, None}
 use Rattle.std.proofs.lemmas.Option.{same_Some}

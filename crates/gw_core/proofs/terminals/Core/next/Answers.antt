@@ -1,5 +1,5 @@
 -- Proof of the contract of `next`.
-use Rattle.std.proofs.Common.{◌≡◌, ◌∙◌, ℕ, ℤ, w64, Bool, true, List, [], sym, subst, ap}
+use Rattle.std.proofs.Common.{◌≡◌, ◌∙◌, ℤ, w64, Bool, true, [], sym, subst, ap}
 use Rattle.std.specs.Prelude.{slice_get, IfSome, Option, Some, option_map}
 use Rattle.std.proofs.lemmas.Int.{to_z-of_z}
 use Rattle.gw_base.specs.Moment.{moment_of}

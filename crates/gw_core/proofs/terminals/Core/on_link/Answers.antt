@@ -1,9 +1,9 @@
 -- Proof of the contract of `on_link`.
-use Rattle.std.proofs.Common.{ℕ, ap, sym, subst, ◌≡◌, ◌∙◌, [], to_z, of_z, w64}
+use Rattle.std.proofs.Common.{ℕ, ap, sym, subst, ◌≡◌, ◌∙◌, to_z, of_z, w64}
 use Rattle.std.specs.Prelude.{slice_get, Some}
 use Rattle.std.proofs.lemmas.Int.{to_z-of_z}
 use Rattle.std.proofs.lemmas.List.{length-set}
-use Rattle.gw_base.specs.Moment.{moment_of}
+use Rattle.gw_base.specs.Moment.{IsMoment, moment_of}
 use Rattle.gw_owes.specs.Core.{Core as CoreValue}
 use Rattle.gw_owes.specs.Terminals.{after_command, unlinks, with_terminal}
 use Rattle.gw_owes.specs.declared.terminal.Standing.TheVariants.{Registering}
@@ -55,3 +55,9 @@ returns-clause-row c = λ setup kept.
     rw (← c.self.view_is, c.from.ensures, c.if-up.false)
     (lost-row (known_with setup kept core (moment_of c.args.now)) kept c.args.pt terminal c.unlink.new.terminal (alone c.unlink.result) found
     (subst (λ (moment : ℕ). IsRow kept (unlinks (known_with setup kept core moment) c.args.pt terminal) (with_terminal core c.args.pt c.unlink.new.terminal) (alone c.unlink.result)) taken (c.unlink.ensures.row setup kept core c.args.pt)))
+
+pub ask-requires-clause-moment : goal.ask-requires-clause-moment
+ask-requires-clause-moment c = subst IsMoment (sym (to_z-of_z w64 c.to_moment-now.result (assumption (c.to_moment-now.type_inv)))) c.to_moment-now.ensures.moment
+
+pub unlink-requires : goal.unlink-requires
+unlink-requires c = subst IsMoment (sym (to_z-of_z w64 c.to_moment-now.result (assumption (c.to_moment-now.type_inv)))) c.to_moment-now.ensures.moment

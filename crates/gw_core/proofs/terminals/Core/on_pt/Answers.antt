@@ -1,10 +1,10 @@
 -- Proof of the contract of `on_pt`.
-use Rattle.std.proofs.Common.{◌≡◌, ◌<◌, ◌∙◌, ℕ, w64, to_z, of_z, [], length, refl, sym, subst, ap}
+use Rattle.std.proofs.Common.{◌≡◌, ◌<◌, ◌∙◌, ℕ, w64, to_z, of_z, length, refl, sym, subst, ap}
 use Rattle.std.specs.Prelude.{get_or, slice_get, Some}
 use Rattle.std.proofs.lemmas.Int.{to_z-of_z}
 use Rattle.std.proofs.lemmas.List.{length-set}
 use Rattle.zvt_msg.specs.Message.{value_of}
-use Rattle.gw_base.specs.Moment.{moment_of}
+use Rattle.gw_base.specs.Moment.{IsMoment, moment_of}
 use Rattle.gw_owes.specs.Row.{owing_where}
 use Rattle.gw_owes.specs.Core.{Core as CoreValue}
 use Rattle.gw_owes.specs.Handling.{handle_message}
@@ -50,3 +50,6 @@ invariant_of-self c =
     let terminal : Terminal = c.index_mut-terminal.result.now in
     let found : slice_get items c.args.pt ≡ Some terminal = found-at items c.args.self.now c.args.pt c.from.result terminal (sym (ap (λ (held : CoreValue). held.terminals) c.self.view_is)) c.requires.there c.from.ensures c.index_mut-terminal.ensures.value in
     rw c.from.ensures (rw length-set c.self.invariant.0, settings-stay items c.args.pt terminal c.handle-acts.new.terminal c.self.invariant.1 found c.handle-acts.ensures.settings, c.handle-acts.ensures.number)
+
+pub handle-acts-requires-clause-moment : goal.handle-acts-requires-clause-moment
+handle-acts-requires-clause-moment c = subst IsMoment (sym (to_z-of_z w64 c.to_moment-now.result (assumption (c.to_moment-now.type_inv)))) c.to_moment-now.ensures.moment

@@ -1,5 +1,5 @@
 -- Proof of the contract of `overdue`.
-use Rattle.std.proofs.Common.{◌≡◌, ◌∙◌, ℕ, w64, sym, subst, ap}
+use Rattle.std.proofs.Common.{◌∙◌, ℕ, w64, sym, subst, ap}
 use Rattle.std.specs.Prelude.{Option, option_map}
 use Rattle.std.proofs.lemmas.Int.{to_z-of_z}
 use Rattle.gw_base.specs.Moment.{moment_of}

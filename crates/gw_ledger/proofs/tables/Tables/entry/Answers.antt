@@ -1,5 +1,5 @@
 -- Proof of the contract of `entry`.
-use Rattle.std.proofs.Common.{◌≡◌, ◌∙◌, ◌<◌, ℕ, List, Option, Some, is_some, length, slice_get, refl, sym, ap, subst}
+use Rattle.std.proofs.Common.{◌≡◌, ◌∙◌, ◌<◌, ℕ, List, Option, Some, is_some, length, refl, sym, ap}
 use Rattle.std.specs.Prelude.{option_and_then}
 use Rattle.std.proofs.lemmas.Option.{get_or_from_slice_get}
 use Rattle.jrn_record.specs.declared.records.Intent.{Intent as TheIntent}

@@ -1,6 +1,6 @@
 -- Proof of the contract of `found`.
 use Rattle.std.proofs.Common.{◌≡◌, ◌∙◌, Option, Some, None, sym, ap}
-use Rattle.std.specs.Prelude.{option_and_then, slice_get}
+use Rattle.std.specs.Prelude.{option_and_then}
 use Rattle.std.specs.Ordering.{nat_cmp}
 use Rattle.gw_ledger.specs.Table.{value_at}
 use Rattle.jrn_record.specs.declared.records.Settled.{Settled as TheSettled}

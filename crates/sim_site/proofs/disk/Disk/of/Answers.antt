@@ -6,4 +6,4 @@ use Rattle.sim_site.specs.Disks.{HasDisk}
 use Rattle.sim_site.proofs.disk.Disk.of.Goals as goal
 
 pub returns : goal.returns
-returns c = subst (λ file. IfOk c.holding.result (λ disk. (o : Outside) → HasDisk (outside_after o (Crash file)) disk)) c.in_ok-copy.ensures.copy c.holding.ensures.disk
+returns c = subst (λ file. IfOk c.holding.result (λ disk. (o : Outside) → HasDisk (outside_after o (Crash file)) disk)) c.in_ok-copy.ensures c.holding.ensures

@@ -10,13 +10,13 @@ pub invariant_of-self : goal.invariant_of-self
 invariant_of-self c =
     let s = c.args.self.now in
     let lines = s.script.lines.items in
-    let same = c.in_err-push.ensures.err in
+    let same = c.in_err-push_crash.ensures.err in
     record {
       read_is = s.read_is;
-      part = part_same s.scripted (lines_value lines) s.log c.push.new.self same s.part;
-      stands = λ lit. stands_same s.scripted lines s.log c.push.new.self s.place same (s.stands lit);
-      disk_is = λ lit. disk_same s.log c.push.new.self s.disk same (s.disk_is lit);
-      connections_are = λ lit. connections_same s.log c.push.new.self s.connections same (s.connections_are lit);
+      part = part_same s.scripted (lines_value lines) s.log c.push_crash.new.log same s.part;
+      stands = λ lit. stands_same s.scripted lines s.log c.push_crash.new.log s.place same (s.stands lit);
+      disk_is = λ lit. disk_same s.log c.push_crash.new.log s.disk same (s.disk_is lit);
+      connections_are = λ lit. connections_same s.log c.push_crash.new.log s.connections same (s.connections_are lit);
     }
 
 pub invariant_of-self-2 : goal.invariant_of-self-2
@@ -24,12 +24,12 @@ invariant_of-self-2 c =
     let s = c.args.self.now in
     let o = outside_of s.log in
     let lines = s.script.lines.items in
-    let grown = c.in_ok-push.ensures.ok ∙ ap (λ file. s.log ++ Crash file ∷ []) c.in_ok-copy.ensures in
+    let grown = c.in_ok-push_crash.ensures.ok in
     let first = grown ∙ ap (λ log. log ++ Crash c.args.file.now ∷ []) c.requires in
     record {
       read_is = s.read_is;
-      part = part_held (lines_value lines) c.push.new.self c.args.file.now first;
-      stands = λ lit. stands_held s.scripted lines s.log c.push.new.self s.place c.args.file.now c.requires first (s.stands lit);
-      disk_is = λ lit. disk_there s.log c.push.new.self _ c.in_ok-disk.disk grown (c.in_ok-disk.ensures o);
-      connections_are = λ lit. connections_there s.log c.push.new.self _ c.clear.new.self grown (crash_clears o c.args.file.now c.clear.new.self (c.clear.ensures o));
+      part = part_held (lines_value lines) c.push_crash.new.log c.args.file.now first;
+      stands = λ lit. stands_held s.scripted lines s.log c.push_crash.new.log s.place c.args.file.now c.requires first (s.stands lit);
+      disk_is = λ lit. disk_there s.log c.push_crash.new.log _ c.in_ok-disk.disk grown (c.in_ok-disk.ensures o);
+      connections_are = λ lit. connections_there s.log c.push_crash.new.log _ c.clear.new.self grown (crash_clears o c.args.file.now c.clear.new.self (c.clear.ensures o));
     }

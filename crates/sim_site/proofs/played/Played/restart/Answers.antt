@@ -1,5 +1,5 @@
 -- Proof of the contract of `restart`.
-use Rattle.std.proofs.Common.{◌∷◌, ◌++◌, [], ◌∙◌, ap, subst}
+use Rattle.std.proofs.Common.{◌∷◌, ◌++◌, [], ◌∙◌, sym, ap, subst}
 use Rattle.gw_bytes.specs.Bytes.{AreBytes}
 use Rattle.gw_site.specs.Outside.{outside_after, outside_of}
 use Rattle.gw_site.specs.declared.turn.Turn.TheVariants.{Crash}
@@ -14,33 +14,40 @@ pub invariant_of-self : goal.invariant_of-self
 invariant_of-self c =
     let s = c.args.self.now in
     let lines = s.script.lines.items in
-    let same = c.in_err-push.ensures.err in
+    let same = c.in_err-push_crash.ensures.err in
     record {
       read_is = s.read_is;
-      part = part_same s.scripted (lines_value lines) s.log c.push.new.self same s.part;
-      stands = λ lit. stands_same s.scripted lines s.log c.push.new.self s.place same (s.stands lit);
-      disk_is = λ lit. disk_same s.log c.push.new.self s.disk same (s.disk_is lit);
-      connections_are = λ lit. connections_same s.log c.push.new.self s.connections same (s.connections_are lit);
+      part = part_same s.scripted (lines_value lines) s.log c.push_crash.new.log same s.part;
+      stands = λ lit. stands_same s.scripted lines s.log c.push_crash.new.log s.place same (s.stands lit);
+      disk_is = λ lit. disk_same s.log c.push_crash.new.log s.disk same (s.disk_is lit);
+      connections_are = λ lit. connections_same s.log c.push_crash.new.log s.connections same (s.connections_are lit);
     }
 
 pub returns-clause-bytes : goal.returns-clause-bytes
 returns-clause-bytes c =
     let s = c.args.self.now in
-    subst AreBytes (c.in_ok-image.ensures (outside_of s.log) (s.disk_is c.requires.whole)) c.in_ok-disk.ensures.bytes
+    let fallen = c.in_ok-disk.ensures (outside_of s.log) (s.disk_is c.requires.whole) in
+    subst AreBytes (c.deref.ensures.value ∙ sym fallen.file) c.in_ok-push_crash.ensures.bytes
+
+pub returns-clause-log : goal.returns-clause-log
+returns-clause-log c =
+    let s = c.args.self.now in
+    let fallen = c.in_ok-disk.ensures (outside_of s.log) (s.disk_is c.requires.whole) in
+    c.in_ok-push_crash.ensures.ok ∙ ap (λ file. s.log ++ Crash file ∷ []) (c.deref.ensures.value ∙ sym fallen.file)
 
 pub invariant_of-self-2 : goal.invariant_of-self-2
 invariant_of-self-2 c =
     let s = c.args.self.now in
     let lines = s.script.lines.items in
     let o = outside_of s.log in
-    let image = c.in_ok-image.ensures o (s.disk_is c.requires.whole) in
-    let grown = c.in_ok-push.ensures.ok ∙ ap (λ file. s.log ++ Crash file ∷ []) (c.in_ok-file.ensures ∙ c.deref.ensures.value ∙ image) in
-    let disk : HasDisk (outside_after o (Crash (crash_file (image_value c.args.kind) o))) c.in_ok-disk.disk = subst (λ file. HasDisk (outside_after o (Crash file)) c.in_ok-disk.disk) image (c.in_ok-disk.ensures.disk o) in
-    let stands = stands_restarted s.scripted lines s.log c.push.new.self s.place c.restart.new.self c.args.kind c.requires.off grown (c.restart.ensures.place lines) (s.stands c.requires.whole) in
+    let file = crash_file (image_value c.args.kind) o in
+    let fallen : HasDisk (outside_after o (Crash file)) c.in_ok-disk.disk = c.in_ok-disk.ensures o (s.disk_is c.requires.whole) in
+    let grown = c.in_ok-push_crash.ensures.ok ∙ ap (λ bytes. s.log ++ Crash bytes ∷ []) (c.deref.ensures.value ∙ sym fallen.file) in
+    let stands = stands_restarted s.scripted lines s.log c.push_crash.new.log s.place c.restart.new.self c.args.kind c.requires.off grown (c.restart.ensures.place lines) (s.stands c.requires.whole) in
     record {
       read_is = s.read_is;
-      part = part_stood s.scripted (lines_value lines) c.push.new.self (place_value lines c.restart.new.self) stands;
+      part = part_stood s.scripted (lines_value lines) c.push_crash.new.log (place_value lines c.restart.new.self) stands;
       stands = λ lit. stands;
-      disk_is = λ lit. disk_there s.log c.push.new.self _ c.in_ok-disk.disk grown disk;
-      connections_are = λ lit. connections_there s.log c.push.new.self _ c.clear.new.self grown (crash_clears o (crash_file (image_value c.args.kind) o) c.clear.new.self (c.clear.ensures o));
+      disk_is = λ lit. disk_there s.log c.push_crash.new.log _ c.in_ok-disk.disk grown fallen;
+      connections_are = λ lit. connections_there s.log c.push_crash.new.log _ c.clear.new.self grown (crash_clears o file c.clear.new.self (c.clear.ensures o));
     }

@@ -1,8 +1,7 @@
 -- Proof of the contract of `write`.
-use Rattle.std.proofs.Common.{◌∷◌, ◌++◌, [], ◌∙◌, ap, List, ℕ, inl, inr}
-use Rattle.std.specs.Prelude.{if◌then◌else◌}
+use Rattle.std.proofs.Common.{◌∷◌, [], List, ℕ, inl, inr}
 use Rattle.gw_site.specs.Outside.{outside_of}
-use Rattle.gw_site.specs.declared.turn.Turn.TheVariants.{Wrote, DiskFailed}
+use Rattle.gw_site.specs.declared.turn.Turn.TheVariants.{Wrote}
 use Rattle.gw_site.specs.Steps.{WriteCall}
 use Rattle.gw_script.specs.site.Calls.{call_turns}
 use Rattle.sim_script.specs.Values.{lines_value}
@@ -10,8 +9,8 @@ use Rattle.sim_site.specs.Places.{place_value}
 use Rattle.sim_site.proofs.PlayedLemmas.{connections_stay, disk_there, never, part_refused, part_same, part_stood, stands_made, write_leaves, write_rest, write_split, write_there}
 use Rattle.sim_site.proofs.played.Played.write.Goals as goal
 
-pub invariant_of-self-in-Break-branch-3 : goal.invariant_of-self-in-Break-branch-3
-invariant_of-self-in-Break-branch-3 c =
+pub invariant_of-self-in-Break-branch-2 : goal.invariant_of-self-in-Break-branch-2
+invariant_of-self-in-Break-branch-2 c =
     let s = c.args.self.now in
     let lines = s.script.lines.items in
     let fails = s.place.hazard.write in
@@ -23,7 +22,7 @@ invariant_of-self-in-Break-branch-3 c =
       read_is = s.read_is;
       part = elim c.in_err-push_write.ensures.err [
         | inl same ↦ part_same s.scripted (lines_value lines) s.log c.push_write.new.log same s.part
-        | inr more ↦ part_refused s.scripted lines s.log c.push_write.new.log s.place call (Wrote c.args.offset bytes ∷ []) (write_rest fails) c.requires.power (write_split fails c.args.offset bytes) (more ∙ ap (λ (b : List ℕ). s.log ++ Wrote c.args.offset b ∷ []) c.in_ok-copy.ensures) played
+        | inr more ↦ part_refused s.scripted lines s.log c.push_write.new.log s.place call (Wrote c.args.offset bytes ∷ []) (write_rest fails) c.requires.power (write_split fails c.args.offset bytes) more played
       ];
       stands = λ lit. never lit;
       disk_is = λ lit. never lit;
@@ -36,7 +35,7 @@ invariant_of-self-2 c =
     let lines = s.script.lines.items in
     let o = outside_of s.log in
     let fails = s.place.hazard.write in
-    let grown = c.in_ok-push_write.ensures.ok ∙ ap (λ (bytes : List ℕ). s.log ++ (if fails then Wrote c.args.offset bytes ∷ DiskFailed ∷ [] else Wrote c.args.offset bytes ∷ [])) c.in_ok-copy.ensures in
+    let grown = c.in_ok-push_write.ensures.ok in
     let stands = stands_made s.scripted lines s.log c.push_write.new.log s.place c.write-2.new.self (WriteCall c.args.offset c.args.bytes.now) c.requires.power grown (c.write-2.ensures.moves c.args.offset c.args.bytes.now o lines) (s.stands c.requires.whole) in
     record {
       read_is = s.read_is;

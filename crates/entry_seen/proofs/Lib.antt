@@ -1,0 +1,2 @@
+-- The lemmas of what a till reads in a reply.
+pub mod ReplyReadLemmas

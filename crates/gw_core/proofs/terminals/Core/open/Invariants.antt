@@ -1,7 +1,0 @@
--- What the loop of `open` keeps.
-use Rattle.std.proofs.Common.{◌≡◌, map, take}
-use Rattle.gw_owes.specs.Core.{new_terminal}
-use Rattle.gw_core.proofs.terminals.Core.open.Given as goal
-
-abbrev pub invariant-loop-pt : goal.invariant-loop-pt
-invariant-loop-pt l = l.terminals.items ≡ map new_terminal (take l.pt-index l.pt-items)

@@ -1,6 +1,0 @@
--- Proof of the contract of `law_replies`.
-use Rattle.xlate.proofs.ReplyReadLemmas.{replies_say_records}
-use Rattle.xlate.proofs.laws.law_replies.Goals as goal
-
-pub returns : goal.returns
-returns c = replies_say_records c.law_reply_read.ensures
