@@ -93,7 +93,12 @@ fn push_number(lines: &mut String, before: &str, number: u64) -> Result<(), Allo
 }
 
 /// Appends a number between two texts.
-fn push_number_between(lines: &mut String, before: &str, number: u64, after: &str) -> Result<(), AllocError>
+fn push_number_between(
+    lines: &mut String,
+    before: &str,
+    number: u64,
+    after: &str,
+) -> Result<(), AllocError>
     ensures { OnOk result (string_bytes lines.new ≡ string_bytes lines.old ++ (before.now ++ (decimal number ++ after.now))) }
 {
     write!(lines, "{before}{number}{after}")

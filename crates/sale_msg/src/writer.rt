@@ -16,7 +16,7 @@ use gw_base::{Ident, Text};
 use json_text::write_text;
 use sale_values::{
     Header, Output, Outputs, Part, PaymentAsk, Period, Reference, ReversalAsk, SaleRequest, Texts,
-    ident_bytes, header_parts, money,
+    header_parts, ident_bytes, money,
 };
 use std::alloc::{AllocError, Global};
 

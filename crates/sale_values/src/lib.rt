@@ -16,5 +16,5 @@ pub use laws::{law_header, law_money, law_texts};
 pub use money_text::money;
 pub use names::{Class, Kind, Period, law_names};
 pub use outputs::{Outputs, Texts};
-pub use part::{Part, ident_bytes, header_parts};
+pub use part::{Part, header_parts, ident_bytes};
 pub use request::{Incoming, Output, PaymentAsk, Reference, ReversalAsk, SaleRequest};
