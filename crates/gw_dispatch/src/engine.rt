@@ -342,8 +342,8 @@ impl Dispatch {
     }
 }
 
-/// Makes what a run with this setup holds, once its opening is done, and then its rounds, at most so many.
-pub(crate) fn rounds<S: Site>(
+/// The rounds of a run whose opening is done, at most so many, with what it holds.
+pub(crate) fn opened_rounds<S: Site>(
     alloc: Global,
     setup: &Setup,
     site: &mut S,
@@ -391,7 +391,7 @@ fn journaled<S: Site>(alloc: Global, setup: &Setup, site: &mut S, most: u64) -> 
     ensures later { (S.observed site.old).faults ≤ (S.observed site.new).faults }
 {
     match Records::open(alloc, site, setup.slots) {
-        Ok(records) => rounds(alloc, setup, site, records, most),
+        Ok(records) => opened_rounds(alloc, setup, site, records, most),
         Err(cause) => ended_by(cause),
     }
 }

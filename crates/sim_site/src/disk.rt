@@ -179,8 +179,12 @@ impl Disk {
         }
     }
 
-    /// The disk after a power failure that leaves this.
-    pub(crate) fn fallen(&self, alloc: Global, kind: ImageKind) -> Result<Disk, AllocError>
+    /// The disk after a power failure that leaves this image.
+    pub(crate) fn after_power_failure(
+        &self,
+        alloc: Global,
+        kind: ImageKind,
+    ) -> Result<Disk, AllocError>
         ensures { IfOk result (λ disk. (o : Outside) → HasDisk o self.now → HasDisk (outside_after o (Crash (crash_file (image_value kind) o))) disk) }
     {
         let image = self.image(alloc, kind)?;

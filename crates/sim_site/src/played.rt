@@ -291,7 +291,7 @@ impl Played {
         ensures whole { self.new.short ≡ false }
         ensures same { IsSameScript self.old self.new }
     {
-        let disk = self.disk.fallen(alloc, kind)?;
+        let disk = self.disk.after_power_failure(alloc, kind)?;
         push_crash(&mut self.log, alloc, &disk.file)?;
         self.place.restart();
         self.connections.clear();

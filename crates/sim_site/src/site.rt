@@ -210,7 +210,7 @@ impl SimSite {
     }
 
     /// What a poll brings, at the moment up to which the script is played.
-    fn polled(&self, what: What) -> Polled
+    fn poll_result(&self, what: What) -> Polled
         ensures { result ≡ record { now = self.now.played.place.moment; what = what } }
     {
         Polled {
@@ -258,11 +258,11 @@ impl Site for SimSite {
         ensures script { played_script self.new ≡ played_script self.old }
     {
         if self.played.is_dark() {
-            return self.polled(What::Stopped);
+            return self.poll_result(What::Stopped);
         }
         match self.played.poll(buf) {
-            Ok(what) => self.polled(what),
-            Err(_) => self.polled(What::Stopped),
+            Ok(what) => self.poll_result(what),
+            Err(_) => self.poll_result(What::Stopped),
         }
     }
 

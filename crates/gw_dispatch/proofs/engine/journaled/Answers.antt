@@ -9,19 +9,19 @@ use Rattle.gw_dispatch.proofs.RunLemmas.{cause-by-file, cause-has-begun, opened-
 use Rattle.gw_dispatch.proofs.engine.journaled.Goals as goal
 
 pub returns-in-Ok-clause-triple : goal.returns-in-Ok-clause-triple
-returns-in-Ok-clause-triple g c = opened-run c.args.setup.now _ _ _ c.in-Ok.records c.args.most c.rounds.result (c.in-Ok.ensures.triple c.args.setup.now refl) c.rounds.ensures.triple
+returns-in-Ok-clause-triple g c = opened-run c.args.setup.now _ _ _ c.in-Ok.records c.args.most c.opened_rounds.result (c.in-Ok.ensures.triple c.args.setup.now refl) c.opened_rounds.ensures.triple
 
 pub returns-in-Ok-clause-begun : goal.returns-in-Ok-clause-begun
-returns-in-Ok-clause-begun g c = run-has-begun c.rounds.result c.rounds.ensures.ran
+returns-in-Ok-clause-begun g c = run-has-begun c.opened_rounds.result c.opened_rounds.ensures.ran
 
 pub returns-in-Ok-clause-file : goal.returns-in-Ok-clause-file
-returns-in-Ok-clause-file g c = λ log e. run-by-file c.args.setup.now.slots (outside_of log).file c.in-Ok.records c.rounds.result c.rounds.ensures.ran (c.in-Ok.ensures.file log e) (c.in-Ok.ensures.too_long log e)
+returns-in-Ok-clause-file g c = λ log e. run-by-file c.args.setup.now.slots (outside_of log).file c.in-Ok.records c.opened_rounds.result c.opened_rounds.ensures.ran (c.in-Ok.ensures.file log e) (c.in-Ok.ensures.too_long log e)
 
 pub returns-in-Ok-clause-polls : goal.returns-in-Ok-clause-polls
-returns-in-Ok-clause-polls g c = λ before e. adds-then 0 c.args.most c.args.most before (g.S.Site.observed c.open.new.site) (g.S.Site.observed c.rounds.new.site) (omega arith) (calls-poll-none 0 before (g.S.Site.observed c.open.new.site) (c.in-Ok.ensures.adds before e)) c.rounds.ensures.goes_on.adds
+returns-in-Ok-clause-polls g c = λ before e. adds-then 0 c.args.most c.args.most before (g.S.Site.observed c.open.new.site) (g.S.Site.observed c.opened_rounds.new.site) (omega arith) (calls-poll-none 0 before (g.S.Site.observed c.open.new.site) (c.in-Ok.ensures.adds before e)) c.opened_rounds.ensures.goes_on.adds
 
 pub returns-in-Ok-clause-memory : goal.returns-in-Ok-clause-memory
-returns-in-Ok-clause-memory g c = λ lacks before e. calls-then-ends before (g.S.Site.observed c.open.new.site) (g.S.Site.observed c.rounds.new.site) (c.in-Ok.ensures.adds before e) (c.rounds.ensures.memory lacks)
+returns-in-Ok-clause-memory g c = λ lacks before e. calls-then-ends before (g.S.Site.observed c.open.new.site) (g.S.Site.observed c.opened_rounds.new.site) (c.in-Ok.ensures.adds before e) (c.opened_rounds.ensures.memory lacks)
 
 pub returns-in-Err-clause-triple : goal.returns-in-Err-clause-triple
 returns-in-Err-clause-triple g c = subst (λ ended. TripleBy (IsDueFrom c.args.setup.now Unmeasured) (g.S.Site.observed c.args.site.now) (g.S.Site.observed c.open.new.site) (JustBegun c.args.setup.now) (EndedBy ended c.args.most)) (sym c.ended_by.ensures)

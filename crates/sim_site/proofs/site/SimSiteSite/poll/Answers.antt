@@ -11,18 +11,18 @@ use Rattle.sim_site.proofs.site.SimSiteSite.poll.Goals as goal
 pub returns-then-is_dark-clause-turns : goal.returns-then-is_dark-clause-turns
 returns-then-is_dark-clause-turns c =
     let s = c.args.self.now in
-    let poll = c.polled.result in
+    let poll = c.poll_result.result in
     dark_grows (observed_with s.faults s.played) (observed_with s.faults s.played) (PolledTurns poll c.args.buf.now) (Polled poll.now ∷ event_turns poll.what c.args.buf.now) refl (sym c.is_dark.ensures.dark ∙ c.if-is_dark.true) refl refl
 
 pub returns-in-Ok-clause-turns : goal.returns-in-Ok-clause-turns
 returns-in-Ok-clause-turns c =
     let s = c.args.self.now in
-    polled_grows s.faults s.faults s.played c.poll.new.self c.in-Ok.what c.polled-in-Ok.result c.poll.new.buf (c.is_dark.ensures.lit c.if-is_dark.false) c.in-Ok.ensures.made c.in-Ok.ensures.polled c.in-Ok.ensures.same c.polled-in-Ok.ensures
+    polled_grows s.faults s.faults s.played c.poll.new.self c.in-Ok.what c.poll_result-in-Ok.result c.poll.new.buf (c.is_dark.ensures.lit c.if-is_dark.false) c.in-Ok.ensures.made c.in-Ok.ensures.polled c.in-Ok.ensures.same c.poll_result-in-Ok.ensures
 
 pub returns-in-Err-clause-turns : goal.returns-in-Err-clause-turns
 returns-in-Err-clause-turns c =
     let s = c.args.self.now in
-    refused_poll_grows s.faults s.faults s.played c.poll.new.self c.polled-in-Err.result c.poll.new.buf (c.is_dark.ensures.lit c.if-is_dark.false) c.in-Err.ensures.refused c.in-Err.ensures.short c.in-Err.ensures.same c.polled-in-Err.ensures
+    refused_poll_grows s.faults s.faults s.played c.poll.new.self c.poll_result-in-Err.result c.poll.new.buf (c.is_dark.ensures.lit c.if-is_dark.false) c.in-Err.ensures.refused c.in-Err.ensures.short c.in-Err.ensures.same c.poll_result-in-Err.ensures
 
 pub returns-in-Ok-clause-call : goal.returns-in-Ok-clause-call
 returns-in-Ok-clause-call c = λ lit whole.

@@ -1,9 +1,9 @@
--- Proof of the contract of `rounds`.
+-- Proof of the contract of `opened_rounds`.
 use Rattle.std.proofs.Common.{inl, inr}
 use Rattle.gw_rules.proofs.TripleLemmas.{triple-before}
 use Rattle.gw_dispatch.proofs.GrowthLemmas.{goes-nowhere, goes-without-poll}
 use Rattle.gw_dispatch.proofs.RoundLemmas.{no-memory, opened-lacks}
-use Rattle.gw_dispatch.proofs.engine.rounds.Goals as goal
+use Rattle.gw_dispatch.proofs.engine.opened_rounds.Goals as goal
 
 pub rounds-requires : goal.rounds-requires
 rounds-requires g c = record { ready = c.in-Ok.ensures.ready _ c.requires.stands }
