@@ -39,7 +39,7 @@ use Rattle.gw_books.specs.Said.{all_said, IsFramed}
 use Rattle.gw_books.proofs.BrokenLemmas.{no-false, not-true, breaks-by, last-refused}
 use Rattle.gw_books.proofs.ExampleLemmas.{Agreement, each-agrees, header-within, approved-within, success-framed, refusal-framed}
 use Rattle.gw_books.proofs.MessageLemmas.{reply-framed}
-use Rattle.book_examples.specs.DisagreeExample.{twice_course, twice_booked, course_sent, status_asking_header, course_replied, unresolved_course, TwiceDisagrees, EntriesOfOneKey, KeylessDisagrees, UnbookedDisagrees, LaterEntryDisagrees, ProgressDisagrees, UnacceptedDisagrees, SameContentDisagrees, OtherContentAgrees, NotFoundDisagrees, RepeatAgrees, OtherRepeatDisagrees, OutsideDisagrees, UnresolvedDisagrees, WaitingIsInProgress, UnreportedMayBeOpen, LinksEnd, UncausedBooks, DisorderedBooks, UntrueBooks, ReportedBooks}
+use Rattle.book_examples.specs.DisagreeExample.{twice_course, twice_booked, course_sent, status_asking_header, course_replied, unresolved_course, TwiceDisagrees, EntriesOfOneKey, KeylessDisagrees, UnbookedDisagrees, LaterEntryDisagrees, ProgressDisagrees, UnacceptedDisagrees, SameContentDisagrees, OtherContentAgrees, NotFoundDisagrees, RepeatAgrees, OtherRepeatDisagrees, OutsideDisagrees, UnresolvedDisagrees, WaitingIsInProgress, UnreportedMayBeOpen, LinksEnd, UncausedBooks, DisorderedBooks, UntrueBooks, ReportedBooks, other_numbering}
 use Rattle.book_examples.specs.Example.{later_entry}
 
 -- ---- commands
@@ -104,7 +104,7 @@ none-booked : list_all (success_agrees (early_past paid_reply) [] (early_sent pa
 unfolding history message_tree header_tree result_tree sale_data poi_data payment_result approved_body result_body transaction_text money_text digits tree_at
 none-booked = refl
 
-older-booked : list_all (success_agrees (early_past paid_reply) (record paid_entry { poi = codes "T2"; place = 0; cause = None } ∷ []) (early_sent paid_reply)) (all_said (reply_value_tree paid_reply)) ≡ false
+older-booked : list_all (success_agrees (early_past paid_reply) (record paid_entry { numbering = other_numbering; place = 0; cause = None } ∷ []) (early_sent paid_reply)) (all_said (reply_value_tree paid_reply)) ≡ false
 unfolding history message_tree header_tree result_tree sale_data poi_data payment_result approved_body result_body transaction_text money_text digits tree_at
 older-booked = refl
 
@@ -127,7 +127,7 @@ other-receipt = refl
 pub unbooked-disagrees : UnbookedDisagrees
 unbooked-disagrees = record {
   none = unbooked [] (record { caused = refl; linked = refl; ordered = refl; numbered = refl; true_ends = refl }) none-booked;
-  older = unbooked (record paid_entry { poi = codes "T2"; place = 0; cause = None } ∷ []) (record { caused = refl; linked = refl; ordered = refl; numbered = refl; true_ends = refl }) older-booked;
+  older = unbooked (record paid_entry { numbering = other_numbering; place = 0; cause = None } ∷ []) (record { caused = refl; linked = refl; ordered = refl; numbered = refl; true_ends = refl }) older-booked;
   later = unbooked (paid_entry ∷ []) (record { caused = refl; linked = refl; ordered = refl; numbered = refl; true_ends = refl }) later-booked;
   declined = unbooked (record entry_in_time { approved = false } ∷ []) (record { caused = refl; linked = refl; ordered = refl; numbered = refl; true_ends = refl }) declined-booked;
   amount = unbooked (record entry_in_time { amount = 1000 } ∷ []) (record { caused = refl; linked = refl; ordered = refl; numbered = refl; true_ends = refl }) other-amount;

@@ -18,11 +18,12 @@ use Rattle.gw_owes.specs.TerminalExample.{ack, abort, completion, enquiry_sent}
 use Rattle.gw_rules.specs.RowExample.{register_bytes, terminal_setup}
 use Rattle.gw_rules.specs.TerminalLogExample.{items_begin}
 use Rattle.gw_rules.specs.View.{Move, Begin, Read, Make}
+use Rattle.gw_books.specs.Kinds.{OfReversal}
 use Rattle.gw_books.specs.Agrees.{are_distinct_keys, entry_key, EachSaid, success_agrees, unaccepted_agrees, in_progress_agrees, report_resolves}
 use Rattle.gw_books.specs.Books.{BookedEntry, Honest}
 use Rattle.gw_books.specs.BrokenLaws.{BreaksAgreement}
-use Rattle.gw_books.specs.Example.{opened_moves, payment_key, payment_occasion, refused_past, asked_past, paying_header, payment_ask, authorise, asked_course, approved_mark, paid_result_body, paid_course, paid_reply, refusal_reply, paid_past, paid_entry, entry_in_time, older_entry, paid_figures}
-use Rattle.gw_books.specs.Past.{Ending, Declined, Reported, SentReply, MadePoll, Past, past_of}
+use Rattle.gw_books.specs.Example.{opened_moves, payment_key, payment_occasion, refused_past, asked_past, paying_header, payment_ask, authorise, asked_course, approved_mark, paid_result_body, paid_course, paid_reply, refusal_reply, paid_past, paid_entry, entry_in_time, older_entry, paid_figures, first_numbering}
+use Rattle.gw_books.specs.Past.{Ending, Declined, Reported, SentReply, MadePoll, Past, past_of, Numbering}
 use Rattle.gw_books.specs.SaidLaws.{said_by_reply}
 use Rattle.book_examples.specs.Example.{progress_reply, later_entry}
 
@@ -53,10 +54,14 @@ KeylessDisagrees = BreaksAgreement (opened_moves ++ Make (SentPt 0 authorise tru
 abbrev pub course_sent : ReplyValue → List Move
 course_sent reply = asked_course ++ Make (SentTill 1 (reply_value_bytes reply) true) ∷ []
 
+-- the numbering of another terminal
+abbrev pub other_numbering : Numbering
+other_numbering = record { poi = codes "T2" }
+
 -- a success has no entry, one of another terminal that is older than the log, one that comes after the reply, one that is declined, one of another amount, or one with another receipt number
 pub record UnbookedDisagrees : Type 0 where
   pub none : BreaksAgreement (course_sent paid_reply) []
-  pub older : BreaksAgreement (course_sent paid_reply) (record paid_entry { poi = codes "T2"; place = 0; cause = None } ∷ [])
+  pub older : BreaksAgreement (course_sent paid_reply) (record paid_entry { numbering = other_numbering; place = 0; cause = None } ∷ [])
   pub later : BreaksAgreement (course_sent paid_reply) (paid_entry ∷ [])
   pub declined : BreaksAgreement (course_sent paid_reply) (record entry_in_time { approved = false } ∷ [])
   pub amount : BreaksAgreement (course_sent paid_reply) (record entry_in_time { amount = 1000 } ∷ [])
@@ -153,7 +158,7 @@ pub record LinksEnd : Type 0 where
 pub record UncausedBooks : Type 0 where
   -- an entry whose command was not sent, or was a payment where it is a reversal
   pub unsent : ¬ Honest asked_past (record paid_entry { cause = Some 21 } ∷ [])
-  pub reversal : ¬ Honest asked_past (record paid_entry { reversal = true } ∷ [])
+  pub reversal : ¬ Honest asked_past (record paid_entry { kind = OfReversal } ∷ [])
   -- one whose command was sent in part
   pub in_part : ¬ Honest (past_of (opened_moves ++ Make (SentPt 0 (take 5 authorise) false) ∷ [])) (record paid_entry { cause = Some 16 } ∷ [])
   -- one that is at its command or before it, or without a command and not older than the log
@@ -175,7 +180,7 @@ pub record DisorderedBooks : Type 0 where
 
 -- the past of the command in which this end alone was heard, at place 24
 abbrev pub past_with_end : Ending → Past
-past_with_end ending = record asked_past { ends = record { place = 24; poi = codes "T1"; ending = ending } ∷ [] }
+past_with_end ending = record asked_past { ends = record { place = 24; numbering = first_numbering; ending = ending } ∷ [] }
 
 -- what isn't honest for the ends that were heard
 pub record UntrueBooks : Type 0 where

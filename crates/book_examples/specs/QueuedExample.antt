@@ -29,7 +29,7 @@ use Rattle.gw_rules.specs.View.{Move, Begin, Read, Make}
 use Rattle.gw_books.specs.Agrees.{in_progress_agrees}
 use Rattle.gw_books.specs.Books.{BookedEntry}
 use Rattle.gw_books.specs.BrokenLaws.{BreaksAgreement}
-use Rattle.gw_books.specs.Example.{payment_text, paying_header, payment_read, payment_key, paying_intent, authorise, keeping_moves, payment_command, payment_occasion, asked_past, polled_linked, kept_approval, paid_entry, IsHonestAndAgrees}
+use Rattle.gw_books.specs.Example.{payment_text, paying_header, payment_read, payment_key, paying_intent, authorise, keeping_moves, payment_command, payment_occasion, asked_past, polled_linked, kept_approval, paid_entry, IsHonestAndAgrees, first_numbering}
 use Rattle.gw_books.specs.Headline.{HasPast}
 use Rattle.gw_books.specs.Past.{OfRequest, OfMessage, SentCommand, Approved, SentReply, Past}
 use Rattle.gw_books.specs.ReversalExample.{aborting_header}
@@ -135,7 +135,7 @@ queued_past = record asked_past {
   place = 47;
   heard = 38;
   commands = queued_command ∷ [];
-  ends = record { place = 38; poi = codes "T1"; ending = Approved 36 (record { number = 123; receipt = 17; amount = 1099 }) } ∷ asked_past.ends;
+  ends = record { place = 38; numbering = first_numbering; ending = Approved 36 (record { number = 123; receipt = 17; amount = 1099 }) } ∷ asked_past.ends;
   replies = queued_replies;
   polls = polled_linked 46 queued_records ∷ polled_linked 37 (Settled logged_settled ∷ Intent queued_intent ∷ []) ∷ polled_linked 24 [] ∷ polled_linked 21 [] ∷ polled_linked 19 [] ∷ asked_past.polls;
   deeds = OfMessage 0 Completion ∷ OfMessage 0 Completion ∷ payment_occasion ∷ payment_occasion ∷ payment_occasion ∷ OfMessage 0 Completion ∷ OfMessage 0 Completion ∷ [];

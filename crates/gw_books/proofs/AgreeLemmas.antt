@@ -1,5 +1,5 @@
 -- What holds at the end gives agreement.
-use Rattle.std.proofs.Common.{◌≡◌, ◌∙◌, ℕ, Bool, true, false, List, [], ◌∷◌, refl, sym, ap, subst, inl, inr, arith, le-leb, eqb-true, eq-eqb, leb-true}
+use Rattle.std.proofs.Common.{◌≡◌, ◌∙◌, ℕ, Bool, true, false, List, [], ◌∷◌, refl, sym, ap, subst, inl, inr, arith, le-leb, eqb-true, eq-eqb, leb-true, zero, suc}
 use Rattle.std.proofs.lemmas.Bool.{and_from, and_parts, false_from_ne_true, not_from_false}
 use Rattle.std.proofs.lemmas.List.Elements.{All-from_recursion}
 use Rattle.std.proofs.lemmas.Option.{same_Some}
@@ -15,17 +15,19 @@ use Rattle.jrn_record.specs.declared.records.Intent.{Intent as TheIntent}
 use Rattle.jrn_record.specs.declared.records.Record.{Record}
 use Rattle.gw_ledger.specs.Fold.{AreFolded}
 use Rattle.gw_ledger.specs.Keys.{intent_key, is_key, slot_of}
-use Rattle.gw_ledger.specs.Slots.{asks_payment, intent_at}
+use Rattle.gw_ledger.specs.Slots.{intent_at}
 use Rattle.xlate.specs.Reply.{deal_category}
 use Rattle.gw_owes.proofs.RecordLemmas.{LedgerLaws, intent-stays}
-use Rattle.gw_books.specs.Past.{SentCommand, SentReply, Past}
+use Rattle.gw_books.specs.Kinds.{BookedKind, OfCompletion, OfPayment, OfRefund, OfReservation, OfReversal, is_kind, kind_number, booked_kind_of}
+use Rattle.gw_books.specs.Past.{SentCommand, SentReply, Past, Numbering, is_numbering}
 use Rattle.gw_books.specs.Books.{BookedEntry, is_cause, is_caused, is_caused_by, have_one_cause, comes_before, is_ordered}
 use Rattle.gw_books.specs.Said.{Said, all_said, IsFramed}
 use Rattle.gw_books.specs.Agrees.{EachSaid, entry_key, key_at_place, is_transaction, is_success, is_approved_entry, is_entry_said, is_of_category, names_entry, success_agrees, refusal_agrees, unaccepted_agrees, not_found_agrees, in_progress_agrees}
 use Rattle.gw_books.proofs.Holding.{AreFalling, AreKeyed, BearsOut, HasApprovedEntry, HoldsAgrees, IsApprovalTrue, IsDeclineTrue, IsFirstOf, IsSaidTrue, IsSentTrue, SaysSuccess}
 use Rattle.gw_books.proofs.KeyedLemmas.{AreApart, apart-distinct, caused-for, is-key-is, is-key-itself, key-sent, sent-below, sent-same}
 use Rattle.gw_books.proofs.RecordMoreLemmas.{own-slot}
-use Rattle.gw_books.proofs.ListLemmas.{In, all-in, all-from, any-in, any-from, none-from, bytes-are, bytes-itself}
+use Rattle.gw_books.proofs.ListLemmas.{In, all-in, all-from, any-in, any-from, none-from, bytes-itself}
+use Rattle.gw_books.proofs.BookLemmas.{numbering-are}
 
 -- ---- commands
 
@@ -42,39 +44,56 @@ sent-apart place (command ∷ commands) falling once = (
 
 -- ---- entries
 
--- what is asked and what is booked are of one kind
-one-kind : (asked booked : Bool) → (if asked then booked else not booked) ≡ true → booked ≡ asked
-one-kind true booked e = e
-one-kind false true e = absurd cc
-one-kind false false e = refl
+-- kinds that pass for equal are
+kind-of-number : ℕ → BookedKind
+kind-of-number zero = OfPayment
+kind-of-number (suc zero) = OfReversal
+kind-of-number (suc (suc zero)) = OfRefund
+kind-of-number (suc (suc (suc zero))) = OfReservation
+kind-of-number (suc (suc (suc (suc n)))) = OfCompletion
+
+kind-numbered : (kind : BookedKind) → kind-of-number (kind_number kind) ≡ kind
+unfolding kind-of-number
+kind-numbered OfPayment = refl
+kind-numbered OfReversal = refl
+kind-numbered OfRefund = refl
+kind-numbered OfReservation = refl
+kind-numbered OfCompletion = refl
+
+one-kind : (one other : BookedKind) → is_kind one other ≡ true → one ≡ other
+one-kind one other e = sym (kind-numbered one) ∙ ap kind-of-number (eqb-true (kind_number one) (kind_number other) e) ∙ kind-numbered other
+
+-- equal kinds pass for equal
+pub same-kind : (one other : BookedKind) → one ≡ other → is_kind one other ≡ true
+same-kind one other same = eq-eqb (kind_number one) (kind_number other) (ap kind_number same)
 
 -- an entry whose cause was sent is of the command's terminal, and a reversal where the command is one
 caused-as : (past : Past) (entry : BookedEntry) (command : SentCommand) → AreFalling past.place past.commands → In command past.commands → entry.cause ≡ Some command.place
-    → is_caused past entry entry.cause ≡ true → (command.poi ≡ entry.poi) × (entry.reversal ≡ command.reversal)
+    → is_caused past entry entry.cause ≡ true → (command.numbering ≡ entry.numbering) × (entry.kind ≡ command.kind)
 caused-as past entry command falling within e caused =
     let f = subst (λ cause. is_caused past entry cause ≡ true) e caused in
     by (nat_le past.place command.place) refl (and_parts (nat_lt command.place entry.place) _ f).1
   where
-    by : (b : Bool) → nat_le past.place command.place ≡ b → (b || list_any (is_cause entry command.place) past.commands) ≡ true → (command.poi ≡ entry.poi) × (entry.reversal ≡ command.reversal)
+    by : (b : Bool) → nat_le past.place command.place ≡ b → (b || list_any (is_cause entry command.place) past.commands) ≡ true → (command.numbering ≡ entry.numbering) × (entry.kind ≡ command.kind)
     by true t g =
         let h = sent-below past.place past.commands falling command within in
         let k = leb-true past.place command.place t in
         absurd (omega (arith, h, k))
     by false t g =
         let some = any-in (is_cause entry command.place) past.commands g in
-        let p = and_parts (some.0.place == command.place) (some.0.whole && (bytes_eq some.0.poi entry.poi && _)) some.2 in
-        let q = and_parts some.0.whole (bytes_eq some.0.poi entry.poi && _) p.1 in
-        let r = and_parts (bytes_eq some.0.poi entry.poi) _ q.1 in
+        let p = and_parts (some.0.place == command.place) (some.0.whole && (is_numbering some.0.numbering entry.numbering && _)) some.2 in
+        let q = and_parts some.0.whole (is_numbering some.0.numbering entry.numbering && _) p.1 in
+        let r = and_parts (is_numbering some.0.numbering entry.numbering) _ q.1 in
         let same = sent-same past.place past.commands falling some.0 command some.1 within (eqb-true some.0.place command.place p.0) in
-        (ap (λ (one : SentCommand). one.poi) (sym same) ∙ bytes-are some.0.poi entry.poi r.0, one-kind some.0.reversal entry.reversal r.1 ∙ ap (λ (one : SentCommand). one.reversal) same)
+        (ap (λ (one : SentCommand). one.numbering) (sym same) ∙ numbering-are some.0.numbering entry.numbering r.0, sym (one-kind some.0.kind entry.kind r.1) ∙ ap (λ (one : SentCommand). one.kind) same)
 
-pub caused-poi : (past : Past) (entry : BookedEntry) (command : SentCommand) → AreFalling past.place past.commands → In command past.commands → entry.cause ≡ Some command.place
-    → is_caused past entry entry.cause ≡ true → command.poi ≡ entry.poi
-caused-poi past entry command falling within e caused = (caused-as past entry command falling within e caused).0
+pub caused-numbering : (past : Past) (entry : BookedEntry) (command : SentCommand) → AreFalling past.place past.commands → In command past.commands → entry.cause ≡ Some command.place
+    → is_caused past entry entry.cause ≡ true → command.numbering ≡ entry.numbering
+caused-numbering past entry command falling within e caused = (caused-as past entry command falling within e caused).0
 
 -- a command that was sent for the key of an Intent is a reversal where that asks for one
 pub command-kind : LedgerLaws → (kept : List Record) → AreFolded kept → (place : ℕ) (commands : List SentCommand) → AreKeyed kept place commands → (command : SentCommand) → In command commands
-    → (slot : ℕ) (intent : TheIntent) → intent_at kept slot ≡ Some intent → command.key ≡ Some (intent_key intent) → command.reversal ≡ not (asks_payment intent.what)
+    → (slot : ℕ) (intent : TheIntent) → intent_at kept slot ≡ Some intent → command.key ≡ Some (intent_key intent) → command.kind ≡ booked_kind_of intent.what
 command-kind laws kept folded place commands keyed command within slot intent intent_is key_is =
     let own = keyed.accepted command within in
     let asked = own.asked in
@@ -82,12 +101,12 @@ command-kind laws kept folded place commands keyed command within slot intent in
     let slots : asked.slot ≡ slot =
     same_Some asked.slot slot (sym (own-slot laws kept asked.slot asked.intent folded asked.intent_is) ∙ ap (slot_of kept) key ∙ own-slot laws kept slot intent folded intent_is) in
     let one : asked.intent ≡ intent = same_Some asked.intent intent (sym asked.intent_is ∙ ap (intent_at kept) slots ∙ intent_is) in
-    asked.kind ∙ ap (λ (i : TheIntent). not (asks_payment i.what)) one
+    asked.kind_is ∙ ap (λ (i : TheIntent). booked_kind_of i.what) one
 
 -- and so is the entry that it caused
 pub entry-kind : LedgerLaws → (kept : List Record) → AreFolded kept → (past : Past) → AreKeyed kept past.place past.commands → (entry : BookedEntry) → is_caused past entry entry.cause ≡ true
     → (command : SentCommand) → In command past.commands → entry.cause ≡ Some command.place → (slot : ℕ) (intent : TheIntent) → intent_at kept slot ≡ Some intent → command.key ≡ Some (intent_key intent)
-    → entry.reversal ≡ not (asks_payment intent.what)
+    → entry.kind ≡ booked_kind_of intent.what
 entry-kind laws kept folded past keyed entry caused command within cause_is slot intent intent_is key_is =
     (caused-as past entry command keyed.falling within cause_is caused).1 ∙ command-kind laws kept folded past.place past.commands keyed command within slot intent intent_is key_is
 
@@ -99,12 +118,12 @@ one-cause one other place e f =
     ∙ ap (λ b. (b || false) || false) (eq-eqb place place refl))
 
 -- an entry that comes before another of its terminal has another cause
-no-cause : (one other : BookedEntry) → one.poi ≡ other.poi → comes_before one other ≡ true → have_one_cause one other ≡ true → ⊥
+no-cause : (one other : BookedEntry) → one.numbering.poi ≡ other.numbering.poi → comes_before one other ≡ true → have_one_cause one other ≡ true → ⊥
 no-cause one other same e f =
-    let s : bytes_eq one.poi other.poi ≡ true = subst (λ poi. bytes_eq one.poi poi ≡ true) same (bytes-itself one.poi) in
-    let g = subst (λ b. (not b || (nat_le one.place other.place && (nat_lt one.number other.number && not (have_one_cause one other)))) ≡ true) s e in
+    let s : bytes_eq one.numbering.poi other.numbering.poi ≡ true = subst (λ poi. bytes_eq one.numbering.poi poi ≡ true) same (bytes-itself one.numbering.poi) in
+    let g = subst (λ b. (not b || (nat_le one.place other.place && ((not (is_numbering one.numbering other.numbering) || nat_lt one.number other.number) && not (have_one_cause one other)))) ≡ true) s e in
     let p = and_parts (nat_le one.place other.place) _ g in
-    let q = and_parts (nat_lt one.number other.number) _ p.1 in
+    let q = and_parts (not (is_numbering one.numbering other.numbering) || nat_lt one.number other.number) _ p.1 in
     let c : not true ≡ true = subst (λ b. not b ≡ true) f q.1 in
     absurd (cc)
 
@@ -116,9 +135,9 @@ two-booked kept past keyed one other key first second before e f =
     let b = caused-for past other key f in
     let same : a.command ≡ b.command = keyed.once a.command b.command key a.sent b.sent a.key_is b.key_is in
     let cause : other.cause ≡ Some a.command.place = b.cause_is ∙ ap (λ (command : SentCommand). Some command.place) (sym same) in
-    let poi = caused-poi past one a.command keyed.falling a.sent a.cause_is first in
-    let other_poi = caused-poi past other a.command keyed.falling a.sent cause second in
-    no-cause one other (sym poi ∙ other_poi) before (one-cause one other a.command.place a.cause_is cause)
+    let first_is = caused-numbering past one a.command keyed.falling a.sent a.cause_is first in
+    let second_is = caused-numbering past other a.command keyed.falling a.sent cause second in
+    no-cause one other (ap (λ (numbering : Numbering). numbering.poi) (sym first_is ∙ second_is)) before (one-cause one other a.command.place a.cause_is cause)
 
 pub booked-apart : (kept : List Record) (past : Past) → AreKeyed kept past.place past.commands → (book : List BookedEntry) → list_all (λ (entry : BookedEntry). is_caused past entry entry.cause) book ≡ true
     → is_ordered book ≡ true → AreApart (entry_key past) book
@@ -163,14 +182,14 @@ approved-for past falling command sent key key_is entry caused approved =
     and_from entry.approved (is_key key (entry_key past entry)) approved (is-key-itself key (entry_key past entry) own)
 
 -- what is booked as it was asked is of the category that is said
-of-category : (what : Deal) (reversal : Bool) (category : List ℕ) → category ≡ deal_category what → reversal ≡ not (asks_payment what) → (if bytes_eq category (codes "Reversal") then reversal else not reversal) ≡ true
-of-category Payment reversal category c r = rw (c, r) refl
-of-category Reversal reversal category c r = rw (c, r) refl
+of-category : (what : Deal) (kind : BookedKind) (category : List ℕ) → category ≡ deal_category what → kind ≡ booked_kind_of what → is_kind (if bytes_eq category (codes "Reversal") then OfReversal else OfPayment) kind ≡ true
+of-category Payment kind category c r = rw (c, r) refl
+of-category Reversal kind category c r = rw (c, r) refl
 
 -- the entry that bears a success out is the one that is said
 entry-said : (past : Past) (book : List BookedEntry) (reply : SentReply) (said : Said) → AreFalling past.place past.commands → (command : SentCommand) → In command past.commands
     → (says : SaysSuccess reply.kept said) → command.key ≡ Some (intent_key says.says.intent) → (has : HasApprovedEntry book reply.place command says.says.outcome)
-    → (let entry = has.entry in entry.reversal ≡ not (asks_payment says.says.intent.what)) → is_entry_said past reply said has.entry ≡ true
+    → (let entry = has.entry in entry.kind ≡ booked_kind_of says.says.intent.what) → is_entry_said past reply said has.entry ≡ true
 entry-said past book reply said falling command sent says key has kind =
     let entry = has.entry in
     let outcome = says.says.outcome in
@@ -183,7 +202,7 @@ entry-said past book reply said falling command sent says key has kind =
     let units : said.amount ≡ money_text entry.amount = says.amount_is ∙ ap money_text (sym has.amount) in
     let amount : bytes_eq said.amount (money_text entry.amount) ≡ true = subst (λ t. bytes_eq said.amount t ≡ true) units (bytes-itself said.amount) in
     and_from (is_approved_entry past said.key entry) _ approved
-    (and_from (is_of_category said entry) _ (of-category says.says.intent.what entry.reversal said.category says.says.category_is kind)
+    (and_from (is_of_category said entry) _ (of-category says.says.intent.what entry.kind said.category says.says.category_is kind)
     (and_from (nat_le entry.place reply.place) _ (le-leb entry.place reply.place has.placed)
     (and_from (names_entry reply.kept said.key said.transaction entry) (bytes_eq said.amount (money_text entry.amount)) names amount)))
 

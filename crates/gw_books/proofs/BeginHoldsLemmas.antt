@@ -45,7 +45,7 @@ use Rattle.gw_rules.proofs.TranscriptLogLemmas.{AreCallsOf, own-owed, rows-of, i
 use Rattle.gw_owes.specs.Core.{Wait}
 use Rattle.gw_owes.specs.Waits.{waiting_with, queue_of, first_waiting}
 use Rattle.gw_owes.proofs.NextLemmas.{each-queued, each-overdue}
-use Rattle.gw_books.specs.Past.{Occasion, OfRequest, OfMessage, OfNothing, MadeLink, Ending, HeardEnd, MadePoll, Past, no_past, occasion_waiting, occasion_of, ending_at, ends_by, ends_of, past_after}
+use Rattle.gw_books.specs.Past.{Occasion, OfRequest, OfMessage, OfNothing, MadeLink, Ending, HeardEnd, MadePoll, Past, no_past, occasion_waiting, occasion_of, ending_at, ends_by, ends_of, past_after, numbering_at}
 use Rattle.gw_books.specs.Books.{BookedEntry, Honest}
 use Rattle.gw_books.specs.Agrees.{is_report, is_report_on, report_resolves, is_resolved_on}
 use Rattle.gw_books.proofs.ListLemmas.{In, in-either}
@@ -105,7 +105,7 @@ row-dialogues tills known (Due number) all pt terminal found no_cut = terminal-d
 
 -- the end of a terminal's dialogue at the last hearing
 abbrev heard_now : Past → Terminal → Ending → HeardEnd
-heard_now past terminal ending = record { place = past.heard; poi = terminal.pt.poi; ending = ending }
+heard_now past terminal ending = record { place = past.heard; numbering = numbering_at terminal.pt; ending = ending }
 
 -- an end that a message brings has the place of the last hearing
 ends-by-now : (past : Past) (message : MessageValue) (found : Option Terminal) (end : HeardEnd) → In end (flat_map (ends_by past message) (option_to_list found)) → end.place ≡ past.heard
@@ -128,7 +128,7 @@ new-ends-now scene past OfNothing end within = absurd within
 
 -- an end after the poll is none before it
 after-poll : (poll : MadePoll) (link : MadeLink) (end : HeardEnd) → poll.place < end.place → is_report_on poll link end ≡ false
-after-poll poll link end late = by_tests (is_report end.ending) (bytes_eq end.poi link.poi) (nat_lt link.place end.place) (nat_lt end.place poll.place) refl
+after-poll poll link end late = by_tests (is_report end.ending) (bytes_eq end.numbering.poi link.poi) (nat_lt link.place end.place) (nat_lt end.place poll.place) refl
   where
     by_tests : (report own later before : Bool) → nat_lt end.place poll.place ≡ before → (report && (own && (later && before))) ≡ false
     by_tests false own later before e = refl

@@ -2,7 +2,7 @@
 use Rattle.std.proofs.Common.{◌≡◌, ◌≢◌, ◌≤◌, ◌<◌, ◌∙◌, ℕ, zero, suc, ◌+◌, Bool, true, false, List, [], ◌∷◌, ◌++◌, length, refl, sym, ap, subst, arith, inl, inr, append-nil}
 use Rattle.std.proofs.lemmas.Bool.{and_from, and_parts, false_from_ne_true, ltb-true}
 use Rattle.std.proofs.lemmas.List.Elements.{All-head, All-tail}
-use Rattle.std.specs.Prelude.{◌&&◌, ◌||◌, ◌==◌, nat_lt, not, if◌then◌else◌, bytes_eq, All, filter, find, slice_get, Option, Some, None, unwrap_or}
+use Rattle.std.specs.Prelude.{◌&&◌, ◌||◌, ◌==◌, nat_lt, not, if◌then◌else◌, bytes_eq, All, filter, find, slice_get, Option, Some, None, unwrap_or, is_some}
 use Rattle.std.specs.List.{list_any, list_all}
 use Rattle.std.specs.Option.{option_map}
 use Rattle.gw_base.specs.Setup.{HaveDistinctPois}
@@ -20,7 +20,7 @@ use Rattle.jrn_record.specs.declared.records.Record.{Record}
 use Rattle.gw_ledger.specs.declared.entry.Entry.{Entry}
 use Rattle.gw_ledger.specs.Fold.{AreFolded}
 use Rattle.gw_ledger.specs.Keys.{intent_key}
-use Rattle.gw_ledger.specs.Slots.{asks_payment, intent_at}
+use Rattle.gw_ledger.specs.Slots.{intent_at}
 use Rattle.gw_owes.specs.Calls.{Sending, Ask, Acknowledge, Refuse, sending_bytes, OwedCall, SendTill, SendPt, LinkPt, CutTill as OwedCutTill, CutPt as OwedCutPt}
 use Rattle.gw_owes.specs.Core.{Core}
 use Rattle.gw_owes.specs.Dialogues.{AllHaveDialogues, HasItsDialogue}
@@ -53,9 +53,11 @@ use Rattle.gw_rules.proofs.SetupLemmas.{HasSetup}
 use Rattle.gw_rules.proofs.SpareLemmas.{lost-at-spares, made-at-spares}
 use Rattle.gw_rules.proofs.StageLemmas.{no-true}
 use Rattle.gw_rules.proofs.TranscriptLogLemmas.{image-there, there-image, lost-at, made-at, not-number}
+use Rattle.jrn_record.specs.declared.records.Deal.{Deal}
+use Rattle.gw_books.specs.Kinds.{BookedKind, kind_of_command, booked_kind_of, may_charge}
 use Rattle.gw_books.specs.Agrees.{is_accepted, is_inside, is_report}
 use Rattle.gw_books.specs.Books.{BookedEntry}
-use Rattle.gw_books.specs.Past.{Occasion, SentCommand, MadeLink, HeardEnd, SentReply, Past, poi_of_number, open_key, is_of_instruction, may_charge, waiting_keys, with_reply, with_sent_command}
+use Rattle.gw_books.specs.Past.{Occasion, SentCommand, MadeLink, HeardEnd, SentReply, Past, poi_of_number, open_key, waiting_keys, with_reply, with_sent_command, Numbering, numbering_at, numbering_of_number, with_sent_bytes}
 use Rattle.gw_books.specs.Said.{Said, all_said, IsFramed}
 use Rattle.gw_books.proofs.Holding.{AreOutcomesTrue, AreKeyed, HasAcceptedKey, IsAskedAs, IsFirstOf, IsUnsent, IsSaidTrue, IsSentTrue, IsToBeAsked, IsReplySound, IsSendingSound, AreCallsSound, sending_charges, charge_owed, charges_terminal, deed_owed, IsServingSound, IsRepliable, AreRepliable, is_report_after, IsOfTerminal, IsLinkSound, TurnHolds, Holds}
 use Rattle.gw_books.proofs.LastCallLemmas.{IsLast, is-last, last-cuts, last-charges, same-coming, link-rests, terminal-stays, rest-sound, past_then, holds-on, keyed-later}
@@ -64,7 +66,7 @@ use Rattle.gw_books.proofs.RecordMoreLemmas.{IsUnended, accepted-intent, first-i
 use Rattle.gw_books.proofs.RecordNumberLemmas.{open-key-unended}
 use Rattle.gw_books.proofs.SentBytesLemmas.{sent-says}
 use Rattle.gw_books.proofs.ServedReplyLemmas.{lost-sound, replies-no-deed, replies-sound}
-use Rattle.gw_books.proofs.SentCommandLemmas.{charging, charged, reversing, sending_reverses}
+use Rattle.gw_books.proofs.SentCommandLemmas.{charging, charged, kind-sent, kind_of_sending}
 
 -- ---- what is owed after a call
 
@@ -248,13 +250,13 @@ to-be-asked records core commands number (Ask (command.Show lines)) e sound = no
 to-be-asked records core commands number Acknowledge e sound = no-true e
 to-be-asked records core commands number Refuse e sound = no-true e
 
--- it asks for a reversal exactly where the Intent does
+-- it is of the kind that the Intent asks for
 asked-kind : (records : List Record) (core : Core) (commands : List SentCommand) (number : ℕ) (sending : Sending) (e : sending_charges sending ≡ true) (sound : IsSendingSound records core commands number sending)
-    → sending_reverses sending ≡ not (asks_payment (to-be-asked records core commands number sending e sound).intent.what)
+    → kind_of_sending sending ≡ Some (booked_kind_of (to-be-asked records core commands number sending e sound).intent.what)
 unfolding to-be-asked
 asked-kind records core commands number (Ask (command.Register password config_byte currency)) e sound = no-true e
-asked-kind records core commands number (Ask (command.Authorise amount currency)) e sound = sym (ap (λ what. not (asks_payment what)) sound.1)
-asked-kind records core commands number (Ask (command.Reverse password receipt)) e sound = sym (ap (λ what. not (asks_payment what)) sound.1)
+asked-kind records core commands number (Ask (command.Authorise amount currency)) e sound = sym (ap (λ (what : Deal). Some (booked_kind_of what)) sound.1)
+asked-kind records core commands number (Ask (command.Reverse password receipt)) e sound = sym (ap (λ (what : Deal). Some (booked_kind_of what)) sound.1)
 asked-kind records core commands number (Ask (command.EndOfDay password)) e sound = no-true e
 asked-kind records core commands number (Ask (command.Enquire password)) e sound = no-true e
 asked-kind records core commands number (Ask command.Stop) e sound = no-true e
@@ -263,7 +265,7 @@ asked-kind records core commands number Acknowledge e sound = no-true e
 asked-kind records core commands number Refuse e sound = no-true e
 
 -- one more command, for a key for which none was sent
-keyed-sent : (kept : List Record) (sent : SentCommand) (commands : List SentCommand) (key : Key) → AreKeyed kept sent.place commands → sent.key ≡ Some key → is_accepted kept key ≡ true → IsAskedAs kept key sent.reversal → IsUnsent commands key
+keyed-sent : (kept : List Record) (sent : SentCommand) (commands : List SentCommand) (key : Key) → AreKeyed kept sent.place commands → sent.key ≡ Some key → is_accepted kept key ≡ true → IsAskedAs kept key sent.kind → IsUnsent commands key
     → AreKeyed kept (sent.place + 1) (sent ∷ commands)
 keyed-sent kept sent commands key k is accepted asked unsent = record { falling = (omega arith, k.falling); accepted = each; once = once }
   where
@@ -272,7 +274,7 @@ keyed-sent kept sent commands key k is accepted asked unsent = record { falling 
       key = key;
       key_is = ap (λ (c : SentCommand). c.key) same ∙ is;
       accepted = accepted;
-      asked = subst (λ (c : SentCommand). IsAskedAs kept key c.reversal) (sym same) asked;
+      asked = subst (λ (c : SentCommand). IsAskedAs kept key c.kind) (sym same) asked;
     }
     each one (inr within) = k.accepted one within
 
@@ -286,14 +288,14 @@ keyed-sent kept sent commands key k is accepted asked unsent = record { falling 
     once one other found (inr a) (inr b) one_is other_is = k.once one other found a b one_is other_is
 
 -- a terminal of another POIID serves as it did
-serving-past : (records : List Record) (sent : SentCommand) (commands : List SentCommand) (poi : List ℕ) (standing : Standing) → bytes_eq sent.poi poi ≡ false → IsServingSound records commands poi standing → IsServingSound records (sent ∷ commands) poi standing
+serving-past : (records : List Record) (sent : SentCommand) (commands : List SentCommand) (poi : List ℕ) (standing : Standing) → bytes_eq sent.numbering.poi poi ≡ false → IsServingSound records commands poi standing → IsServingSound records (sent ∷ commands) poi standing
 serving-past records sent commands poi (Unlinked due) apart sound = tt
 serving-past records sent commands poi Registering apart sound = tt
 serving-past records sent commands poi Enquiring apart sound = tt
 serving-past records sent commands poi (Ready last) apart sound = tt
 serving-past records sent commands poi (Serving (Transaction slot) last) apart sound = λ intent found.
     let s = sound intent found in
-    record { command = s.command; last = ap (λ (b : Bool). if b then Some sent else find (λ (command : SentCommand). bytes_eq command.poi poi) commands) apart ∙ s.last; key_is = s.key_is }
+    record { command = s.command; last = ap (λ (b : Bool). if b then Some sent else find (λ (command : SentCommand). bytes_eq command.numbering.poi poi) commands) apart ∙ s.last; key_is = s.key_is }
 serving-past records sent commands poi (Serving (EndOfDay header period) last) apart sound = tt
 serving-past records sent commands poi (Serving (Display header outputs) last) apart sound = tt
 serving-past records sent commands poi (Aside before reported) apart sound = tt
@@ -305,9 +307,13 @@ served-key laws records poi slot last intent folded served found =
     let same : served.intent ≡ intent = same-some served.intent intent (sym parts.intent_is ∙ found) in
     ap (option_map (λ (entry : Entry). intent_key entry.intent)) served.is_open ∙ ap (λ (i : TheIntent). Some (intent_key i)) same
 
+-- the numbering of a terminal that is there
+pub numbering-there : (scene : Scene) (number : ℕ) (terminal : Terminal) → slice_get scene.core.terminals number ≡ Some terminal → numbering_of_number scene number ≡ numbering_at terminal.pt
+numbering-there scene number terminal found = ap (λ (t : Option Terminal). unwrap_or (option_map (λ (one : Terminal). numbering_at one.pt) t) (record { poi = [] })) found
+
 -- the command that is sent with these bytes
-abbrev pub command_sent : Scene → Past → List ℕ → List ℕ → SentCommand
-command_sent scene past poi bytes = record { place = past.place; poi = poi; reversal = is_of_instruction 0x30 bytes; whole = nat_lt 0 (length (decode_apdus bytes).apdus); key = open_key scene.kept poi }
+abbrev pub command_sent : Scene → Past → Numbering → List ℕ → BookedKind → SentCommand
+command_sent scene past numbering bytes kind = record { place = past.place; numbering = numbering; kind = kind; whole = nat_lt 0 (length (decode_apdus bytes).apdus); key = open_key scene.kept numbering.poi }
 
 module _ (laws : LedgerLaws) (log : List Turn) (v : View) (past : Past) (book : List BookedEntry) (turn : Turn) (calls : List OwedCall) (pt : ℕ) (sending : Sending) (bytes : List ℕ) (o : Ordered log v) (h : Holds v past book)
     (next : first_call v.calls ≡ Some (SendPt pt sending)) (first : IsPrefix bytes (sending_bytes sending)) (quiet : AreQuiet calls) where
@@ -345,8 +351,8 @@ module _ (laws : LedgerLaws) (log : List Turn) (v : View) (past : Past) (book : 
       })
 
   -- the beginning of a command that may charge a card is sent
-  pt-sent-charge : may_charge bytes ≡ true → Holds (called_with v turn calls) (record (with_sent_command v.scene (poi_of_number v.scene pt) bytes past) { place = past.place + 1 }) book
-  pt-sent-charge charge =
+  pt-sent-charge : (kind : BookedKind) → kind_of_command bytes ≡ Some kind → Holds (called_with v turn calls) (record (with_sent_command v.scene (numbering_of_number v.scene pt) bytes past kind) { place = past.place + 1 }) book
+  pt-sent-charge kind kind_is =
       holds-on v w past book (sent ∷ past.commands) past.links past.lasting past.replies (past.occasion ∷ past.deeds) h (record {
         kept = refl;
         coming = same-coming v w call last quiet.spares refl refl;
@@ -379,13 +385,13 @@ module _ (laws : LedgerLaws) (log : List Turn) (v : View) (past : Past) (book : 
       w = called_with v turn calls
 
       sent : SentCommand
-      sent = command_sent v.scene past (poi_of_number v.scene pt) bytes
+      sent = command_sent v.scene past (numbering_of_number v.scene pt) bytes kind
 
       next_past : Past
       next_past = past_then past (sent ∷ past.commands) past.links past.lasting past.replies (past.occasion ∷ past.deeds)
 
       charges_card : sending_charges sending ≡ true
-      charges_card = charging sending bytes first charge
+      charges_card = charging sending bytes first (ap (λ (found : Option BookedKind). is_some found) kind_is)
 
       owed : deed_owed v.calls ≡ true
       owed = ap deed_owed last.calls_are ∙ ap (λ (b : Bool). b || false) charges_card
@@ -396,8 +402,8 @@ module _ (laws : LedgerLaws) (log : List Turn) (v : View) (past : Past) (book : 
       asked : IsToBeAsked (records_coming v) v.scene.core past.commands pt
       asked = to-be-asked (records_coming v) v.scene.core past.commands pt sending charges_card sound
 
-      poi_is : poi_of_number v.scene pt ≡ asked.terminal.pt.poi
-      poi_is = ap (λ (t : Option Terminal). unwrap_or (option_map (λ (terminal : Terminal). terminal.pt.poi) t) []) asked.found
+      poi_is : (numbering_of_number v.scene pt).poi ≡ asked.terminal.pt.poi
+      poi_is = ap (λ (numbering : Numbering). numbering.poi) (numbering-there v.scene pt asked.terminal asked.found)
 
       kept_folds : AreFolded v.scene.kept
       kept_folds = kept-folds log v (holds ledger_rules log v o.keeps)
@@ -410,7 +416,7 @@ module _ (laws : LedgerLaws) (log : List Turn) (v : View) (past : Past) (book : 
           let t = o.terminals last.clear pt asked.terminal asked.found (last-cuts v (SendPt pt sending) pt last refl) in
           subst (λ records. IsServedOpen records asked.terminal.pt.poi asked.last asked.slot) last.now (subst (λ (s : Standing). AreRecordsOf (records_coming v) asked.terminal.pt.poi s) asked.standing_is t.records)
 
-      key_is : open_key v.scene.kept (poi_of_number v.scene pt) ≡ Some (intent_key asked.intent)
+      key_is : open_key v.scene.kept (numbering_of_number v.scene pt).poi ≡ Some (intent_key asked.intent)
       key_is = ap (open_key v.scene.kept) poi_is ∙ served-key laws v.scene.kept asked.terminal.pt.poi asked.slot asked.last asked.intent kept_folds served intent_kept
 
       -- it has no Outcome, nor had it one as a reply was sent
@@ -422,13 +428,13 @@ module _ (laws : LedgerLaws) (log : List Turn) (v : View) (past : Past) (book : 
       unended_then : (reply : SentReply) → IsFirstOf reply.kept v.scene.kept → IsUnended reply.kept (intent_key asked.intent)
       unended_then reply first_kept = unended-first reply.kept first_kept.0 (intent_key asked.intent) (subst (λ records. IsUnended records (intent_key asked.intent)) first_kept.1 unended)
 
-      asked_as : IsAskedAs v.scene.kept (intent_key asked.intent) sent.reversal
+      asked_as : IsAskedAs v.scene.kept (intent_key asked.intent) sent.kind
       asked_as = record {
         slot = asked.slot;
         intent = asked.intent;
         intent_is = intent_kept;
         own = refl;
-        kind = reversing sending bytes first charge ∙ asked-kind (records_coming v) v.scene.core past.commands pt sending charges_card sound;
+        kind_is = same-some kind (booked_kind_of asked.intent.what) (sym (kind-sent sending bytes kind first kind_is) ∙ asked-kind (records_coming v) v.scene.core past.commands pt sending charges_card sound);
       }
 
       accepted : is_accepted v.scene.kept (intent_key asked.intent) ≡ true
@@ -437,11 +443,11 @@ module _ (laws : LedgerLaws) (log : List Turn) (v : View) (past : Past) (book : 
       own : (number : ℕ) (terminal : Terminal) → slice_get v.scene.core.terminals number ≡ Some terminal → number ≡ pt → IsServingSound (records_coming v) (sent ∷ past.commands) terminal.pt.poi terminal.standing
       own number terminal found same =
           let is : asked.terminal ≡ terminal = same-some asked.terminal terminal (sym asked.found ∙ ap (slice_get v.scene.core.terminals) (sym same) ∙ found) in
-          let here : bytes_eq (poi_of_number v.scene pt) asked.terminal.pt.poi ≡ true = ap (λ (poi : List ℕ). bytes_eq poi asked.terminal.pt.poi) poi_is ∙ bytes-itself asked.terminal.pt.poi in
+          let here : bytes_eq (numbering_of_number v.scene pt).poi asked.terminal.pt.poi ≡ true = ap (λ (poi : List ℕ). bytes_eq poi asked.terminal.pt.poi) poi_is ∙ bytes-itself asked.terminal.pt.poi in
           subst (λ (t : Terminal). IsServingSound (records_coming v) (sent ∷ past.commands) t.pt.poi t.standing) is
           (subst (λ (s : Standing). IsServingSound (records_coming v) (sent ∷ past.commands) asked.terminal.pt.poi s) (sym asked.standing_is) (λ intent intent_is.
           let one : asked.intent ≡ intent = same-some asked.intent intent (sym asked.intent_is ∙ intent_is) in
-          record { command = sent; last = ap (λ (b : Bool). if b then Some sent else find (λ (command : SentCommand). bytes_eq command.poi asked.terminal.pt.poi) past.commands) here; key_is = key_is ∙ ap (λ (i : TheIntent). Some (intent_key i)) one }))
+          record { command = sent; last = ap (λ (b : Bool). if b then Some sent else find (λ (command : SentCommand). bytes_eq command.numbering.poi asked.terminal.pt.poi) past.commands) here; key_is = key_is ∙ ap (λ (i : TheIntent). Some (intent_key i)) one }))
 
       other : (number : ℕ) (terminal : Terminal) → slice_get v.scene.core.terminals number ≡ Some terminal → number ≢ pt → IsServingSound (records_coming v) (sent ∷ past.commands) terminal.pt.poi terminal.standing
       other number terminal found differs =
@@ -452,12 +458,12 @@ module _ (laws : LedgerLaws) (log : List Turn) (v : View) (past : Past) (book : 
 
   -- by the bytes that are sent
   pt-sent : (may_charge bytes ≡ false → (number : ℕ) → cut_owed number calls ≡ false → charge_owed number v.calls ≡ false)
-      → Holds (called_with v turn calls) (record (if may_charge bytes then with_sent_command v.scene (poi_of_number v.scene pt) bytes past else past) { place = past.place + 1 }) book
-  pt-sent uncharged = by_test (may_charge bytes) refl
+      → Holds (called_with v turn calls) (record (with_sent_bytes v.scene (numbering_of_number v.scene pt) bytes past (kind_of_command bytes)) { place = past.place + 1 }) book
+  pt-sent uncharged = by-kind (kind_of_command bytes) refl
     where
-      by_test : (test : Bool) → may_charge bytes ≡ test → Holds (called_with v turn calls) (record (if test then with_sent_command v.scene (poi_of_number v.scene pt) bytes past else past) { place = past.place + 1 }) book
-      by_test true e = pt-sent-charge e
-      by_test false e = pt-sent-other (uncharged e)
+      by-kind : (found : Option BookedKind) → kind_of_command bytes ≡ found → Holds (called_with v turn calls) (record (with_sent_bytes v.scene (numbering_of_number v.scene pt) bytes past found) { place = past.place + 1 }) book
+      by-kind None is = pt-sent-other (uncharged (ap (λ (found : Option BookedKind). is_some found) is))
+      by-kind (Some kind) is = pt-sent-charge kind is
 
 pub sent-pt-holds : (laws : LedgerLaws) (pt : ℕ) (bytes : List ℕ) (sent : Bool) → TurnHolds (SentPt pt bytes sent)
 sent-pt-holds laws pt bytes true log v past book o ok h =
@@ -684,7 +690,7 @@ cut-pt-holds pt log v past book o ok h =
     own : (link : MadeLink) → (t : IsOfTerminal v.scene.core link) → t.number ≡ pt → is_other link ≡ true → ⊥
     own link t same others =
         let found : slice_get v.scene.core.terminals pt ≡ Some t.terminal = ap (slice_get v.scene.core.terminals) (sym same) ∙ t.found in
-        let poi_is : poi_of_number v.scene pt ≡ link.poi = ap (λ (one : Option Terminal). unwrap_or (option_map (λ (terminal : Terminal). terminal.pt.poi) one) []) found ∙ t.poi_is in
+        let poi_is : poi_of_number v.scene pt ≡ link.poi = ap (λ (numbering : Numbering). numbering.poi) (numbering-there v.scene pt t.terminal found) ∙ t.poi_is in
         no-true (sym (ap not (ap (bytes_eq link.poi) poi_is ∙ bytes-itself link.poi)) ∙ others)
 
     sound : (link : MadeLink) → In link lasting → IsLinkSound (records_coming v) (link_lost_at v.scene pt).core ((link_lost_at v.scene pt).calls ++ later v.calls) next_past link
@@ -713,8 +719,8 @@ none-after : (past : Past) (book : List BookedEntry) (v : View) (link : MadeLink
 none-after past book v link h now reports =
     let one = any-in (is_report_after link) past.ends reports in
     let end : HeardEnd = one.0 in
-    let parts = and_parts (is_report end.ending) (bytes_eq end.poi link.poi && nat_lt link.place end.place) one.2 in
-    let after_link : link.place < end.place = ltb-true link.place end.place (and_parts (bytes_eq end.poi link.poi) (nat_lt link.place end.place) parts.1).1 in
+    let parts = and_parts (is_report end.ending) (bytes_eq end.numbering.poi link.poi && nat_lt link.place end.place) one.2 in
+    let after_link : link.place < end.place = ltb-true link.place end.place (and_parts (bytes_eq end.numbering.poi link.poi) (nat_lt link.place end.place) parts.1).1 in
     let before : end.place ≤ past.heard = h.ended end one.1 in
     let heard : past.heard ≤ past.place = h.heard in
     absurd (omega (arith, after_link, before, heard, now))
@@ -739,7 +745,7 @@ linked-holds pt log v past book o ok h =
     there = linked-there log v pt o ok
 
     of_terminal : IsOfTerminal v.scene.core new
-    of_terminal = record { number = pt; terminal = there.0; found = there.1; poi_is = sym (ap (λ (one : Option Terminal). unwrap_or (option_map (λ (terminal : Terminal). terminal.pt.poi) one) []) there.1) }
+    of_terminal = record { number = pt; terminal = there.0; found = there.1; poi_is = sym (ap (λ (numbering : Numbering). numbering.poi) (numbering-there v.scene pt there.0 there.1)) }
 
     new_sound : IsLinkSound (records_coming v) (link_made_at v.scene pt).core ((link_made_at v.scene pt).calls ++ later v.calls) next_past new
     new_sound = record {

@@ -2,20 +2,17 @@
 use Rattle.std.proofs.Common.{◌≡◌, ◌≤◌, ◌<◌, ◌∙◌, ℕ, ◌+◌, eqb, Bool, true, false, List, [], ◌∷◌, ◌++◌, refl, sym, ap, subst, arith, inl, inr, append-nil, length}
 use Rattle.std.proofs.lemmas.Bool.{eqb-false, eqb-true}
 use Rattle.std.proofs.lemmas.Bool.Decides.{nat_tests}
-use Rattle.std.specs.Prelude.{◌⊎◌, ◌==◌, ◌&&◌, ◌||◌, bytes_eq, if◌then◌else◌, slice_get, Option, Some, None, unwrap_or}
+use Rattle.std.specs.Prelude.{◌⊎◌, ◌==◌, ◌&&◌, ◌||◌, bytes_eq, slice_get, Option, Some, None, is_some}
 use Rattle.std.specs.List.{list_any}
-use Rattle.std.specs.Option.{option_map, option_and_then}
-use Rattle.gw_base.specs.declared.key.Key.{Key}
 use Rattle.gw_bytes.specs.Bytes.{IsPrefix}
 use Rattle.gw_site.specs.declared.turn.Turn.{Turn}
 use Rattle.gw_site.specs.declared.turn.Turn.TheVariants.{Linked, LinkFailed, SentTill, SentPt, CutTill, CutPt}
 use Rattle.jrn_record.specs.declared.records.Intent.{Intent as TheIntent}
 use Rattle.jrn_record.specs.declared.records.Record.{Record}
-use Rattle.gw_ledger.specs.declared.entry.Entry.{Entry}
 use Rattle.gw_ledger.specs.Accounts.{open_slot, last_number_of}
 use Rattle.gw_ledger.specs.Fold.{AreFolded}
-use Rattle.gw_ledger.specs.Keys.{intent_key}
-use Rattle.gw_ledger.specs.Slots.{intent_at, ended_at, entry_at, entry_with}
+use Rattle.gw_ledger.specs.Keys.{intent_key, slot_of}
+use Rattle.gw_ledger.specs.Slots.{intent_at}
 use Rattle.gw_owes.specs.declared.terminal.Service.TheVariants.{Transaction, EndOfDay, Display}
 use Rattle.gw_owes.specs.declared.terminal.Standing.{Standing}
 use Rattle.gw_owes.specs.declared.terminal.Standing.TheVariants.{Unlinked, Registering, Enquiring, Ready, Serving, Aside}
@@ -41,17 +38,19 @@ use Rattle.gw_rules.proofs.SetupLemmas.{HasSetup}
 use Rattle.gw_rules.proofs.SpareLemmas.{lost-at-spares, made-at-spares}
 use Rattle.gw_rules.proofs.StageLemmas.{no-true}
 use Rattle.gw_rules.proofs.TranscriptLogLemmas.{lost-at, made-at}
+use Rattle.gw_books.specs.Kinds.{BookedKind, kind_of_command}
 use Rattle.gw_books.specs.Books.{BookedEntry}
-use Rattle.gw_books.specs.Past.{MadeLink, SentCommand, Past, may_charge, past_after, poi_of_number, with_sent_command, open_key}
-use Rattle.gw_books.proofs.BookLemmas.{for-key-more, of-sent-less, ready-later, records-later, booked-later}
-use Rattle.gw_books.proofs.CallHoldsLemmas.{apart-pois, command_sent, forgotten, served-key, to-be-asked, called_with}
+use Rattle.gw_books.specs.Past.{MadeLink, SentCommand, Past, past_after, poi_of_number, with_sent_command, open_key, Numbering, numbering_at, numbering_of, numbering_of_number, with_sent_bytes}
+use Rattle.gw_books.proofs.BookLemmas.{of-sent-less, ready-later, records-later, booked-later}
+use Rattle.gw_books.proofs.CallHoldsLemmas.{apart-pois, command_sent, forgotten, numbering-there, served-key, to-be-asked, called_with}
 use Rattle.gw_books.proofs.Holding.{Holds, charge_owed, is_handle, sending_charges, AreCallsSound, IsToBeAsked}
 use Rattle.gw_books.proofs.KeyedLemmas.{sent-below}
 use Rattle.gw_books.proofs.LastCallLemmas.{IsLast, is-last, same-coming, last-cuts}
 use Rattle.gw_books.proofs.ListLemmas.{In, bytes-itself}
-use Rattle.gw_books.proofs.Numbering.{AreRecordsNumbered, AreStandingsNumbered, HasEntryBefore, IsForKey, IsLinkedSince, IsOfSent, IsOpenNumbered, IsQuiet, IsStandingNumbered, Numbered, TurnNumbers, handles_after_due, link_owed, IsReadyNumber, WasSentAt}
+use Rattle.gw_books.proofs.Numbering.{AreRecordsNumbered, AreStandingsNumbered, HasEntryBeforeAll, IsEntryFrom, IsIntentNumbered, IsLinkedSince, IsOfSent, IsQuiet, IsSentFrom, IsStandingNumbered, Numbered, TurnNumbers, handles_after_due, link_owed, IsReadyNumber, WasSentAt}
 use Rattle.gw_books.proofs.NumberStepLemmas.{standing-stays, standings-set, stays-numbered}
-use Rattle.gw_books.proofs.RecordNumberLemmas.{open-poi}
+use Rattle.gw_books.proofs.RecordNumberLemmas.{open-is-last, open-numbering}
+use Rattle.gw_books.proofs.RecordMoreLemmas.{own-slot}
 use Rattle.gw_books.proofs.SentCommandLemmas.{charging}
 
 -- ---- calls that aren't on the disk
@@ -95,7 +94,7 @@ cut-till-numbers till log v past book o ok h n =
     (same-coming v w (OwedCutTill till) last (ap spare_disk last.none_later) refl refl)
     (λ number terminal found.
     let old = forgotten v.scene.core till number terminal found in
-    subst (λ (t : Terminal). IsStandingNumbered past.links past.commands past.place book t.pt.poi t.standing) old.2 (n.standings number old.0 old.1))
+    subst (λ (t : Terminal). IsStandingNumbered past.links past.commands past.place book (numbering_at t.pt) t.standing) old.2 (n.standings number old.0 old.1))
 
 -- ---- a terminal's link
 
@@ -172,17 +171,17 @@ pub cut-pt-numbers : (pt : ℕ) → TurnNumbers (CutPt pt)
 cut-pt-numbers pt log v past book o ok h n =
     let last : IsLast v (OwedCutPt pt) = is-last log v (OwedCutPt pt) o ok refl (λ more. refl) in
     let u : Numbered (after_turn v (CutPt pt)) (record past { place = past.place + 1 }) book = unlink-numbered v past book (CutPt pt) pt (OwedCutPt pt) (later v.calls) (call-setup v (OwedCutPt pt) o.agrees.run ok) last n last.none_later in
-    record { kept = u.kept; coming = u.coming; standings = λ number terminal found. standing-stays (record past { place = past.place + 1 }) (past_after v past (Make (CutPt pt))) book terminal.pt.poi terminal.standing refl refl (omega arith) (u.standings number terminal found); asked = u.asked; made = u.made; ordered = u.ordered; linking = u.linking; linked = u.linked }
+    record { kept = u.kept; coming = u.coming; standings = λ number terminal found. standing-stays (record past { place = past.place + 1 }) (past_after v past (Make (CutPt pt))) book (numbering_at terminal.pt) terminal.standing refl refl (omega arith) (u.standings number terminal found); asked = u.asked; made = u.made; ordered = u.ordered; linking = u.linking; linked = u.linked }
 
 -- with one more link each standing is as it was
-standing-linked : (past : Past) (book : List BookedEntry) (link : MadeLink) (poi : List ℕ) (standing : Standing) → IsStandingNumbered past.links past.commands past.place book poi standing
-    → IsStandingNumbered (link ∷ past.links) past.commands past.place book poi standing
-standing-linked past book link poi (Unlinked due) is = tt
-standing-linked past book link poi Registering is = record { link = is.link; made = inr is.made; poi_is = is.poi_is; later = is.later }
-standing-linked past book link poi Enquiring is = record { link = is.link; made = inr is.made; poi_is = is.poi_is; later = is.later }
-standing-linked past book link poi (Ready last) is = is
-standing-linked past book link poi (Serving service last) is = is
-standing-linked past book link poi (Aside before reported) is = is
+standing-linked : (past : Past) (book : List BookedEntry) (link : MadeLink) (numbering : Numbering) (standing : Standing) → IsStandingNumbered past.links past.commands past.place book numbering standing
+    → IsStandingNumbered (link ∷ past.links) past.commands past.place book numbering standing
+standing-linked past book link numbering (Unlinked due) is = tt
+standing-linked past book link numbering Registering is = record { link = is.link; made = inr is.made; poi_is = is.poi_is; later = is.later }
+standing-linked past book link numbering Enquiring is = record { link = is.link; made = inr is.made; poi_is = is.poi_is; later = is.later }
+standing-linked past book link numbering (Ready last) is = is
+standing-linked past book link numbering (Serving service last) is = is
+standing-linked past book link numbering (Aside before reported) is = is
 
 -- a terminal is linked: it registers, after each command to it
 pub linked-numbers : (pt : ℕ) → TurnNumbers (Linked pt)
@@ -190,7 +189,7 @@ linked-numbers pt log v past book o ok h n = record {
   kept = records-stay v.scene.kept n.kept;
   coming = subst (λ (records : List Record). AreRecordsNumbered book past.commands (past.place + 1) records) (sym coming) (records-stay (records_coming v) n.coming);
   standings = λ number terminal found.
-      standing-stays linked_past (past_after v past (Make (Linked pt))) book terminal.pt.poi terminal.standing refl refl (omega arith) (subst (λ (r : Row). AreStandingsNumbered linked_past book r.core) (sym row_is) made_standings number terminal found);
+      standing-stays linked_past (past_after v past (Make (Linked pt))) book (numbering_at terminal.pt) terminal.standing refl refl (omega arith) (subst (λ (r : Row). AreStandingsNumbered linked_past book r.core) (sym row_is) made_standings number terminal found);
   asked = λ number terminal found owed. no-true (sym (ap (charge_owed number) same ∙ owes.uncharged number) ∙ owed);
   made = made;
   ordered = ap handles_after_due items ∙ n.ordered;
@@ -244,126 +243,124 @@ linked-numbers pt log v past book o ok h n = record {
     made_standings : AreStandingsNumbered linked_past book (link_made (known_in v.scene k.setup) pt).core
     made_standings = by_found (terminal_at (known_in v.scene k.setup) pt) refl
       where
-        others : (other : ℕ) (terminal : Terminal) → slice_get v.scene.core.terminals other ≡ Some terminal → IsStandingNumbered linked_past.links linked_past.commands linked_past.place book terminal.pt.poi terminal.standing
-        others other terminal found = standing-linked past book new terminal.pt.poi terminal.standing (n.standings other terminal found)
+        others : (other : ℕ) (terminal : Terminal) → slice_get v.scene.core.terminals other ≡ Some terminal → IsStandingNumbered linked_past.links linked_past.commands linked_past.place book (numbering_at terminal.pt) terminal.standing
+        others other terminal found = standing-linked past book new (numbering_at terminal.pt) terminal.standing (n.standings other terminal found)
 
         by_found : (found : Option Terminal) → terminal_at (known_in v.scene k.setup) pt ≡ found → AreStandingsNumbered linked_past book (of_terminal (known_in v.scene k.setup) (registers (known_in v.scene k.setup) pt) found).core
         by_found None is = others
         by_found (Some terminal) is = standings-set linked_past book v.scene.core pt terminal _ is (λ other one apart found. others other one found) (record {
           link = new;
           made = inl refl;
-          poi_is = ap (λ (t : Option Terminal). unwrap_or (option_map (λ (terminal : Terminal). terminal.pt.poi) t) []) is;
+          poi_is = ap (λ (n : Numbering). n.poi) (numbering-there v.scene pt terminal is);
           later = λ command sent same. sent-below past.place past.commands h.commands.falling command sent;
         })
 
 -- ---- a command that may charge a card is sent
 
--- the key of what is open
-open-key-is : (records : List Record) (poi : List ℕ) (slot : ℕ) (intent : TheIntent) → open_slot records poi ≡ Some slot → intent_at records slot ≡ Some intent → open_key records poi ≡ Some (intent_key intent)
-open-key-is records poi slot intent opened is =
-    ap (λ (s : Option ℕ). option_map (λ (entry : Entry). intent_key entry.intent) (option_and_then (entry_at records) s)) opened
-    ∙ ap (λ (i : Option TheIntent). option_map (λ (entry : Entry). intent_key entry.intent) (option_map (entry_with records slot (ended_at records slot)) i)) is
-
 -- the entry is that of the command just sent, or of one before
-sent-splits : (sent : SentCommand) (commands : List SentCommand) (entry : BookedEntry) → IsOfSent (sent ∷ commands) entry → ((entry.cause ≡ Some sent.place) × (sent.poi ≡ entry.poi)) ⊎ IsOfSent commands entry
+sent-splits : (sent : SentCommand) (commands : List SentCommand) (entry : BookedEntry) → IsOfSent (sent ∷ commands) entry → ((entry.cause ≡ Some sent.place) × (sent.numbering ≡ entry.numbering)) ⊎ IsOfSent commands entry
 sent-splits sent commands entry of = by_cause entry.cause refl
   where
-    by_cause : (cause : Option ℕ) → entry.cause ≡ cause → ((entry.cause ≡ Some sent.place) × (sent.poi ≡ entry.poi)) ⊎ IsOfSent commands entry
+    by_cause : (cause : Option ℕ) → entry.cause ≡ cause → ((entry.cause ≡ Some sent.place) × (sent.numbering ≡ entry.numbering)) ⊎ IsOfSent commands entry
     by_cause None is = inr (λ place other. absurd (let n : None ≡ Some place = sym is ∙ other in cc))
     by_cause (Some cause) is = by_sent (of cause is)
       where
-        by_where : (was : WasSentAt (sent ∷ commands) cause entry.poi) → In was.command (sent ∷ commands) → ((entry.cause ≡ Some sent.place) × (sent.poi ≡ entry.poi)) ⊎ IsOfSent commands entry
+        by_where : (was : WasSentAt (sent ∷ commands) cause entry.numbering) → In was.command (sent ∷ commands) → ((entry.cause ≡ Some sent.place) × (sent.numbering ≡ entry.numbering)) ⊎ IsOfSent commands entry
         by_where was (inl same) =
-            inl (is ∙ ap (λ (place : ℕ). Some place) (sym was.place_is ∙ ap (λ (one : SentCommand). one.place) same), ap (λ (one : SentCommand). one.poi) (sym same) ∙ was.poi_is)
+            inl (is ∙ ap (λ (place : ℕ). Some place) (sym was.place_is ∙ ap (λ (one : SentCommand). one.place) same), ap (λ (one : SentCommand). one.numbering) (sym same) ∙ was.numbering_is)
         by_where was (inr within) = inr (λ place other.
             let here : cause ≡ place = same-some cause place (sym is ∙ other) in
-            subst (λ (p : ℕ). WasSentAt commands p entry.poi) here (record { command = was.command; sent = within; place_is = was.place_is; poi_is = was.poi_is }))
+            subst (λ (p : ℕ). WasSentAt commands p entry.numbering) here (record { command = was.command; sent = within; place_is = was.place_is; numbering_is = was.numbering_is }))
 
-        by_sent : WasSentAt (sent ∷ commands) cause entry.poi → ((entry.cause ≡ Some sent.place) × (sent.poi ≡ entry.poi)) ⊎ IsOfSent commands entry
+        by_sent : WasSentAt (sent ∷ commands) cause entry.numbering → ((entry.cause ≡ Some sent.place) × (sent.numbering ≡ entry.numbering)) ⊎ IsOfSent commands entry
         by_sent was = by_where was was.sent
 
 -- the link of a terminal with another POIID was made after each command to it
-linked-apart : (past : Past) (sent : SentCommand) (poi : List ℕ) → (sent.poi ≡ poi → ⊥) → IsLinkedSince past.links past.commands poi → IsLinkedSince past.links (sent ∷ past.commands) poi
+linked-apart : (past : Past) (sent : SentCommand) (poi : List ℕ) → (sent.numbering.poi ≡ poi → ⊥) → IsLinkedSince past.links past.commands poi → IsLinkedSince past.links (sent ∷ past.commands) poi
 linked-apart past sent poi apart is = record { link = is.link; made = is.made; poi_is = is.poi_is; later = later_than }
   where
-    later_than : (command : SentCommand) → In command (sent ∷ past.commands) → command.poi ≡ poi → command.place < is.link.place
-    later_than command (inl same) here = absurd (apart (ap (λ (one : SentCommand). one.poi) (sym same) ∙ here))
+    later_than : (command : SentCommand) → In command (sent ∷ past.commands) → command.numbering.poi ≡ poi → command.place < is.link.place
+    later_than command (inl same) here = absurd (apart (ap (λ (one : SentCommand). one.numbering.poi) (sym same) ∙ here))
     later_than command (inr within) here = is.later command within here
 
 -- the number of a terminal with another POIID that is ready
-ready-sent : (past now : Past) (book : List BookedEntry) (sent : SentCommand) (poi : List ℕ) (last : ℕ) → now.commands ≡ sent ∷ past.commands → past.place ≤ now.place → (sent.poi ≡ poi → ⊥)
-    → IsReadyNumber book past.commands poi past.place last → IsReadyNumber book now.commands poi now.place last
-ready-sent past now book sent poi last commands places apart is = subst (λ (all : List SentCommand). IsReadyNumber book all poi now.place last) (sym commands) (ready-later past.place now.place places book (sent ∷ past.commands) poi last (record {
+ready-sent : (past now : Past) (book : List BookedEntry) (sent : SentCommand) (numbering : Numbering) (last : ℕ) → now.commands ≡ sent ∷ past.commands → past.place ≤ now.place → (sent.numbering.poi ≡ numbering.poi → ⊥)
+    → IsReadyNumber book past.commands numbering past.place last → IsReadyNumber book now.commands numbering now.place last
+ready-sent past now book sent numbering last commands places apart is = subst (λ (all : List SentCommand). IsReadyNumber book all numbering now.place last) (sym commands) (ready-later past.place now.place places book (sent ∷ past.commands) numbering last (record {
   booked = is.booked;
-  greatest = λ entry within same of. is.greatest entry within same (of-sent-less sent past.commands entry (λ here. apart (here ∙ same)) of);
-  quiet = λ entry within same of. is.quiet entry within same (of-sent-less sent past.commands entry (λ here. apart (here ∙ same)) of);
+  greatest = λ entry within same of. is.greatest entry within same (of-sent-less sent past.commands entry (λ here. apart (ap (λ (n : Numbering). n.poi) (here ∙ same))) of);
+  quiet = λ entry within same of. is.quiet entry within same (of-sent-less sent past.commands entry (λ here. apart (ap (λ (n : Numbering). n.poi) here ∙ same)) of);
 }))
 
 -- the standing of a terminal with another POIID
-standing-sent : (past now : Past) (book : List BookedEntry) (sent : SentCommand) (poi : List ℕ) (standing : Standing) → now.commands ≡ sent ∷ past.commands → now.links ≡ past.links → past.place ≤ now.place → (sent.poi ≡ poi → ⊥)
-    → IsStandingNumbered past.links past.commands past.place book poi standing → IsStandingNumbered now.links now.commands now.place book poi standing
-standing-sent past now book sent poi (Unlinked due) commands links places apart is = tt
-standing-sent past now book sent poi Registering commands links places apart is =
-    subst (λ (all : List MadeLink). IsLinkedSince all now.commands poi) (sym links) (subst (λ (all : List SentCommand). IsLinkedSince past.links all poi) (sym commands) (linked-apart past sent poi apart is))
-standing-sent past now book sent poi Enquiring commands links places apart is =
-    subst (λ (all : List MadeLink). IsLinkedSince all now.commands poi) (sym links) (subst (λ (all : List SentCommand). IsLinkedSince past.links all poi) (sym commands) (linked-apart past sent poi apart is))
-standing-sent past now book sent poi (Ready last) commands links places apart is = ready-sent past now book sent poi last commands places apart is
-standing-sent past now book sent poi (Serving (Transaction slot) last) commands links places apart is = tt
-standing-sent past now book sent poi (Serving (EndOfDay header period) last) commands links places apart is = ready-sent past now book sent poi last commands places apart is
-standing-sent past now book sent poi (Serving (Display header results) last) commands links places apart is = ready-sent past now book sent poi last commands places apart is
-standing-sent past now book sent poi (Aside before reported) commands links places apart is = is
+standing-sent : (past now : Past) (book : List BookedEntry) (sent : SentCommand) (numbering : Numbering) (standing : Standing) → now.commands ≡ sent ∷ past.commands → now.links ≡ past.links → past.place ≤ now.place → (sent.numbering.poi ≡ numbering.poi → ⊥)
+    → IsStandingNumbered past.links past.commands past.place book numbering standing → IsStandingNumbered now.links now.commands now.place book numbering standing
+standing-sent past now book sent numbering (Unlinked due) commands links places apart is = tt
+standing-sent past now book sent numbering Registering commands links places apart is =
+    subst (λ (all : List MadeLink). IsLinkedSince all now.commands numbering.poi) (sym links) (subst (λ (all : List SentCommand). IsLinkedSince past.links all numbering.poi) (sym commands) (linked-apart past sent numbering.poi apart is))
+standing-sent past now book sent numbering Enquiring commands links places apart is =
+    subst (λ (all : List MadeLink). IsLinkedSince all now.commands numbering.poi) (sym links) (subst (λ (all : List SentCommand). IsLinkedSince past.links all numbering.poi) (sym commands) (linked-apart past sent numbering.poi apart is))
+standing-sent past now book sent numbering (Ready last) commands links places apart is = ready-sent past now book sent numbering last commands places apart is
+standing-sent past now book sent numbering (Serving (Transaction slot) last) commands links places apart is = tt
+standing-sent past now book sent numbering (Serving (EndOfDay header period) last) commands links places apart is = ready-sent past now book sent numbering last commands places apart is
+standing-sent past now book sent numbering (Serving (Display header results) last) commands links places apart is = ready-sent past now book sent numbering last commands places apart is
+standing-sent past now book sent numbering (Aside before reported) commands links places apart is = is
 
--- what is open at any POIID, once a command was sent for the key that is open at its own, which was quiet
-opened-sent : (book : List BookedEntry) (sent : SentCommand) (commands : List SentCommand) (poi : List ℕ) (key : Key) (before : ℕ)
-    → (sent.poi ≡ poi → sent.key ≡ Some key) → (sent.key ≡ Some key → sent.poi ≡ poi) → IsQuiet book commands sent.poi sent.place
-    → IsOpenNumbered book commands poi sent.place key before → IsOpenNumbered book (sent ∷ commands) poi (sent.place + 1) key before
-opened-sent book sent commands poi key before own back quiet is = record { sent_to = sent-to; base = base is.base; lower = lower; others = others }
+-- an Intent, once a command was sent for the key that is open at its POIID, which was quiet: one of the Intent's terminal is for its key, or for that of a later one
+intent-sent : (book : List BookedEntry) (sent : SentCommand) (commands : List SentCommand) (records : List Record) (slot : ℕ) (intent : TheIntent)
+    → (sent.numbering.poi ≡ intent.poi → IsSentFrom records intent.poi slot sent) → (sent.key ≡ Some (intent_key intent) → sent.numbering ≡ numbering_of intent) → IsQuiet book commands sent.numbering.poi sent.place
+    → IsIntentNumbered book commands sent.place records slot intent → IsIntentNumbered book (sent ∷ commands) (sent.place + 1) records slot intent
+intent-sent book sent commands records slot intent own back quiet is = record { sent_to = sent-to; base = base is.base; lower = lower; others = others }
   where
-    sent-to : (command : SentCommand) → In command (sent ∷ commands) → command.key ≡ Some key → command.poi ≡ poi
-    sent-to command (inl same) for_key = ap (λ (one : SentCommand). one.poi) same ∙ back (ap (λ (one : SentCommand). one.key) (sym same) ∙ for_key)
+    sent-to : (command : SentCommand) → In command (sent ∷ commands) → command.key ≡ Some (intent_key intent) → command.numbering ≡ numbering_of intent
+    sent-to command (inl same) for_key = ap (λ (one : SentCommand). one.numbering) same ∙ back (ap (λ (one : SentCommand). one.key) (sym same) ∙ for_key)
     sent-to command (inr within) for_key = is.sent_to command within for_key
 
-    earlier : HasEntryBefore book commands poi sent.place key before → HasEntryBefore book (sent ∷ commands) poi (sent.place + 1) key before
+    earlier : HasEntryBeforeAll book commands records (numbering_of intent) sent.place slot intent.before → HasEntryBeforeAll book (sent ∷ commands) records (numbering_of intent) (sent.place + 1) slot intent.before
     earlier e = record {
-      numbered = record { entry = e.numbered.entry; within = e.numbered.within; poi_is = e.numbered.poi_is; placed = let placed = e.numbered.placed in omega (arith, placed); number_is = e.numbered.number_is };
+      numbered = record { entry = e.numbered.entry; within = e.numbered.within; numbering_is = e.numbered.numbering_is; placed = let placed = e.numbered.placed in omega (arith, placed); number_is = e.numbered.number_is };
       earlier = each;
     }
       where
-        each : (command : SentCommand) → In command (sent ∷ commands) → command.key ≡ Some key → e.numbered.entry.place ≤ command.place
-        each command (inl same) for_key = subst (λ (one : SentCommand). e.numbered.entry.place ≤ one.place) (sym same) e.numbered.placed
-        each command (inr within) for_key = e.earlier command within for_key
+        each : (command : SentCommand) → In command (sent ∷ commands) → IsSentFrom records intent.poi slot command → e.numbered.entry.place ≤ command.place
+        each command (inl same) since = subst (λ (one : SentCommand). e.numbered.entry.place ≤ one.place) (sym same) e.numbered.placed
+        each command (inr within) since = e.earlier command within since
 
-    base : (before ≡ 0) ⊎ HasEntryBefore book commands poi sent.place key before → (before ≡ 0) ⊎ HasEntryBefore book (sent ∷ commands) poi (sent.place + 1) key before
+    base : (intent.before ≡ 0) ⊎ HasEntryBeforeAll book commands records (numbering_of intent) sent.place slot intent.before → (intent.before ≡ 0) ⊎ HasEntryBeforeAll book (sent ∷ commands) records (numbering_of intent) (sent.place + 1) slot intent.before
     base (inl none) = inl none
     base (inr e) = inr (earlier e)
 
-    -- the entry of the command just sent is the key's own
-    for_sent : (entry : BookedEntry) → entry.poi ≡ poi → entry.cause ≡ Some sent.place → sent.poi ≡ entry.poi → IsForKey (sent ∷ commands) key entry
-    for_sent entry same cause here = record { command = sent; sent = inl refl; key_is = own (here ∙ same); caused = cause }
+    -- the entry of the command just sent
+    of-this : (entry : BookedEntry) → entry.numbering.poi ≡ intent.poi → entry.cause ≡ Some sent.place → sent.numbering ≡ entry.numbering → IsEntryFrom (sent ∷ commands) records intent.poi slot entry
+    of-this entry same cause here = record { command = sent; sent = inl refl; since = own (ap (λ (n : Numbering). n.poi) here ∙ same); caused = cause }
 
-    lower : (entry : BookedEntry) → In entry book → entry.poi ≡ poi → IsOfSent (sent ∷ commands) entry → entry.approved ≡ true → (entry.number ≤ before) ⊎ IsForKey (sent ∷ commands) key entry
+    -- and one of a command before
+    of-those : (entry : BookedEntry) → IsEntryFrom commands records intent.poi slot entry → IsEntryFrom (sent ∷ commands) records intent.poi slot entry
+    of-those entry from = record { command = from.command; sent = inr from.sent; since = from.since; caused = from.caused }
+
+    lower : (entry : BookedEntry) → In entry book → entry.numbering ≡ numbering_of intent → IsOfSent (sent ∷ commands) entry → entry.approved ≡ true → (entry.number ≤ intent.before) ⊎ IsEntryFrom (sent ∷ commands) records intent.poi slot entry
     lower entry within same of approved = elim (sent-splits sent commands entry of) [
-      | inl here ↦ inr (for_sent entry same here.0 here.1)
+      | inl here ↦ inr (of-this entry (ap (λ (n : Numbering). n.poi) same) here.0 here.1)
       | inr there ↦ elim (is.lower entry within same there approved) [
         | inl low ↦ inl low
-        | inr for_key ↦ inr (for-key-more sent commands key entry for_key)
+        | inr from ↦ inr (of-those entry from)
       ]
     ]
 
-    others : (entry : BookedEntry) → In entry book → entry.poi ≡ poi → IsOfSent (sent ∷ commands) entry → (command : SentCommand) → In command (sent ∷ commands) → command.key ≡ Some key
-        → (entry.place ≤ command.place) ⊎ IsForKey (sent ∷ commands) key entry
+    others : (entry : BookedEntry) → In entry book → entry.numbering.poi ≡ intent.poi → IsOfSent (sent ∷ commands) entry → (command : SentCommand) → In command (sent ∷ commands) → command.key ≡ Some (intent_key intent)
+        → (entry.place ≤ command.place) ⊎ IsEntryFrom (sent ∷ commands) records intent.poi slot entry
     others entry within same of command sent_one for_key = elim (sent-splits sent commands entry of) [
-      | inl here ↦ inr (for_sent entry same here.0 here.1)
+      | inl here ↦ inr (of-this entry same here.0 here.1)
       | inr there ↦ by_command sent_one there
     ]
       where
-        by_command : In command (sent ∷ commands) → IsOfSent commands entry → (entry.place ≤ command.place) ⊎ IsForKey (sent ∷ commands) key entry
+        by_command : In command (sent ∷ commands) → IsOfSent commands entry → (entry.place ≤ command.place) ⊎ IsEntryFrom (sent ∷ commands) records intent.poi slot entry
         by_command (inl is_sent) there =
-            let here : sent.poi ≡ poi = back (ap (λ (one : SentCommand). one.key) (sym is_sent) ∙ for_key) in
+            let here : sent.numbering.poi ≡ intent.poi = ap (λ (n : Numbering). n.poi) (back (ap (λ (one : SentCommand). one.key) (sym is_sent) ∙ for_key)) in
             inl (subst (λ (one : SentCommand). entry.place ≤ one.place) (sym is_sent) (quiet entry within (same ∙ sym here) there))
         by_command (inr was) there = elim (is.others entry within same there command was for_key) [
           | inl early ↦ inl early
-          | inr its_own ↦ inr (for-key-more sent commands key entry its_own)
+          | inr from ↦ inr (of-those entry from)
         ]
 
 module _ (laws : LedgerLaws) (log : List Turn) (v : View) (past : Past) (book : List BookedEntry) (turn : Turn) (calls : List OwedCall) (pt : ℕ) (sending : Sending) (bytes : List ℕ) (o : Ordered log v) (h : Holds v past book) (n : Numbered v past book)
@@ -379,8 +376,8 @@ module _ (laws : LedgerLaws) (log : List Turn) (v : View) (past : Past) (book : 
   other-sent =
       call-numbered v after-send past (record past { place = past.place + 1 }) book n refl refl refl refl unlinked uncharged refl refl (same-coming v after-send (SendPt pt sending) last spares refl refl) n.standings
 
-  charge-sent : may_charge bytes ≡ true → Numbered after-send (record (with_sent_command v.scene (poi_of_number v.scene pt) bytes past) { place = past.place + 1 }) book
-  charge-sent charge = record {
+  charge-sent : (kind : BookedKind) → kind_of_command bytes ≡ Some kind → Numbered after-send (record (with_sent_command v.scene (numbering_of_number v.scene pt) bytes past kind) { place = past.place + 1 }) book
+  charge-sent kind kind_is = record {
     kept = kept;
     coming = subst (λ (records : List Record). AreRecordsNumbered book (sent ∷ past.commands) (past.place + 1) records) (sym (same-coming v after-send (SendPt pt sending) last spares refl refl ∙ last.now)) kept;
     standings = standings;
@@ -392,16 +389,19 @@ module _ (laws : LedgerLaws) (log : List Turn) (v : View) (past : Past) (book : 
   }
     where
       sent : SentCommand
-      sent = command_sent v.scene past (poi_of_number v.scene pt) bytes
+      sent = command_sent v.scene past (numbering_of_number v.scene pt) bytes kind
 
       charges_card : sending_charges sending ≡ true
-      charges_card = charging sending bytes first charge
+      charges_card = charging sending bytes first (ap (λ (found : Option BookedKind). is_some found) kind_is)
 
       asked : IsToBeAsked (records_coming v) v.scene.core past.commands pt
       asked = to-be-asked (records_coming v) v.scene.core past.commands pt sending charges_card (subst (λ l. AreCallsSound (records_coming v) v.scene.core past.commands past.occasion l) last.calls_are h.calls).0
 
-      poi_is : poi_of_number v.scene pt ≡ asked.terminal.pt.poi
-      poi_is = ap (λ (t : Option Terminal). unwrap_or (option_map (λ (terminal : Terminal). terminal.pt.poi) t) []) asked.found
+      numbering_is : numbering_of_number v.scene pt ≡ numbering_at asked.terminal.pt
+      numbering_is = numbering-there v.scene pt asked.terminal asked.found
+
+      poi_is : (numbering_of_number v.scene pt).poi ≡ asked.terminal.pt.poi
+      poi_is = ap (λ (n : Numbering). n.poi) numbering_is
 
       folded : AreFolded v.scene.kept
       folded = kept-folds log v (holds ledger_rules log v o.keeps)
@@ -413,12 +413,8 @@ module _ (laws : LedgerLaws) (log : List Turn) (v : View) (past : Past) (book : 
           by_own true is charged = ap (λ (b : Bool). b || false) charged
           by_own false is charged = no-true is
 
-      quiet : IsQuiet book past.commands (poi_of_number v.scene pt) past.place
+      quiet : IsQuiet book past.commands (numbering_of_number v.scene pt).poi past.place
       quiet = subst (λ (poi : List ℕ). IsQuiet book past.commands poi past.place) (sym poi_is) (n.asked pt asked.terminal asked.found owed)
-
-      -- what is open at a POIID has the command's key where it is the command's POIID, and only there
-      own : (poi : List ℕ) (slot : ℕ) (intent : TheIntent) → open_slot v.scene.kept poi ≡ Some slot → intent_at v.scene.kept slot ≡ Some intent → poi_of_number v.scene pt ≡ poi → open_key v.scene.kept (poi_of_number v.scene pt) ≡ Some (intent_key intent)
-      own poi slot intent opened is same = ap (open_key v.scene.kept) same ∙ open-key-is v.scene.kept poi slot intent opened is
 
       served : IsServedOpen v.scene.kept asked.terminal.pt.poi asked.last asked.slot
       served =
@@ -428,51 +424,70 @@ module _ (laws : LedgerLaws) (log : List Turn) (v : View) (past : Past) (book : 
       intent_kept : intent_at v.scene.kept asked.slot ≡ Some asked.intent
       intent_kept = subst (λ records. intent_at records asked.slot ≡ Some asked.intent) last.now asked.intent_is
 
-      key_is : open_key v.scene.kept (poi_of_number v.scene pt) ≡ Some (intent_key asked.intent)
+      key_is : open_key v.scene.kept (numbering_of_number v.scene pt).poi ≡ Some (intent_key asked.intent)
       key_is = ap (open_key v.scene.kept) poi_is ∙ served-key laws v.scene.kept asked.terminal.pt.poi asked.slot asked.last asked.intent folded served intent_kept
 
-      asked_poi : asked.intent.poi ≡ poi_of_number v.scene pt
-      asked_poi =
-          let parts = open-parts laws v.scene.kept folded asked.terminal.pt.poi asked.slot served.intent served.is_open in
-          open-poi laws v.scene.kept folded asked.terminal.pt.poi asked.slot asked.intent parts.slot_is intent_kept ∙ sym poi_is
+      slot_is : open_slot v.scene.kept asked.terminal.pt.poi ≡ Some asked.slot
+      slot_is = (open-parts laws v.scene.kept folded asked.terminal.pt.poi asked.slot served.intent served.is_open).slot_is
 
-      back : (poi : List ℕ) (slot : ℕ) (intent : TheIntent) → open_slot v.scene.kept poi ≡ Some slot → intent_at v.scene.kept slot ≡ Some intent → open_key v.scene.kept (poi_of_number v.scene pt) ≡ Some (intent_key intent) → poi_of_number v.scene pt ≡ poi
-      back poi slot intent opened is for_key =
-          let keys : intent_key asked.intent ≡ intent_key intent = same-some (intent_key asked.intent) (intent_key intent) (sym key_is ∙ for_key) in
-          sym asked_poi ∙ ap (λ (key : Key). key.poi) keys ∙ open-poi laws v.scene.kept folded poi slot intent opened is
+      asked_numbering : numbering_of asked.intent ≡ numbering_of_number v.scene pt
+      asked_numbering = open-numbering laws v.scene.kept folded asked.terminal.pt asked.slot asked.intent slot_is intent_kept ∙ sym numbering_is
+
+      -- the command is for the last Intent of its terminal
+      own : (slot : ℕ) (intent : TheIntent) → intent_at v.scene.kept slot ≡ Some intent → (numbering_of_number v.scene pt).poi ≡ intent.poi → IsSentFrom v.scene.kept intent.poi slot sent
+      own slot intent there same = record {
+        at = asked.slot;
+        intent = asked.intent;
+        from = open-is-last laws v.scene.kept folded asked.terminal.pt.poi asked.slot slot intent slot_is there (sym same ∙ poi_is);
+        intent_is = intent_kept;
+        poi_is = ap (λ (n : Numbering). n.poi) asked_numbering ∙ same;
+        key_is = key_is;
+      }
+
+      -- and for no other Intent
+      back : (slot : ℕ) (intent : TheIntent) → intent_at v.scene.kept slot ≡ Some intent → open_key v.scene.kept (numbering_of_number v.scene pt).poi ≡ Some (intent_key intent) → numbering_of_number v.scene pt ≡ numbering_of intent
+      back slot intent there for_key = sym asked_numbering ∙ ap numbering_of same
+        where
+          keys : intent_key asked.intent ≡ intent_key intent
+          keys = same-some (intent_key asked.intent) (intent_key intent) (sym key_is ∙ for_key)
+
+          slots : asked.slot ≡ slot
+          slots = same-some asked.slot slot (sym (own-slot laws v.scene.kept asked.slot asked.intent folded intent_kept) ∙ ap (slot_of v.scene.kept) keys ∙ own-slot laws v.scene.kept slot intent folded there)
+
+          same : asked.intent ≡ intent
+          same = same-some asked.intent intent (sym intent_kept ∙ ap (intent_at v.scene.kept) slots ∙ there)
 
       kept : AreRecordsNumbered book (sent ∷ past.commands) (past.place + 1) v.scene.kept
       kept = record {
-        opened = λ poi slot intent opened is.
-            opened-sent book sent past.commands poi (intent_key intent) intent.before (own poi slot intent opened is) (back poi slot intent opened is) quiet (n.kept.opened poi slot intent opened is);
-        last = λ poi. booked-later past.place (past.place + 1) (omega arith) book poi (last_number_of v.scene.kept poi) (n.kept.last poi);
+        intents = λ slot intent there. intent-sent book sent past.commands v.scene.kept slot intent (own slot intent there) (back slot intent there) quiet (n.kept.intents slot intent there);
+        last = λ numbering. booked-later past.place (past.place + 1) (omega arith) book numbering (last_number_of v.scene.kept numbering.poi) (n.kept.last numbering);
       }
 
       next_past : Past
-      next_past = record (with_sent_command v.scene (poi_of_number v.scene pt) bytes past) { place = past.place + 1 }
+      next_past = record (with_sent_command v.scene (numbering_of_number v.scene pt) bytes past kind) { place = past.place + 1 }
 
       standings : AreStandingsNumbered next_past book v.scene.core
       standings number terminal found = by_number (eqb number pt) refl
         where
-          by_number : (b : Bool) → eqb number pt ≡ b → IsStandingNumbered next_past.links next_past.commands next_past.place book terminal.pt.poi terminal.standing
+          by_number : (b : Bool) → eqb number pt ≡ b → IsStandingNumbered next_past.links next_past.commands next_past.place book (numbering_at terminal.pt) terminal.standing
           by_number true is =
               let there : slice_get v.scene.core.terminals pt ≡ Some terminal = subst (λ (at : ℕ). slice_get v.scene.core.terminals at ≡ Some terminal) (eqb-true number pt is) found in
               let same : asked.terminal ≡ terminal = same-some asked.terminal terminal (sym asked.found ∙ there) in
-              subst (λ (t : Terminal). IsStandingNumbered next_past.links next_past.commands next_past.place book t.pt.poi t.standing) same (subst (λ (s : Standing). IsStandingNumbered next_past.links next_past.commands next_past.place book asked.terminal.pt.poi s) (sym asked.standing_is) tt)
+              subst (λ (t : Terminal). IsStandingNumbered next_past.links next_past.commands next_past.place book (numbering_at t.pt) t.standing) same (subst (λ (s : Standing). IsStandingNumbered next_past.links next_past.commands next_past.place book (numbering_at asked.terminal.pt) s) (sym asked.standing_is) tt)
           by_number false is =
               let differs = eqb-false number pt is in
               let k = call-setup v (SendPt pt sending) o.agrees.run next in
               let apart : bytes_eq asked.terminal.pt.poi terminal.pt.poi ≡ false = apart-pois log v k pt number asked.terminal terminal o (λ same. differs (sym same)) asked.found found in
-              standing-sent past next_past book sent terminal.pt.poi terminal.standing refl refl (omega arith)
+              standing-sent past next_past book sent (numbering_at terminal.pt) terminal.standing refl refl (omega arith)
               (λ same. no-true (sym apart ∙ subst (λ (poi : List ℕ). bytes_eq asked.terminal.pt.poi poi ≡ true) (sym poi_is ∙ same) (bytes-itself asked.terminal.pt.poi))) (n.standings number terminal found)
 
   -- by the bytes that are sent
-  pt-sent-numbered : Numbered after-send (record (if may_charge bytes then with_sent_command v.scene (poi_of_number v.scene pt) bytes past else past) { place = past.place + 1 }) book
-  pt-sent-numbered = by_test (may_charge bytes) refl
+  pt-sent-numbered : Numbered after-send (record (with_sent_bytes v.scene (numbering_of_number v.scene pt) bytes past (kind_of_command bytes)) { place = past.place + 1 }) book
+  pt-sent-numbered = by-kind (kind_of_command bytes) refl
     where
-      by_test : (test : Bool) → may_charge bytes ≡ test → Numbered after-send (record (if test then with_sent_command v.scene (poi_of_number v.scene pt) bytes past else past) { place = past.place + 1 }) book
-      by_test true e = charge-sent e
-      by_test false e = other-sent
+      by-kind : (found : Option BookedKind) → kind_of_command bytes ≡ found → Numbered after-send (record (with_sent_bytes v.scene (numbering_of_number v.scene pt) bytes past found) { place = past.place + 1 }) book
+      by-kind None is = other-sent
+      by-kind (Some kind) is = charge-sent kind is
 
 pub sent-pt-numbers : (laws : LedgerLaws) (pt : ℕ) (bytes : List ℕ) (sent : Bool) → TurnNumbers (SentPt pt bytes sent)
 sent-pt-numbers laws pt bytes true log v past book o ok h n =

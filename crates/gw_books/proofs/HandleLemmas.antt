@@ -65,7 +65,7 @@ use Rattle.gw_owes.proofs.ServingLemmas.{reported-outcome, slot-small}
 use Rattle.gw_rules.specs.TranscriptLaws.{cut_owed}
 use Rattle.gw_books.specs.Agrees.{is_report}
 use Rattle.gw_books.specs.Books.{BookedEntry, Honest, is_true}
-use Rattle.gw_books.specs.Past.{Occasion, OfMessage, OfNothing, SentCommand, MadeLink, Ending, Approved, Declined, HeardEnd, Past, command_served, ending_with, ends_by, ends_of, occasion_decoded, served_in, waiting_keys}
+use Rattle.gw_books.specs.Past.{Occasion, OfMessage, OfNothing, SentCommand, MadeLink, Ending, Approved, Declined, HeardEnd, Past, command_served, ending_with, ends_by, ends_of, numbering_at, occasion_decoded, served_in, waiting_keys}
 use Rattle.gw_books.proofs.HandledLemmas.{IsHandled, IsMessageSmall, message-small}
 use Rattle.gw_books.proofs.Holding.{AreCallsSound, HasNoApproval, HoldsAfterRow, HoldsBetween, IsLastSentFor, IsOfTerminal, IsOutcomeTrue, IsReplySound, IsResolvedOn, IsServiceRepliable, IsServingSound, IsRepliable, is_report_after}
 use Rattle.gw_books.proofs.ListLemmas.{In, bytes-are, found-in}
@@ -240,7 +240,7 @@ module _ (laws : LedgerLaws) (known : Known) (past : Past) (book : List BookedEn
   -- ---- an enquiry
 
   -- a report: nothing of the terminal is open, or what is open gets its Outcome; its trace number is never too low
-  report-leaves : (report : Report) → IsReportFit report.trace report.approved → ReportFacts book past.commands known.kept old.pt.poi past.place report → Leaves (report_row (on_record known.kept old.pt.poi) known number now report)
+  report-leaves : (report : Report) → IsReportFit report.trace report.approved → ReportFacts book past.commands known.kept (numbering_at old.pt) past.place report → Leaves (report_row (on_record known.kept old.pt.poi) known number now report)
   report-leaves report fit facts = by-open (open_entry known.kept old.pt.poi) refl
     where
       transaction : (b : Bool) → IsRepliable (if b then Ready report.trace else Aside (last_number_of known.kept old.pt.poi) report.trace)
@@ -303,10 +303,10 @@ module _ (laws : LedgerLaws) (known : Known) (past : Past) (book : List BookedEn
     sent-for = subst (IsServingSound known.kept past.commands old.pt.poi) standing_is (holds.serving number old here) has.intent served.intent_is
 
     sent-there : In sent-for.command past.commands
-    sent-there = (found-in (λ (one : SentCommand). bytes_eq one.poi old.pt.poi) past.commands sent-for.command sent-for.last).0
+    sent-there = (found-in (λ (one : SentCommand). bytes_eq one.numbering.poi old.pt.poi) past.commands sent-for.command sent-for.last).0
 
     -- the end that the message brings of it is true
-    its-end-true : (meant : Heard) (ending : Ending) → meaning_at old message ≡ meant → ending_with (Some sent-for.command.place) meant ≡ Some ending → is_true book (end_heard past old.pt.poi ending) ending ≡ true
+    its-end-true : (meant : Heard) (ending : Ending) → meaning_at old message ≡ meant → ending_with (Some sent-for.command.place) meant ≡ Some ending → is_true book (end_heard past old.pt ending) ending ≡ true
     its-end-true meant ending means is =
         end-true past book number message old ending honest
         (ap (λ (s : Standing). ending_with (option_and_then (command_served past old.pt.poi) (served_in s)) (meaning_at old message)) standing_is
@@ -323,7 +323,7 @@ module _ (laws : LedgerLaws) (known : Known) (past : Past) (book : List BookedEn
           command = sent-for.command;
           sent = sent-there;
           key_is = sent-for.key_is;
-          booked = approval-borne book past.place sent-for.command (end_heard past old.pt.poi (Approved sent-for.command.place figures)) slot figures known.moment holds.heard
+          booked = approval-borne book past.place sent-for.command (end_heard past old.pt (Approved sent-for.command.place figures)) slot figures known.moment holds.heard
               (its-end-true (heard.Approved figures) (Approved sent-for.command.place figures) means refl);
         }
 
@@ -342,7 +342,7 @@ module _ (laws : LedgerLaws) (known : Known) (past : Past) (book : List BookedEn
         (decline-within slot result_code (was_stopped now.talk) known.moment small holds.in_order.moment) (λ approved. absurd cc) borne
       where
         none : HasNoApproval book sent-for.command
-        none = decline-borne book sent-for.command (end_heard past old.pt.poi (Declined sent-for.command.place trace)) trace
+        none = decline-borne book sent-for.command (end_heard past old.pt (Declined sent-for.command.place trace)) trace
             (its-end-true (heard.Declined result_code trace) (Declined sent-for.command.place trace) means refl)
 
         -- no other command was sent for the key

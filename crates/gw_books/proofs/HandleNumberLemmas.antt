@@ -1,9 +1,10 @@
 -- What a message of a terminal's dialogue leaves of trace numbers: what was booked by then is what the terminal's last trace number says.
-use Rattle.std.proofs.Common.{◌≡◌, ◌≤◌, ◌<◌, ◌∙◌, ℕ, ◌^◌, Bool, true, false, ◌&&◌, ◌||◌, not, leb, ltb, List, [], ◌∷◌, ◌++◌, length, inl, inr, refl, sym, ap, subst, arith, append-nil}
+use Rattle.std.proofs.Common.{◌≡◌, ◌≤◌, ◌<◌, ◌∙◌, ℕ, Bool, true, false, ◌&&◌, ◌||◌, not, leb, ltb, List, [], ◌∷◌, ◌++◌, length, inl, inr, refl, sym, ap, subst, arith, append-nil}
 use Rattle.std.specs.Prelude.{bytes_eq, if◌then◌else◌, slice_get, Option, Some, None, Result, Ok, Err}
 use Rattle.std.specs.List.{flat_map, list_all}
 use Rattle.std.specs.Option.{option_and_then, option_map, option_to_list}
 use Rattle.std.proofs.lemmas.Bool.{and_parts, leb-false, ltb-false, ltb-true}
+use Rattle.gw_base.specs.declared.condition.Condition.TheVariants.{Aborted}
 use Rattle.gw_base.specs.declared.figures.Figures.{Figures}
 use Rattle.sale_values.specs.declared.header.Header.{Header}
 use Rattle.sale_reply.specs.declared.reply.Shown.{Shown}
@@ -14,7 +15,6 @@ use Rattle.zvt_msg.specs.MessageDecode.{decode_pt_message}
 use Rattle.zvt_talk.specs.declared.meaning.Heard.{Heard}
 use Rattle.zvt_talk.specs.declared.meaning.Heard.TheVariants as heard
 use Rattle.zvt_talk.specs.Came.{is_taken}
-use Rattle.jrn_record.specs.Limits.{IsOutcome}
 use Rattle.jrn_record.specs.declared.records.Intent.{Intent as TheIntent}
 use Rattle.jrn_record.specs.declared.records.Outcome.{Outcome as TheOutcome}
 use Rattle.jrn_record.specs.declared.records.Record.{Record}
@@ -23,7 +23,7 @@ use Rattle.jrn_record.specs.declared.records.Record.TheVariants.{Outcome, Settle
 use Rattle.jrn_record.specs.declared.records.Settled.{Settled as TheSettled}
 use Rattle.gw_ledger.specs.declared.entry.Entry.{Entry as TheEntry}
 use Rattle.gw_ledger.specs.Accounts.{last_number_of}
-use Rattle.gw_ledger.specs.Fold.{AreFolded, fits, open_entry}
+use Rattle.gw_ledger.specs.Fold.{AreFolded, open_entry}
 use Rattle.gw_ledger.specs.Keys.{intent_key}
 use Rattle.xlate.specs.Codes.{condition_of_code}
 use Rattle.gw_owes.specs.declared.terminal.Service.{Service}
@@ -36,42 +36,48 @@ use Rattle.gw_owes.specs.Calls.{OwedCall, Ask, SendPt, CutPt, keep_calls, record
 use Rattle.gw_owes.specs.Core.{Core}
 use Rattle.gw_owes.specs.DeviceRequests.{requests_device}
 use Rattle.gw_owes.specs.Displays.{serving_display, with_customer_verdict}
-use Rattle.gw_owes.specs.Handling.{consequence, enquiring, enquiry_command, handle_decoded, handle_message, meaning_at, registering, serving, taken_as, taken_row, taking}
-use Rattle.gw_owes.specs.HeardLaws.{FitsRecord, IsReportFit}
+use Rattle.gw_owes.specs.Handling.{consequence, enquiring, enquiry_command, handle_decoded, handle_message, meaning_at, registering, serving, taken_row, taking}
 use Rattle.gw_owes.specs.Items.{Handle}
 use Rattle.gw_owes.specs.Links.{is_linked}
 use Rattle.gw_owes.specs.Reconciliations.{day_done, reply_to_settled, serving_day, settled_of}
 use Rattle.gw_owes.specs.RecordLaws.{AreRecordsOf, IsServedOpen, IsServiceOnRecord, IsTerminalInOrder}
 use Rattle.gw_owes.specs.Replies.{display_reply, failure, failure_reply, success}
 use Rattle.gw_owes.specs.Reply.{ReplyValue}
-use Rattle.gw_owes.specs.Reports.{Report, least_against, on_record, outcome_reported, report_against, report_row, standing_reported}
+use Rattle.gw_owes.specs.Reports.{Report, least_against, on_record, outcome_as_last, outcome_reported, report_against, report_row, standing_reported}
 use Rattle.gw_owes.specs.Row.{Known, Row, owing_nothing, owing_where}
-use Rattle.gw_owes.specs.Serving.{approved_outcome, approved_row, at_rest, breaking, declined_outcome, declined_row, done_with, last_after_decline, reply_to_outcome, resolves, serving_transaction, staying, stops, was_stopped}
+use Rattle.gw_owes.specs.Serving.{approved_outcome, approved_row, at_rest, breaking, declined_outcome, declined_row, done_with, last_after_decline, refused_outcome, reply_to_outcome, resolves, serving_transaction, staying, stops, was_stopped}
 use Rattle.gw_owes.specs.Terminals.{after_command, of_terminal, reply_calls_to, terminal_at, terminal_becomes, with_terminal}
 use Rattle.gw_owes.proofs.HandlingLemmas.{taken-cases}
-use Rattle.gw_owes.proofs.HeardLemmas.{meant-fits}
 use Rattle.gw_owes.proofs.KeepingLemmas.{replies-keep-nothing}
-use Rattle.gw_owes.proofs.LimitLemmas.{approval-within, decline-within}
-use Rattle.gw_owes.proofs.RecordLemmas.{IsOpenWith, LedgerLaws, folded-more, open-parts, open-without-outcome, open_entry_of}
-use Rattle.gw_owes.proofs.ServingLemmas.{IsOutcomeReported, reported-outcome, slot-small}
+use Rattle.gw_owes.proofs.RecordLemmas.{IsOpenWith, LedgerLaws, open-parts, open-without-outcome, open_entry_of}
 use Rattle.gw_books.specs.Books.{BookedEntry, Honest, is_caused_by, is_entry_number, is_over, is_true, was_booked}
-use Rattle.gw_books.specs.Past.{Approved, Declined, Ending, HeardEnd, OfMessage, Past, SentCommand, command_served, ending_with, ends_by, ends_of, occasion_decoded, served_in}
+use Rattle.gw_books.specs.Past.{Approved, Declined, Ending, HeardEnd, OfMessage, Past, SentCommand, command_served, ending_with, ends_by, ends_of, occasion_decoded, served_in, Numbering, numbering_at, numbering_of}
 use Rattle.gw_books.proofs.BookLemmas.{after-cause, booked-is, booked-later, booked-trace, earlier-lower, is-caused, numbered-within, of-sent, one-caused}
 use Rattle.gw_books.proofs.Holding.{HasApprovedEntry, HasNoApproval, HoldsBetween, IsLastSentFor, IsServingSound, charge_owed, deed_owed}
 use Rattle.gw_books.proofs.KeyedLemmas.{sent-below, sent-same}
-use Rattle.gw_books.proofs.ListLemmas.{In, all-in, bytes-are, found-in}
+use Rattle.gw_books.proofs.ListLemmas.{In, all-in, found-in}
 use Rattle.gw_books.proofs.NumberStepLemmas.{standings-set}
 use Rattle.gw_books.proofs.Numbering.{AreLinkedBeforeHearing, AreRecordsNumbered, AreStandingsNumbered, IsBookedNumber, IsForKey, IsOpenNumbered, IsQuiet, IsReadyNumber, IsStandingNumbered, NumberedAfterRow, NumberedBetween, RowNumbers}
-use Rattle.gw_books.proofs.RecordNumberLemmas.{numbered-with-outcome, numbered-with-settled, open-poi}
+use Rattle.gw_books.proofs.RecordNumberLemmas.{numbered-with-outcome, numbered-with-settled, open-numbered, open-numbering}
 use Rattle.gw_books.proofs.ReportLemmas.{ReportFacts, approval-borne, decline-borne, end-true, end_heard, or-other, past_with, report-borne}
 use Rattle.gw_books.proofs.RowNumberLemmas.{charge-is-deed, nothing-quiet, numbers-begun, quiet-numbers}
 use Rattle.gw_books.proofs.ServedReplyLemmas.{replies-no-deed}
+use Rattle.gw_base.specs.declared.setup.Pt.{Pt}
 
 -- the replies that a terminal's end owes ask for nothing
 replies-uncharged : (number : ℕ) (asker : Option ℕ) (reply : Option ReplyValue) → charge_owed number (reply_calls_to asker reply) ≡ false
 replies-uncharged number None reply = refl
 replies-uncharged number (Some till) None = refl
 replies-uncharged number (Some till) (Some reply) = refl
+
+-- the Outcome of what a report resolves is of its slot
+reported-slot : (entry : TheEntry) (report : Report) (moment : ℕ) → (outcome_reported entry report moment).slot ≡ entry.slot
+reported-slot entry report moment = by-report (ltb entry.intent.before report.trace) report.approved
+  where
+    by-report : (rises : Bool) (approved : Option Figures) → (if rises then outcome_as_last entry.slot approved report.result_code moment else refused_outcome entry.slot Aborted moment).slot ≡ entry.slot
+    by-report true None = refl
+    by-report true (Some figures) = refl
+    by-report false approved = refl
 
 -- ---- a message of a terminal
 
@@ -85,13 +91,13 @@ module _ (laws : LedgerLaws) (known : Known) (past : Past) (book : List BookedEn
 
   -- what the book has of the terminal in a standing
   abbrev Stands : Standing → Type 0
-  Stands standing = IsStandingNumbered past.links past.commands past.place book old.pt.poi standing
+  Stands standing = IsStandingNumbered past.links past.commands past.place book (numbering_at old.pt) standing
 
   -- the terminal becomes another with its settings
   set : (new : Terminal) → new.pt ≡ old.pt → Stands new.standing → AreStandingsNumbered past book (with_terminal known.core number new)
   set new same stands =
       standings-set past book known.core number old new here (λ other one apart found. n.standings other one found)
-      (subst (λ (poi : List ℕ). IsStandingNumbered past.links past.commands past.place book poi new.standing) (sym (ap (λ pt. pt.poi) same)) stands)
+      (subst (λ (pt : Pt). IsStandingNumbered past.links past.commands past.place book (numbering_at pt) new.standing) (sym same) stands)
 
   -- and nothing is kept, and nothing asked that may charge a card
   quiet-after : (new : Terminal) (calls : List OwedCall) → records_kept calls ≡ [] → deed_owed calls ≡ false → new.pt ≡ old.pt → Stands new.standing → After (terminal_becomes known number new calls)
@@ -114,19 +120,16 @@ module _ (laws : LedgerLaws) (known : Known) (past : Past) (book : List BookedEn
   stops-after = quiet-after (record now { awaited = one_more_awaited now.awaited }) _ refl refl refl (n.standings number old here)
 
   -- what is open has its Outcome
-  resolves-after : (standing : Standing) (outcome : TheOutcome) (intent : TheIntent) → open_entry known.kept old.pt.poi ≡ Some (open_entry_of outcome.slot intent) → IsOutcome outcome → (outcome.approved ≡ true → intent.before < outcome.number)
-      → IsBookedNumber book old.pt.poi past.place outcome.number → Stands standing → After (resolves known number now standing outcome)
-  resolves-after standing outcome intent is_open within above booked stands =
+  resolves-after : (standing : Standing) (outcome : TheOutcome) (intent : TheIntent) → open_entry known.kept old.pt.poi ≡ Some (open_entry_of outcome.slot intent) → IsBookedNumber book (numbering_at old.pt) past.place outcome.number → Stands standing → After (resolves known number now standing outcome)
+  resolves-after standing outcome intent is_open booked stands =
       let folded : AreFolded known.kept = between.in_order.folded in
       let opened : IsOpenWith known.kept old.pt.poi outcome.slot intent = open-parts laws known.kept folded old.pt.poi outcome.slot intent is_open in
-      let fitting : fits known.kept (Outcome outcome) ≡ true = laws.outcome known.kept folded old.pt.poi (open_entry_of outcome.slot intent) outcome is_open refl above in
-      let more : AreFolded (known.kept ++ Outcome outcome ∷ []) = folded-more known.kept (Outcome outcome) folded within fitting in
-      let poi : intent.poi ≡ old.pt.poi = open-poi laws known.kept folded old.pt.poi outcome.slot intent opened.slot_is opened.intent_is in
+      let same : numbering_of intent ≡ numbering_at old.pt = open-numbering laws known.kept folded old.pt outcome.slot intent opened.slot_is opened.intent_is in
       let kept : records_kept (keep_calls (length known.kept) (Outcome outcome) ++ reply_calls_to now.asker (reply_to_outcome known.kept outcome.slot outcome)) ≡ Outcome outcome ∷ [] =
       ap (λ (rest : List Record). Outcome outcome ∷ rest) (replies-keep-nothing now.asker (reply_to_outcome known.kept outcome.slot outcome)).no_records in
       record {
         records = subst (λ (records : List Record). AreRecordsNumbered book past.commands past.place records) (sym (ap (λ l. known.kept ++ l) kept))
-            (numbered-with-outcome laws known.kept outcome intent more opened.intent_is book past.commands past.place n.records (subst (λ (p : List ℕ). IsBookedNumber book p past.place outcome.number) (sym poi) booked));
+            (numbered-with-outcome known.kept outcome intent opened.intent_is book past.commands past.place n.records (subst (λ (n : Numbering). IsBookedNumber book n past.place outcome.number) (sym same) booked));
         standings = set (done_with now standing) refl stands;
         asked = λ other terminal found owed. let clash : true ≡ false = sym owed ∙ replies-uncharged other now.asker (reply_to_outcome known.kept outcome.slot outcome) in absurd cc;
       }
@@ -151,14 +154,14 @@ module _ (laws : LedgerLaws) (known : Known) (past : Past) (book : List BookedEn
     -- ---- an enquiry
 
     -- a report: what is open has its Outcome, and the terminal is ready
-    report-after : (trace : ℕ) (approved : Option Figures) (result_code : ℕ) → old.standing ≡ Enquiring → meaning_at old message ≡ heard.Told trace approved result_code → IsReportFit trace approved
+    report-after : (trace : ℕ) (approved : Option Figures) (result_code : ℕ) → old.standing ≡ Enquiring → meaning_at old message ≡ heard.Told trace approved result_code
         → After (report_row (on_record known.kept old.pt.poi) known number now (record { trace = trace; approved = approved; result_code = result_code }))
-    report-after trace approved result_code is means fit = by-open (open_entry known.kept old.pt.poi) refl facts.not_below
+    report-after trace approved result_code is means = by-open (open_entry known.kept old.pt.poi) refl facts.not_below
       where
         report : Report
         report = record { trace = trace; approved = approved; result_code = result_code }
 
-        facts : ReportFacts book past.commands known.kept old.pt.poi past.place report
+        facts : ReportFacts book past.commands known.kept (numbering_at old.pt) past.place report
         facts = report-borne laws known past book between n linked number old message here is honest trace approved result_code means
 
         by-least : (least : ℕ) → least ≤ trace → (b : Bool) → leb least trace ≡ b → Stands (if b then Ready trace else Aside least trace)
@@ -169,10 +172,8 @@ module _ (laws : LedgerLaws) (known : Known) (past : Past) (book : List BookedEn
             → After (if b then resolves known number now (Ready trace) (outcome_reported entry report known.moment) else terminal_becomes known number (at_rest now (Aside entry.intent.before trace)) [])
         by-entry entry opened above true test =
             let is_open : open_entry known.kept old.pt.poi ≡ Some (open_entry_of entry.slot entry.intent) = open-without-outcome laws known.kept between.in_order.folded old.pt.poi entry opened in
-            let is_reported : IsOutcomeReported entry.slot entry.intent.before trace (outcome_reported entry report known.moment) =
-            reported-outcome entry report known.moment (slot-small laws known between.in_order old.pt.poi entry.slot entry.intent is_open) between.in_order.moment fit in
             resolves-after (Ready trace) (outcome_reported entry report known.moment) entry.intent
-            (subst (λ (slot : ℕ). open_entry known.kept old.pt.poi ≡ Some (open_entry_of slot entry.intent)) (sym is_reported.slot_is) is_open) is_reported.within is_reported.above (facts.number entry known.moment opened) facts.ready
+            (subst (λ (slot : ℕ). open_entry known.kept old.pt.poi ≡ Some (open_entry_of slot entry.intent)) (sym (reported-slot entry report known.moment)) is_open) (facts.number entry known.moment opened) facts.ready
         by-entry entry opened above false test = absurd (let below = leb-false entry.intent.before trace test in omega (arith, below, above))
 
         by-open : (found : Option TheEntry) → open_entry known.kept old.pt.poi ≡ found → least_against found (last_number_of known.kept old.pt.poi) ≤ trace → After (report_against found (last_number_of known.kept old.pt.poi) known number now report)
@@ -181,18 +182,18 @@ module _ (laws : LedgerLaws) (known : Known) (past : Past) (book : List BookedEn
             (by-least (last_number_of known.kept old.pt.poi) least (leb (last_number_of known.kept old.pt.poi) trace) refl)
         by-open (Some entry) opened least = by-entry entry opened least (leb entry.intent.before trace) refl
 
-    enquiring-after : (meant : Heard) → old.standing ≡ Enquiring → meaning_at old message ≡ meant → FitsRecord meant → After (enquiring known number now meant)
-    enquiring-after (heard.Begun stop) is means fit = stays-after
-    enquiring-after (heard.Note intermediate_status) is means fit = stays-after
-    enquiring-after heard.Line is means fit = stays-after
-    enquiring-after heard.Block is means fit = stays-after
-    enquiring-after heard.Seen is means fit = stays-after
-    enquiring-after (heard.Approved figures) is means fit = stays-after
-    enquiring-after heard.Done is means fit = stays-after
-    enquiring-after (heard.Told trace approved result_code) is means fit = report-after trace approved result_code is means fit
-    enquiring-after (heard.Declined result_code reported) is means fit = breaks-after
-    enquiring-after heard.Unclear is means fit = breaks-after
-    enquiring-after heard.Stray is means fit = stays-after
+    enquiring-after : (meant : Heard) → old.standing ≡ Enquiring → meaning_at old message ≡ meant → After (enquiring known number now meant)
+    enquiring-after (heard.Begun stop) is means = stays-after
+    enquiring-after (heard.Note intermediate_status) is means = stays-after
+    enquiring-after heard.Line is means = stays-after
+    enquiring-after heard.Block is means = stays-after
+    enquiring-after heard.Seen is means = stays-after
+    enquiring-after (heard.Approved figures) is means = stays-after
+    enquiring-after heard.Done is means = stays-after
+    enquiring-after (heard.Told trace approved result_code) is means = report-after trace approved result_code is means
+    enquiring-after (heard.Declined result_code reported) is means = breaks-after
+    enquiring-after heard.Unclear is means = breaks-after
+    enquiring-after heard.Stray is means = stays-after
 
     -- ---- a payment
 
@@ -210,11 +211,13 @@ module _ (laws : LedgerLaws) (known : Known) (past : Past) (book : List BookedEn
       sent : IsLastSentFor past.commands old.pt.poi (intent_key intent)
       sent = subst (IsServingSound known.kept past.commands old.pt.poi) standing_is (between.serving number old here) intent opened.intent_is
 
-      found : In sent.command past.commands × (bytes_eq sent.command.poi old.pt.poi ≡ true)
-      found = found-in (λ (one : SentCommand). bytes_eq one.poi old.pt.poi) past.commands sent.command sent.last
+      found : In sent.command past.commands × (bytes_eq sent.command.numbering.poi old.pt.poi ≡ true)
+      found = found-in (λ (one : SentCommand). bytes_eq one.numbering.poi old.pt.poi) past.commands sent.command sent.last
 
-      key-open : IsOpenNumbered book past.commands old.pt.poi past.place (intent_key intent) intent.before
-      key-open = n.records.opened old.pt.poi slot intent opened.slot_is opened.intent_is
+      key-open : IsOpenNumbered book past.commands (numbering_at old.pt) past.place (intent_key intent) intent.before
+      key-open =
+          subst (λ (n : Numbering). IsOpenNumbered book past.commands n past.place (intent_key intent) intent.before) (open-numbering laws known.kept folded old.pt slot intent opened.slot_is opened.intent_is)
+          (open-numbered laws known.kept folded book past.commands past.place n.records.intents old.pt.poi slot intent opened.slot_is opened.intent_is)
 
       -- an entry of the key is the command's
       own-cause : (entry : BookedEntry) → IsForKey past.commands (intent_key intent) entry → entry.cause ≡ Some sent.command.place
@@ -234,7 +237,7 @@ module _ (laws : LedgerLaws) (known : Known) (past : Past) (book : List BookedEn
       ]
 
       -- the end that the message brings is true
-      end-is-true : (meant : Heard) (ending : Ending) → meaning_at old message ≡ meant → ending_with (Some sent.command.place) meant ≡ Some ending → is_true book (end_heard past old.pt.poi ending) ending ≡ true
+      end-is-true : (meant : Heard) (ending : Ending) → meaning_at old message ≡ meant → ending_with (Some sent.command.place) meant ≡ Some ending → is_true book (end_heard past old.pt ending) ending ≡ true
       end-is-true meant ending means is =
           end-true past book number message old ending honest
           (ap (λ (s : Standing). ending_with (option_and_then (command_served past old.pt.poi) (served_in s)) (meaning_at old message)) standing_is
@@ -243,19 +246,16 @@ module _ (laws : LedgerLaws) (known : Known) (past : Past) (book : List BookedEn
           ∙ is)
 
       -- the number before is booked, and so each later number that is
-      last-booked : IsBookedNumber book old.pt.poi past.place last
-      last-booked = subst (λ (trace : ℕ). IsBookedNumber book old.pt.poi past.place trace) has.before (elim key-open.base [
+      last-booked : IsBookedNumber book (numbering_at old.pt) past.place last
+      last-booked = subst (λ (trace : ℕ). IsBookedNumber book (numbering_at old.pt) past.place trace) has.before (elim key-open.base [
         | inl none ↦ inl none
         | inr before ↦ inr before.numbered
       ])
 
-      small : slot < 2 ^ 32
-      small = slot-small laws known between.in_order old.pt.poi slot intent has.is_open
-
       -- an approval: its number is above the one before, and the terminal is ready with it
       module _ (figures : Figures) (means : meaning_at old message ≡ heard.Approved figures) where
         abbrev end : HeardEnd
-        end = end_heard past old.pt.poi (Approved sent.command.place figures)
+        end = end_heard past old.pt (Approved sent.command.place figures)
 
         ends : is_true book end (Approved sent.command.place figures) ≡ true
         ends = end-is-true (heard.Approved figures) (Approved sent.command.place figures) means refl
@@ -263,11 +263,11 @@ module _ (laws : LedgerLaws) (known : Known) (past : Past) (book : List BookedEn
         booked : HasApprovedEntry book past.place sent.command (approved_outcome slot figures known.moment)
         booked = approval-borne book past.place sent.command end slot figures known.moment between.heard ends
 
-        booked-poi : booked.entry.poi ≡ old.pt.poi
-        booked-poi =
+        booked-numbering : booked.entry.numbering ≡ numbering_at old.pt
+        booked-numbering =
             let was = of-sent (past_with past number message old) book honest booked.entry booked.within booked.placed sent.command.place booked.caused in
             let one : was.command ≡ sent.command = sent-same past.place past.commands between.commands.falling was.command sent.command was.sent found.0 was.place_is in
-            sym was.poi_is ∙ ap (λ (command : SentCommand). command.poi) one ∙ bytes-are sent.command.poi old.pt.poi found.1
+            sym was.numbering_is ∙ ap (λ (command : SentCommand). command.numbering) one ∙ key-open.sent_to sent.command found.0 sent.key_is
 
         above : intent.before < figures.number
         above = elim key-open.base [
@@ -275,39 +275,38 @@ module _ (laws : LedgerLaws) (known : Known) (past : Past) (book : List BookedEn
           | inr before ↦
               (let early = before.earlier sent.command found.0 sent.key_is in
               let late = after-cause (past_with past number message old) book honest booked.entry booked.within sent.command.place booked.caused in
-              let rises = earlier-lower book honest.ordered before.numbered.entry booked.entry before.numbered.within booked.within (before.numbered.poi_is ∙ sym booked-poi) (omega (arith, early, late)) in
+              let rises = earlier-lower book honest.ordered before.numbered.entry booked.entry before.numbered.within booked.within (before.numbered.numbering_is ∙ sym booked-numbering) (omega (arith, early, late)) in
               let number = booked.number in
               let own = before.numbered.number_is in
               omega (arith, rises, number, own))
         ]
 
-        approved-ready : IsReadyNumber book past.commands old.pt.poi past.place figures.number
+        approved-ready : IsReadyNumber book past.commands (numbering_at old.pt) past.place figures.number
         approved-ready = record {
-          booked = inr (record { entry = booked.entry; within = booked.within; poi_is = booked-poi; placed = booked.placed; number_is = booked.number });
+          booked = inr (record { entry = booked.entry; within = booked.within; numbering_is = booked-numbering; placed = booked.placed; number_is = booked.number });
           greatest = λ entry within same of approved. elim (key-open.lower entry within same of approved) [
             | inl low ↦ omega (arith, low, above)
             | inr own ↦
-                (let one : entry ≡ booked.entry = one-caused book honest.ordered entry booked.entry within booked.within (same ∙ sym booked-poi) sent.command.place (own-cause entry own) booked.caused in
+                (let one : entry ≡ booked.entry = one-caused book honest.ordered entry booked.entry within booked.within (ap (λ (n : Numbering). n.poi) (same ∙ sym booked-numbering)) sent.command.place (own-cause entry own) booked.caused in
                 let number : entry.number ≡ figures.number = ap (λ (e : BookedEntry). e.number) one ∙ booked.number in
                 omega (arith, number))
           ];
           quiet = over-quiet end between.heard (and_parts (is_over book end sent.command.place) _ ends).0;
         }
 
-        approved-after : FitsRecord (heard.Approved figures) → After (approved_row known number now slot last figures)
-        approved-after fit = by-test (ltb last figures.number) refl
+        approved-after : After (approved_row known number now slot last figures)
+        approved-after = by-test (ltb last figures.number) refl
           where
             by-test : (b : Bool) → ltb last figures.number ≡ b
                 → After (if b then resolves known number now (Ready figures.number) (approved_outcome slot figures known.moment) else terminal_becomes known number (at_rest now (Aside last figures.number)) [])
             by-test true rises =
-                resolves-after (Ready figures.number) (approved_outcome slot figures known.moment) intent has.is_open (approval-within slot figures known.moment small fit between.in_order.moment) (λ approved. above)
-                approved-ready.booked approved-ready
+                resolves-after (Ready figures.number) (approved_outcome slot figures known.moment) intent has.is_open approved-ready.booked approved-ready
             by-test false falls = absurd (let below = ltb-false last figures.number falls in let before = has.before in let rises = above in omega (arith, below, before, rises))
 
       -- a decline: the terminal is ready with the last status' number where that is greater
       module _ (result_code : ℕ) (trace : Option ℕ) (means : meaning_at old message ≡ heard.Declined result_code trace) where
         abbrev decline-end : HeardEnd
-        decline-end = end_heard past old.pt.poi (Declined sent.command.place trace)
+        decline-end = end_heard past old.pt (Declined sent.command.place trace)
 
         decline-ends : is_true book decline-end (Declined sent.command.place trace) ≡ true
         decline-ends = end-is-true (heard.Declined result_code trace) (Declined sent.command.place trace) means refl
@@ -320,13 +319,13 @@ module _ (laws : LedgerLaws) (known : Known) (past : Past) (book : List BookedEn
             let over = and_parts (is_over book decline-end sent.command.place) _ decline-ends in
             (and_parts (list_all (λ (one : BookedEntry). not (is_caused_by sent.command.place one && one.approved)) book) (list_all (is_entry_number book decline-end) (option_to_list trace)) over.1).1
 
-        after-booked : (reported : Option ℕ) → list_all (is_entry_number book decline-end) (option_to_list reported) ≡ true → IsBookedNumber book old.pt.poi past.place (last_after_decline last reported)
+        after-booked : (reported : Option ℕ) → list_all (is_entry_number book decline-end) (option_to_list reported) ≡ true → IsBookedNumber book (numbering_at old.pt) past.place (last_after_decline last reported)
         after-booked None all = last-booked
         after-booked (Some reported) all = by-test (ltb last reported)
           where
-            by-test : (b : Bool) → IsBookedNumber book old.pt.poi past.place (if b then reported else last)
+            by-test : (b : Bool) → IsBookedNumber book (numbering_at old.pt) past.place (if b then reported else last)
             by-test true =
-                booked-later decline-end.place past.place between.heard book old.pt.poi reported (booked-trace past book decline-end reported (and_parts (is_entry_number book decline-end reported) true all).0)
+                booked-later decline-end.place past.place between.heard book (numbering_at old.pt) reported (booked-trace past book decline-end reported (and_parts (is_entry_number book decline-end reported) true all).0)
             by-test false = last-booked
 
         not-below : (reported : Option ℕ) → last ≤ last_after_decline last reported
@@ -337,7 +336,7 @@ module _ (laws : LedgerLaws) (known : Known) (past : Past) (book : List BookedEn
             by-test true rises = let rise = ltb-true last reported rises in omega (arith, rise)
             by-test false is = omega arith
 
-        declined-ready : IsReadyNumber book past.commands old.pt.poi past.place (last_after_decline last trace)
+        declined-ready : IsReadyNumber book past.commands (numbering_at old.pt) past.place (last_after_decline last trace)
         declined-ready = record {
           booked = after-booked trace traces;
           greatest = λ entry within same of approved. elim (key-open.lower entry within same of approved) [
@@ -349,32 +348,31 @@ module _ (laws : LedgerLaws) (known : Known) (past : Past) (book : List BookedEn
 
         declined-after : After (declined_row known number now slot last result_code trace)
         declined-after =
-            resolves-after (Ready (last_after_decline last trace)) (declined_outcome slot result_code (was_stopped now.talk) known.moment) intent has.is_open
-            (decline-within slot result_code (was_stopped now.talk) known.moment small between.in_order.moment) (λ approved. absurd cc) (inl refl) declined-ready
+            resolves-after (Ready (last_after_decline last trace)) (declined_outcome slot result_code (was_stopped now.talk) known.moment) intent has.is_open (inl refl) declined-ready
 
-      transaction-after : (meant : Heard) → meaning_at old message ≡ meant → FitsRecord meant → After (serving_transaction known number now slot last meant)
-      transaction-after (heard.Begun true) means fit = stops-after
-      transaction-after (heard.Begun false) means fit = stays-after
-      transaction-after (heard.Note intermediate_status) means fit = stays-after
-      transaction-after heard.Line means fit = stays-after
-      transaction-after heard.Block means fit = stays-after
-      transaction-after heard.Seen means fit = stays-after
-      transaction-after (heard.Approved figures) means fit = approved-after figures means fit
-      transaction-after heard.Done means fit = stays-after
-      transaction-after (heard.Told reported approved result_code) means fit = stays-after
-      transaction-after (heard.Declined result_code trace) means fit = declined-after result_code trace means
-      transaction-after heard.Unclear means fit = breaks-after
-      transaction-after heard.Stray means fit = stays-after
+      transaction-after : (meant : Heard) → meaning_at old message ≡ meant → After (serving_transaction known number now slot last meant)
+      transaction-after (heard.Begun true) means = stops-after
+      transaction-after (heard.Begun false) means = stays-after
+      transaction-after (heard.Note intermediate_status) means = stays-after
+      transaction-after heard.Line means = stays-after
+      transaction-after heard.Block means = stays-after
+      transaction-after heard.Seen means = stays-after
+      transaction-after (heard.Approved figures) means = approved-after figures means
+      transaction-after heard.Done means = stays-after
+      transaction-after (heard.Told reported approved result_code) means = stays-after
+      transaction-after (heard.Declined result_code trace) means = declined-after result_code trace means
+      transaction-after heard.Unclear means = breaks-after
+      transaction-after heard.Stray means = stays-after
 
     -- ---- an end of day, and a display
 
     -- the terminal is ready as before, nothing is kept, and its till gets the reply, where there is one
-    replied-after : (last : ℕ) (reply : Option ReplyValue) → IsReadyNumber book past.commands old.pt.poi past.place last → After (terminal_becomes known number (done_with now (Ready last)) (reply_calls_to now.asker reply))
+    replied-after : (last : ℕ) (reply : Option ReplyValue) → IsReadyNumber book past.commands (numbering_at old.pt) past.place last → After (terminal_becomes known number (done_with now (Ready last)) (reply_calls_to now.asker reply))
     replied-after last reply ready =
         quiet-after (done_with now (Ready last)) (reply_calls_to now.asker reply) (replies-keep-nothing now.asker reply).no_records (replies-no-deed now.asker reply) refl ready
 
     -- an end of day is done: its Settled is kept
-    settles-after : (header : Header) (last : ℕ) → IsReadyNumber book past.commands old.pt.poi past.place last → After (day_done known number now last header)
+    settles-after : (header : Header) (last : ℕ) → IsReadyNumber book past.commands (numbering_at old.pt) past.place last → After (day_done known number now last header)
     settles-after header last ready =
         let settled : TheSettled = settled_of hows.Acquirer header now.pt.currency known.moment in
         let reply : Option ReplyValue = reply_to_settled known.kept settled in
@@ -386,7 +384,7 @@ module _ (laws : LedgerLaws) (known : Known) (past : Past) (book : List BookedEn
           asked = λ other terminal found owed. let clash : true ≡ false = sym owed ∙ replies-uncharged other now.asker reply in absurd cc;
         }
 
-    day-after : (header : Header) (last : ℕ) (meant : Heard) → IsReadyNumber book past.commands old.pt.poi past.place last → After (serving_day known number now last header meant)
+    day-after : (header : Header) (last : ℕ) (meant : Heard) → IsReadyNumber book past.commands (numbering_at old.pt) past.place last → After (serving_day known number now last header meant)
     day-after header last (heard.Begun true) ready = stops-after
     day-after header last (heard.Begun false) ready = stays-after
     day-after header last (heard.Note intermediate_status) ready = stays-after
@@ -400,7 +398,7 @@ module _ (laws : LedgerLaws) (known : Known) (past : Past) (book : List BookedEn
     day-after header last heard.Unclear ready = breaks-after
     day-after header last heard.Stray ready = stays-after
 
-    display-after : (header : Header) (results : Option (List Shown)) (last : ℕ) (meant : Heard) → IsReadyNumber book past.commands old.pt.poi past.place last → After (serving_display known number now last header results meant)
+    display-after : (header : Header) (results : Option (List Shown)) (last : ℕ) (meant : Heard) → IsReadyNumber book past.commands (numbering_at old.pt) past.place last → After (serving_display known number now last header results meant)
     display-after header results last (heard.Begun stop) ready = stays-after
     display-after header results last (heard.Note intermediate_status) ready = stays-after
     display-after header results last heard.Line ready = stays-after
@@ -426,19 +424,19 @@ module _ (laws : LedgerLaws) (known : Known) (past : Past) (book : List BookedEn
 
     -- ---- in each standing
 
-    serving-after : (service : Service) (last : ℕ) (meant : Heard) → old.standing ≡ Serving service last → IsServiceOnRecord known.kept old.pt.poi last service → meaning_at old message ≡ meant → FitsRecord meant
+    serving-after : (service : Service) (last : ℕ) (meant : Heard) → old.standing ≡ Serving service last → IsServiceOnRecord known.kept old.pt.poi last service → meaning_at old message ≡ meant
         → After (serving known number now service last meant)
-    serving-after (Transaction slot) last meant is has means fit = transaction-after slot last is has meant means fit
-    serving-after (EndOfDay header period) last meant is has means fit = day-after header last meant (subst Stands is (n.standings number old here))
-    serving-after (Display header results) last meant is has means fit = display-after header results last meant (subst Stands is (n.standings number old here))
+    serving-after (Transaction slot) last meant is has means = transaction-after slot last is has meant means
+    serving-after (EndOfDay header period) last meant is has means = day-after header last meant (subst Stands is (n.standings number old here))
+    serving-after (Display header results) last meant is has means = display-after header results last meant (subst Stands is (n.standings number old here))
 
-    consequence-after : (standing : Standing) (meant : Heard) → old.standing ≡ standing → AreRecordsOf known.kept old.pt.poi standing → meaning_at old message ≡ meant → FitsRecord meant → After (consequence known number now meant standing)
-    consequence-after (Unlinked due) meant is has means fit = nothing-after
-    consequence-after Registering meant is has means fit = registering-after meant is
-    consequence-after Enquiring meant is has means fit = enquiring-after meant is means fit
-    consequence-after (Ready last) meant is has means fit = stays-after
-    consequence-after (Serving service last) meant is has means fit = serving-after service last meant is has means fit
-    consequence-after (Aside before reported) meant is has means fit = stays-after
+    consequence-after : (standing : Standing) (meant : Heard) → old.standing ≡ standing → AreRecordsOf known.kept old.pt.poi standing → meaning_at old message ≡ meant → After (consequence known number now meant standing)
+    consequence-after (Unlinked due) meant is has means = nothing-after
+    consequence-after Registering meant is has means = registering-after meant is
+    consequence-after Enquiring meant is has means = enquiring-after meant is means
+    consequence-after (Ready last) meant is has means = stays-after
+    consequence-after (Serving service last) meant is has means = serving-after service last meant is has means
+    consequence-after (Aside before reported) meant is has means = stays-after
 
     message-after : After (owing_where (is_linked old.standing) known (handle_message known number old message))
     message-after = by-linked (is_linked old.standing)
@@ -449,7 +447,7 @@ module _ (laws : LedgerLaws) (known : Known) (past : Past) (book : List BookedEn
         by-taken : (b : Bool) → After (owing_where b known (taken_row known number now (meaning_at old message) message))
         by-taken true =
             taken-cases After known number now (meaning_at old message) message
-            (consequence-after old.standing (meaning_at old message) refl in-order.records refl (meant-fits old.talk (taken_as old.awaited message) in-order.read)) (λ at stays. requests-after at.till at.request)
+            (consequence-after old.standing (meaning_at old message) refl in-order.records refl) (λ at stays. requests-after at.till at.request)
         by-taken false = nothing-after
 
         by-linked : (b : Bool) → After (owing_where b known (handle_message known number old message))

@@ -21,7 +21,7 @@ use Rattle.jrn_record.specs.declared.records.Record.TheVariants.{Outcome}
 use Rattle.gw_ledger.specs.Accounts.{open_slot}
 use Rattle.gw_ledger.specs.Fold.{AreFolded}
 use Rattle.gw_ledger.specs.Keys.{intent_key, slot_of}
-use Rattle.gw_ledger.specs.Slots.{asks_payment, intent_at}
+use Rattle.gw_ledger.specs.Slots.{intent_at}
 use Rattle.xlate.specs.Reply.{deal_category}
 use Rattle.gw_owes.specs.declared.terminal.Service.{Service}
 use Rattle.gw_owes.specs.declared.terminal.Service.TheVariants.{Transaction, EndOfDay, Display}
@@ -44,6 +44,7 @@ use Rattle.gw_rules.specs.Stage.{is_round, is_broken}
 use Rattle.gw_rules.specs.TranscriptLaws.{cut_owed}
 use Rattle.gw_rules.specs.View.{View, Move, Read, Make, after}
 use Rattle.gw_rules.proofs.RecordOrderLemmas.{Ordered}
+use Rattle.gw_books.specs.Kinds.{BookedKind, booked_kind_of}
 use Rattle.gw_books.specs.Past.{Occasion, SentCommand, MadeLink, HeardEnd, SentReply, MadePoll, Past, no_past, occasion_of, ends_of, past_after, waiting_keys}
 use Rattle.gw_books.specs.Books.{BookedEntry, Honest}
 use Rattle.gw_books.specs.Said.{Said, all_said, IsFramed}
@@ -100,20 +101,20 @@ abbrev pub AreFalling : ℕ → List SentCommand → Type 0
 AreFalling place [] = Unit {0}
 AreFalling place (command ∷ commands) = (command.place < place) × AreFalling command.place commands
 
--- the Intent of this key asks for a reversal, or for a payment
-pub record IsAskedAs (kept : List Record) (key : Key) (reversal : Bool) : Type 0 where
+-- the Intent of this key asks for what is of this kind
+pub record IsAskedAs (kept : List Record) (key : Key) (kind : BookedKind) : Type 0 where
   pub slot : ℕ
   pub intent : TheIntent
   pub intent_is : intent_at kept slot ≡ Some intent
   pub own : intent_key intent ≡ key
-  pub kind : reversal ≡ not (asks_payment intent.what)
+  pub kind_is : kind ≡ booked_kind_of intent.what
 
--- the command has a key whose Intent is kept, and is a reversal where that asks for one
+-- the command has a key whose Intent is kept, and is of the kind that it asks for
 pub record HasAcceptedKey (kept : List Record) (command : SentCommand) : Type 0 where
   pub key : Key
   pub key_is : command.key ≡ Some key
   pub accepted : is_accepted kept key ≡ true
-  pub asked : IsAskedAs kept key command.reversal
+  pub asked : IsAskedAs kept key command.kind
 
 -- each command has such a key, and no two have the same one
 pub record AreKeyed (kept : List Record) (place : ℕ) (commands : List SentCommand) : Type 0 where
@@ -128,7 +129,7 @@ IsUnsent commands key = (command : SentCommand) → In command commands → comm
 -- the last command to the POIID was sent for the key
 pub record IsLastSentFor (commands : List SentCommand) (poi : List ℕ) (key : Key) : Type 0 where
   pub command : SentCommand
-  pub last : find (λ (one : SentCommand). bytes_eq one.poi poi) commands ≡ Some command
+  pub last : find (λ (one : SentCommand). bytes_eq one.numbering.poi poi) commands ≡ Some command
   pub key_is : command.key ≡ Some key
 
 -- ---- replies
@@ -328,7 +329,7 @@ AreRepliable core = (number : ℕ) (terminal : Terminal) → slice_get core.term
 
 -- the end is the report of an enquiry on this link
 abbrev pub is_report_after : MadeLink → HeardEnd → Bool
-is_report_after link end = is_report end.ending && (bytes_eq end.poi link.poi && nat_lt link.place end.place)
+is_report_after link end = is_report end.ending && (bytes_eq end.numbering.poi link.poi && nat_lt link.place end.place)
 
 -- what was open as the link was made is resolved
 abbrev pub IsResolvedOn : List Record → MadeLink → Type 0

@@ -8,7 +8,8 @@ use Rattle.gw_site.specs.declared.turn.Turn.TheVariants.{Start, OpenFailed, Poll
 use Rattle.gw_rules.specs.Scene.{Scene}
 use Rattle.gw_rules.specs.Stage.{is_round}
 use Rattle.gw_rules.specs.View.{View, Move, Begin, Read, Make, after}
-use Rattle.gw_books.specs.Past.{SentCommand, MadeLink, HeardEnd, Past, first_occasion, ends_of, poi_of_number, may_charge, with_sent_command, with_turn, past_after, past_from}
+use Rattle.gw_books.specs.Kinds.{BookedKind, kind_of_command}
+use Rattle.gw_books.specs.Past.{SentCommand, MadeLink, HeardEnd, Past, first_occasion, ends_of, with_sent_command, with_turn, past_after, past_from, numbering_of_number, with_sent_bytes}
 use Rattle.gw_books.specs.Books.{BookedEntry, Honest, is_caused, is_cause, is_of_its_link, leaves_entry, is_true}
 use Rattle.gw_books.proofs.Holding.{HonestBefore}
 use Rattle.gw_books.proofs.ListLemmas.{In, all-in, all-from, any-in, any-from, in-second}
@@ -89,15 +90,15 @@ turn-grows scene past Stopped = as-it-was past (one_more past (with_turn scene p
 turn-grows scene past (Linked pt) = record { place = omega arith; commands = λ command within. inl within; links = λ link within. inr within; ends = λ end within. within }
 turn-grows scene past (LinkFailed pt) = as-it-was past (one_more past (with_turn scene past (LinkFailed pt))) (omega arith) refl refl refl
 turn-grows scene past (SentTill till bytes sent) = as-it-was past (one_more past (with_turn scene past (SentTill till bytes sent))) (omega arith) refl refl refl
-turn-grows scene past (SentPt pt bytes sent) = by (may_charge bytes)
+turn-grows scene past (SentPt pt bytes sent) = by (kind_of_command bytes)
   where
-    command-sent : (command : SentCommand) → In command (with_sent_command scene (poi_of_number scene pt) bytes past).commands → In command past.commands ⊎ (past.place ≤ command.place)
-    command-sent command (inl same) = inr (subst (λ (one : SentCommand). past.place ≤ one.place) (sym same) (omega arith))
-    command-sent command (inr within) = inl within
+    command-sent : (kind : BookedKind) (command : SentCommand) → In command (with_sent_command scene (numbering_of_number scene pt) bytes past kind).commands → In command past.commands ⊎ (past.place ≤ command.place)
+    command-sent kind command (inl same) = inr (subst (λ (one : SentCommand). past.place ≤ one.place) (sym same) (omega arith))
+    command-sent kind command (inr within) = inl within
 
-    by : (b : Bool) → Grows past (one_more past (if b then with_sent_command scene (poi_of_number scene pt) bytes past else past))
-    by true = record { place = omega arith; commands = command-sent; links = λ link within. within; ends = λ end within. within }
-    by false = as-it-was past (one_more past past) (omega arith) refl refl refl
+    by : (found : Option BookedKind) → Grows past (one_more past (with_sent_bytes scene (numbering_of_number scene pt) bytes past found))
+    by (Some kind) = record { place = omega arith; commands = command-sent kind; links = λ link within. within; ends = λ end within. within }
+    by None = as-it-was past (one_more past past) (omega arith) refl refl refl
 turn-grows scene past (CutTill till) = as-it-was past (one_more past (with_turn scene past (CutTill till))) (omega arith) refl refl refl
 turn-grows scene past (CutPt pt) = as-it-was past (one_more past (with_turn scene past (CutPt pt))) (omega arith) refl refl refl
 turn-grows scene past (Wrote offset bytes) = by (is_round scene.stage)

@@ -54,3 +54,4 @@ pub mod TurnHoldsLemmas
 pub mod TurnNumberLemmas
 pub mod WaitingLemmas
 pub mod WaitingRowLemmas
+pub mod WindowLemmas

@@ -27,7 +27,7 @@ use Rattle.gw_owes.specs.Dialogues.{IsDialogueOf, IsKindOfService, RunsService, 
 use Rattle.gw_owes.specs.Handling.{meaning_at, meaning_for, taken_as}
 use Rattle.gw_owes.proofs.HandlingLemmas.{IsShown}
 use Rattle.gw_books.specs.Agrees.{is_report}
-use Rattle.gw_books.specs.Past.{Ending, Approved, Declined, HeardEnd, Past, ending_at, ending_with, ends_by}
+use Rattle.gw_books.specs.Past.{Ending, Approved, Declined, HeardEnd, Past, ending_at, ending_with, ends_by, numbering_at}
 
 -- ---- what is reported
 
@@ -273,7 +273,7 @@ report-meant command heard.Stray ending is reports = cc
 pub record PassesHere (past : Past) (message : MessageValue) (terminal : Terminal) (test : HeardEnd → Bool) : Type 0 where
   pub ending : Ending
   pub ending_is : ending_at past terminal message ≡ Some ending
-  pub passes : test (record { place = past.heard; poi = terminal.pt.poi; ending = ending }) ≡ true
+  pub passes : test (record { place = past.heard; numbering = numbering_at terminal.pt; ending = ending }) ≡ true
 
 or-nothing : (b : Bool) → (b || false) ≡ true → b ≡ true
 or-nothing true is = refl
@@ -283,6 +283,6 @@ pub end-here : (past : Past) (message : MessageValue) (terminal : Terminal) (tes
 end-here past message terminal test some = by-ending (ending_at past terminal message) refl some
   where
     by-ending : (found : Option Ending) → ending_at past terminal message ≡ found
-        → list_any test (map (λ (ending : Ending). record { place = past.heard; poi = terminal.pt.poi; ending = ending }) (option_to_list found)) ≡ true → PassesHere past message terminal test
+        → list_any test (map (λ (ending : Ending). record { place = past.heard; numbering = numbering_at terminal.pt; ending = ending }) (option_to_list found)) ≡ true → PassesHere past message terminal test
     by-ending None is any = absurd cc
     by-ending (Some ending) is any = record { ending = ending; ending_is = is; passes = or-nothing _ any }

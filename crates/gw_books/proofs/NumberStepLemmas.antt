@@ -24,7 +24,7 @@ use Rattle.gw_rules.proofs.KeptLawLemmas.{holds}
 use Rattle.gw_rules.proofs.KeptPhaseLemmas.{Body, BodySync, FirstGate, FirstSync, GateSync, Holds as KeptHolds, LastSync, Mid, OpenGate, Phase}
 use Rattle.gw_rules.proofs.RecordOrderLemmas.{Ordered}
 use Rattle.gw_rules.proofs.RecordRowLemmas.{spares-none}
-use Rattle.gw_books.specs.Past.{MadeLink, SentCommand, Past}
+use Rattle.gw_books.specs.Past.{MadeLink, SentCommand, Past, Numbering, numbering_at}
 use Rattle.gw_books.specs.Books.{BookedEntry}
 use Rattle.gw_books.proofs.BookLemmas.{quiet-later, ready-later, records-later}
 use Rattle.gw_books.proofs.Holding.{charge_owed, charges_terminal, is_handle}
@@ -148,39 +148,39 @@ pub record Stays (v w : View) (past now : Past) (book : List BookedEntry) : Type
   pub linked : list_any is_handle w.items ≡ true → (link : MadeLink) → In link past.links → link.place ≤ now.heard
 
 -- a standing stays as it is numbered
-pub standing-stays : (past now : Past) (book : List BookedEntry) (poi : List ℕ) (standing : Standing) → now.commands ≡ past.commands → now.links ≡ past.links → past.place ≤ now.place
-    → IsStandingNumbered past.links past.commands past.place book poi standing → IsStandingNumbered now.links now.commands now.place book poi standing
-standing-stays past now book poi (Unlinked due) commands links places is = tt
-standing-stays past now book poi Registering commands links places is =
-    subst (λ (all : List MadeLink). IsLinkedSince all now.commands poi) (sym links) (subst (λ (sent : List SentCommand). IsLinkedSince past.links sent poi) (sym commands) is)
-standing-stays past now book poi Enquiring commands links places is =
-    subst (λ (all : List MadeLink). IsLinkedSince all now.commands poi) (sym links) (subst (λ (sent : List SentCommand). IsLinkedSince past.links sent poi) (sym commands) is)
-standing-stays past now book poi (Ready last) commands links places is =
-    subst (λ (sent : List SentCommand). IsReadyNumber book sent poi now.place last) (sym commands) (ready-later past.place now.place places book past.commands poi last is)
-standing-stays past now book poi (Serving (Transaction slot) last) commands links places is = tt
-standing-stays past now book poi (Serving (EndOfDay header period) last) commands links places is =
-    subst (λ (sent : List SentCommand). IsReadyNumber book sent poi now.place last) (sym commands) (ready-later past.place now.place places book past.commands poi last is)
-standing-stays past now book poi (Serving (Display header results) last) commands links places is =
-    subst (λ (sent : List SentCommand). IsReadyNumber book sent poi now.place last) (sym commands) (ready-later past.place now.place places book past.commands poi last is)
-standing-stays past now book poi (Aside before reported) commands links places is = is
+pub standing-stays : (past now : Past) (book : List BookedEntry) (numbering : Numbering) (standing : Standing) → now.commands ≡ past.commands → now.links ≡ past.links → past.place ≤ now.place
+    → IsStandingNumbered past.links past.commands past.place book numbering standing → IsStandingNumbered now.links now.commands now.place book numbering standing
+standing-stays past now book numbering (Unlinked due) commands links places is = tt
+standing-stays past now book numbering Registering commands links places is =
+    subst (λ (all : List MadeLink). IsLinkedSince all now.commands numbering.poi) (sym links) (subst (λ (sent : List SentCommand). IsLinkedSince past.links sent numbering.poi) (sym commands) is)
+standing-stays past now book numbering Enquiring commands links places is =
+    subst (λ (all : List MadeLink). IsLinkedSince all now.commands numbering.poi) (sym links) (subst (λ (sent : List SentCommand). IsLinkedSince past.links sent numbering.poi) (sym commands) is)
+standing-stays past now book numbering (Ready last) commands links places is =
+    subst (λ (sent : List SentCommand). IsReadyNumber book sent numbering now.place last) (sym commands) (ready-later past.place now.place places book past.commands numbering last is)
+standing-stays past now book numbering (Serving (Transaction slot) last) commands links places is = tt
+standing-stays past now book numbering (Serving (EndOfDay header period) last) commands links places is =
+    subst (λ (sent : List SentCommand). IsReadyNumber book sent numbering now.place last) (sym commands) (ready-later past.place now.place places book past.commands numbering last is)
+standing-stays past now book numbering (Serving (Display header results) last) commands links places is =
+    subst (λ (sent : List SentCommand). IsReadyNumber book sent numbering now.place last) (sym commands) (ready-later past.place now.place places book past.commands numbering last is)
+standing-stays past now book numbering (Aside before reported) commands links places is = is
 
 -- one terminal becomes another
 pub standings-set : (past : Past) (book : List BookedEntry) (core : Core) (number : ℕ) (old new : Terminal) → slice_get core.terminals number ≡ Some old
-    → ((other : ℕ) (terminal : Terminal) → other ≢ number → slice_get core.terminals other ≡ Some terminal → IsStandingNumbered past.links past.commands past.place book terminal.pt.poi terminal.standing)
-    → IsStandingNumbered past.links past.commands past.place book new.pt.poi new.standing → AreStandingsNumbered past book (with_terminal core number new)
+    → ((other : ℕ) (terminal : Terminal) → other ≢ number → slice_get core.terminals other ≡ Some terminal → IsStandingNumbered past.links past.commands past.place book (numbering_at terminal.pt) terminal.standing)
+    → IsStandingNumbered past.links past.commands past.place book (numbering_at new.pt) new.standing → AreStandingsNumbered past book (with_terminal core number new)
 standings-set past book core number old new here others own other terminal found = by_test (eqb other number) refl
   where
-    by_test : (b : Bool) → eqb other number ≡ b → IsStandingNumbered past.links past.commands past.place book terminal.pt.poi terminal.standing
+    by_test : (b : Bool) → eqb other number ≡ b → IsStandingNumbered past.links past.commands past.place book (numbering_at terminal.pt) terminal.standing
     by_test true is =
         let there : slice_get (with_terminal core number new).terminals number ≡ Some terminal = subst (λ (at : ℕ). slice_get (with_terminal core number new).terminals at ≡ Some terminal) (eqb-true other number is) found in
-        subst (λ (t : Terminal). IsStandingNumbered past.links past.commands past.place book t.pt.poi t.standing) (same-some new terminal (sym (new-is-there core.terminals number old new here) ∙ there)) own
+        subst (λ (t : Terminal). IsStandingNumbered past.links past.commands past.place book (numbering_at t.pt) t.standing) (same-some new terminal (sym (new-is-there core.terminals number old new here) ∙ there)) own
     by_test false is = let apart = eqb-false other number is in others other terminal apart (sym (others-stay core.terminals number other new apart) ∙ found)
 
 pub stays-numbered : (v w : View) (past now : Past) (book : List BookedEntry) → Numbered v past book → Stays v w past now book → Numbered w now book
 stays-numbered v w past now book n s = record {
   kept = records-stay w.scene.kept s.kept;
   coming = records-stay (records_coming w) s.coming;
-  standings = λ number terminal found. standing-stays past now book terminal.pt.poi terminal.standing s.commands s.links places (s.standings number terminal found);
+  standings = λ number terminal found. standing-stays past now book (numbering_at terminal.pt) terminal.standing s.commands s.links places (s.standings number terminal found);
   asked = λ number terminal found owed.
       subst (λ (sent : List SentCommand). IsQuiet book sent terminal.pt.poi now.place) (sym s.commands) (quiet-later past.place now.place places book past.commands terminal.pt.poi (s.asked number terminal found owed));
   made = λ link within. let before = n.made link (subst (λ (all : List MadeLink). In link all) s.links within) in let place = s.place in omega (arith, before, place);

@@ -6,7 +6,7 @@ use Rattle.gw_site.specs.Outside.{Connection}
 use Rattle.gw_site.specs.declared.turn.Turn.{Turn}
 use Rattle.jrn_record.specs.declared.records.Intent.{Intent as TheIntent}
 use Rattle.jrn_record.specs.declared.records.Record.{Record}
-use Rattle.gw_ledger.specs.Accounts.{open_slot, last_number_of}
+use Rattle.gw_ledger.specs.Accounts.{last_number_of}
 use Rattle.gw_ledger.specs.Keys.{intent_key}
 use Rattle.gw_ledger.specs.Slots.{intent_at}
 use Rattle.gw_owes.specs.declared.terminal.Service.{Service}
@@ -26,7 +26,7 @@ use Rattle.gw_rules.specs.RecordOrder.{records_coming}
 use Rattle.gw_rules.specs.Scene.{Scene}
 use Rattle.gw_rules.specs.View.{View, Begin, Read, Make, after}
 use Rattle.gw_rules.proofs.RecordOrderLemmas.{Ordered}
-use Rattle.gw_books.specs.Past.{SentCommand, MadeLink, Past, past_after}
+use Rattle.gw_books.specs.Past.{Numbering, numbering_at, numbering_of, SentCommand, MadeLink, Past, past_after}
 use Rattle.gw_books.specs.Books.{BookedEntry, Honest}
 use Rattle.gw_books.proofs.HandledLemmas.{IsItemHandled}
 use Rattle.gw_books.proofs.Holding.{Holds, HoldsAfterRow, HoldsBetween, begun_past, charge_owed, is_handle, records_after}
@@ -34,16 +34,16 @@ use Rattle.gw_books.proofs.ListLemmas.{In}
 
 -- ---- entries
 
--- a command was sent at this place to the terminal with this POIID
-pub record WasSentAt (commands : List SentCommand) (place : ℕ) (poi : List ℕ) : Type 0 where
+-- a command was sent at this place to the terminal with this numbering
+pub record WasSentAt (commands : List SentCommand) (place : ℕ) (numbering : Numbering) : Type 0 where
   pub command : SentCommand
   pub sent : In command commands
   pub place_is : command.place ≡ place
-  pub poi_is : command.poi ≡ poi
+  pub numbering_is : command.numbering ≡ numbering
 
 -- the command of the entry was sent, where it has one
 abbrev pub IsOfSent : List SentCommand → BookedEntry → Type 0
-IsOfSent commands entry = (place : ℕ) → entry.cause ≡ Some place → WasSentAt commands place entry.poi
+IsOfSent commands entry = (place : ℕ) → entry.cause ≡ Some place → WasSentAt commands place entry.numbering
 
 -- the entry is that of a command which was sent for this key
 pub record IsForKey (commands : List SentCommand) (key : Key) (entry : BookedEntry) : Type 0 where
@@ -55,57 +55,87 @@ pub record IsForKey (commands : List SentCommand) (key : Key) (entry : BookedEnt
 -- ---- numbers
 
 -- by this place the terminal has an entry with this trace number
-pub record HasNumberedEntry (book : List BookedEntry) (poi : List ℕ) (place trace : ℕ) : Type 0 where
+pub record HasNumberedEntry (book : List BookedEntry) (numbering : Numbering) (place trace : ℕ) : Type 0 where
   pub entry : BookedEntry
   pub within : In entry book
-  pub poi_is : entry.poi ≡ poi
+  pub numbering_is : entry.numbering ≡ numbering
   pub placed : entry.place ≤ place
   pub number_is : entry.number ≡ trace
 
 -- the trace number is 0, or that of an entry
-abbrev pub IsBookedNumber : List BookedEntry → List ℕ → ℕ → ℕ → Type 0
-IsBookedNumber book poi place trace = (trace ≡ 0) ⊎ HasNumberedEntry book poi place trace
+abbrev pub IsBookedNumber : List BookedEntry → Numbering → ℕ → ℕ → Type 0
+IsBookedNumber book numbering place trace = (trace ≡ 0) ⊎ HasNumberedEntry book numbering place trace
 
 -- by this place all entries of the terminal's commands that were sent are booked
 abbrev pub IsQuiet : List BookedEntry → List SentCommand → List ℕ → ℕ → Type 0
-IsQuiet book commands poi place = (entry : BookedEntry) → In entry book → entry.poi ≡ poi → IsOfSent commands entry → entry.place ≤ place
+IsQuiet book commands poi place = (entry : BookedEntry) → In entry book → entry.numbering.poi ≡ poi → IsOfSent commands entry → entry.place ≤ place
 
 -- no approved one of them has a greater number
-abbrev pub IsGreatest : List BookedEntry → List SentCommand → List ℕ → ℕ → Type 0
-IsGreatest book commands poi trace = (entry : BookedEntry) → In entry book → entry.poi ≡ poi → IsOfSent commands entry → entry.approved ≡ true → entry.number ≤ trace
+abbrev pub IsGreatest : List BookedEntry → List SentCommand → Numbering → ℕ → Type 0
+IsGreatest book commands numbering trace = (entry : BookedEntry) → In entry book → entry.numbering ≡ numbering → IsOfSent commands entry → entry.approved ≡ true → entry.number ≤ trace
 
 -- the last trace number of a terminal that is ready
-pub record IsReadyNumber (book : List BookedEntry) (commands : List SentCommand) (poi : List ℕ) (place last : ℕ) : Type 0 where
-  pub booked : IsBookedNumber book poi place last
-  pub greatest : IsGreatest book commands poi last
-  pub quiet : IsQuiet book commands poi place
+pub record IsReadyNumber (book : List BookedEntry) (commands : List SentCommand) (numbering : Numbering) (place last : ℕ) : Type 0 where
+  pub booked : IsBookedNumber book numbering place last
+  pub greatest : IsGreatest book commands numbering last
+  pub quiet : IsQuiet book commands numbering.poi place
 
 -- ---- the key that is open
 
 -- the number before is that of an entry which was booked before each command that was sent for the key
-pub record HasEntryBefore (book : List BookedEntry) (commands : List SentCommand) (poi : List ℕ) (place : ℕ) (key : Key) (before : ℕ) : Type 0 where
-  pub numbered : HasNumberedEntry book poi place before
+pub record HasEntryBefore (book : List BookedEntry) (commands : List SentCommand) (numbering : Numbering) (place : ℕ) (key : Key) (before : ℕ) : Type 0 where
+  pub numbered : HasNumberedEntry book numbering place before
   pub earlier : (command : SentCommand) → In command commands → command.key ≡ Some key → (HasNumberedEntry.entry numbered).place ≤ command.place
 
 -- of a key that is open, and the trace number before it: each command for it was sent to the terminal; the number is 0, or was booked before; no approved entry of another command has a greater number, and each of another was booked before the key's own command was sent
-pub record IsOpenNumbered (book : List BookedEntry) (commands : List SentCommand) (poi : List ℕ) (place : ℕ) (key : Key) (before : ℕ) : Type 0 where
-  pub sent_to : (command : SentCommand) → In command commands → command.key ≡ Some key → command.poi ≡ poi
-  pub base : (before ≡ 0) ⊎ HasEntryBefore book commands poi place key before
-  pub lower : (entry : BookedEntry) → In entry book → entry.poi ≡ poi → IsOfSent commands entry → entry.approved ≡ true → (entry.number ≤ before) ⊎ IsForKey commands key entry
-  pub others : (entry : BookedEntry) → In entry book → entry.poi ≡ poi → IsOfSent commands entry → (command : SentCommand) → In command commands → command.key ≡ Some key → (entry.place ≤ command.place) ⊎ IsForKey commands key entry
+pub record IsOpenNumbered (book : List BookedEntry) (commands : List SentCommand) (numbering : Numbering) (place : ℕ) (key : Key) (before : ℕ) : Type 0 where
+  pub sent_to : (command : SentCommand) → In command commands → command.key ≡ Some key → command.numbering ≡ numbering
+  pub base : (before ≡ 0) ⊎ HasEntryBefore book commands numbering place key before
+  pub lower : (entry : BookedEntry) → In entry book → entry.numbering ≡ numbering → IsOfSent commands entry → entry.approved ≡ true → (entry.number ≤ before) ⊎ IsForKey commands key entry
+  pub others : (entry : BookedEntry) → In entry book → entry.numbering.poi ≡ numbering.poi → IsOfSent commands entry → (command : SentCommand) → In command commands → command.key ≡ Some key → (entry.place ≤ command.place) ⊎ IsForKey commands key entry
 
--- so it is of each POIID's
-abbrev pub AreOpenNumbered : List BookedEntry → List SentCommand → ℕ → List Record → Type 0
-AreOpenNumbered book commands place records =
-    (poi : List ℕ) (slot : ℕ) (intent : TheIntent) → open_slot records poi ≡ Some slot → intent_at records slot ≡ Some intent → IsOpenNumbered book commands poi place (intent_key intent) intent.before
+-- ---- each key
 
--- the last trace number of each POIID on record is booked
+-- the command was sent for the key of an Intent of this terminal, in this slot or a later one
+pub record IsSentFrom (records : List Record) (poi : List ℕ) (slot : ℕ) (command : SentCommand) : Type 0 where
+  pub at : ℕ
+  pub intent : TheIntent
+  pub from : slot ≤ at
+  pub intent_is : intent_at records at ≡ Some intent
+  pub poi_is : intent.poi ≡ poi
+  pub key_is : command.key ≡ Some (intent_key intent)
+
+-- the entry is that of such a command
+pub record IsEntryFrom (commands : List SentCommand) (records : List Record) (poi : List ℕ) (slot : ℕ) (entry : BookedEntry) : Type 0 where
+  pub command : SentCommand
+  pub sent : In command commands
+  pub since : IsSentFrom records poi slot command
+  pub caused : entry.cause ≡ Some command.place
+
+-- the number before is that of an entry which was booked before each such command
+pub record HasEntryBeforeAll (book : List BookedEntry) (commands : List SentCommand) (records : List Record) (numbering : Numbering) (place slot before : ℕ) : Type 0 where
+  pub numbered : HasNumberedEntry book numbering place before
+  pub earlier : (command : SentCommand) → In command commands → IsSentFrom records numbering.poi slot command → (HasNumberedEntry.entry numbered).place ≤ command.place
+
+-- of an Intent in its slot, open or not, and the trace number before it: each command for its key was sent to its terminal; the number is 0, or was booked before its command and those of all later Intents of its terminal; what its terminal has approved with a greater number is of these commands alone, and so is each entry that was booked after its own command was sent
+pub record IsIntentNumbered (book : List BookedEntry) (commands : List SentCommand) (place : ℕ) (records : List Record) (slot : ℕ) (intent : TheIntent) : Type 0 where
+  pub sent_to : (command : SentCommand) → In command commands → command.key ≡ Some (intent_key intent) → command.numbering ≡ numbering_of intent
+  pub base : (intent.before ≡ 0) ⊎ HasEntryBeforeAll book commands records (numbering_of intent) place slot intent.before
+  pub lower : (entry : BookedEntry) → In entry book → entry.numbering ≡ numbering_of intent → IsOfSent commands entry → entry.approved ≡ true → (entry.number ≤ intent.before) ⊎ IsEntryFrom commands records intent.poi slot entry
+  pub others : (entry : BookedEntry) → In entry book → entry.numbering.poi ≡ intent.poi → IsOfSent commands entry → (command : SentCommand) → In command commands → command.key ≡ Some (intent_key intent)
+      → (entry.place ≤ command.place) ⊎ IsEntryFrom commands records intent.poi slot entry
+
+-- so it is of each Intent of the records
+abbrev pub AreIntentsNumbered : List BookedEntry → List SentCommand → ℕ → List Record → Type 0
+AreIntentsNumbered book commands place records = (slot : ℕ) (intent : TheIntent) → intent_at records slot ≡ Some intent → IsIntentNumbered book commands place records slot intent
+
+-- the last trace number of each numbering on record is booked
 abbrev pub AreLastBooked : List BookedEntry → ℕ → List Record → Type 0
-AreLastBooked book place records = (poi : List ℕ) → IsBookedNumber book poi place (last_number_of records poi)
+AreLastBooked book place records = (numbering : Numbering) → IsBookedNumber book numbering place (last_number_of records numbering.poi)
 
 -- the records' numbers beside the book
 pub record AreRecordsNumbered (book : List BookedEntry) (commands : List SentCommand) (place : ℕ) (records : List Record) : Type 0 where
-  pub opened : AreOpenNumbered book commands place records
+  pub intents : AreIntentsNumbered book commands place records
   pub last : AreLastBooked book place records
 
 -- ---- standings
@@ -115,26 +145,26 @@ pub record IsLinkedSince (links : List MadeLink) (commands : List SentCommand) (
   pub link : MadeLink
   pub made : In link links
   pub poi_is : link.poi ≡ poi
-  pub later : (command : SentCommand) → In command commands → command.poi ≡ poi → command.place < link.place
+  pub later : (command : SentCommand) → In command commands → command.numbering.poi ≡ poi → command.place < link.place
 
 -- a terminal that serves an end of day or a display is as it was ready: neither has a trace number
-abbrev pub IsServiceNumbered : List SentCommand → ℕ → List BookedEntry → List ℕ → ℕ → Service → Type 0
-IsServiceNumbered commands place book poi last (Transaction slot) = Unit {0}
-IsServiceNumbered commands place book poi last (EndOfDay header period) = IsReadyNumber book commands poi place last
-IsServiceNumbered commands place book poi last (Display header results) = IsReadyNumber book commands poi place last
+abbrev pub IsServiceNumbered : List SentCommand → ℕ → List BookedEntry → Numbering → ℕ → Service → Type 0
+IsServiceNumbered commands place book numbering last (Transaction slot) = Unit {0}
+IsServiceNumbered commands place book numbering last (EndOfDay header period) = IsReadyNumber book commands numbering place last
+IsServiceNumbered commands place book numbering last (Display header results) = IsReadyNumber book commands numbering place last
 
 -- beside an honest book: no terminal is set aside
-abbrev pub IsStandingNumbered : List MadeLink → List SentCommand → ℕ → List BookedEntry → List ℕ → Standing → Type 0
-IsStandingNumbered links commands place book poi (Unlinked due) = Unit {0}
-IsStandingNumbered links commands place book poi Registering = IsLinkedSince links commands poi
-IsStandingNumbered links commands place book poi Enquiring = IsLinkedSince links commands poi
-IsStandingNumbered links commands place book poi (Ready last) = IsReadyNumber book commands poi place last
-IsStandingNumbered links commands place book poi (Serving service last) = IsServiceNumbered commands place book poi last service
-IsStandingNumbered links commands place book poi (Aside before reported) = ⊥
+abbrev pub IsStandingNumbered : List MadeLink → List SentCommand → ℕ → List BookedEntry → Numbering → Standing → Type 0
+IsStandingNumbered links commands place book numbering (Unlinked due) = Unit {0}
+IsStandingNumbered links commands place book numbering Registering = IsLinkedSince links commands numbering.poi
+IsStandingNumbered links commands place book numbering Enquiring = IsLinkedSince links commands numbering.poi
+IsStandingNumbered links commands place book numbering (Ready last) = IsReadyNumber book commands numbering place last
+IsStandingNumbered links commands place book numbering (Serving service last) = IsServiceNumbered commands place book numbering last service
+IsStandingNumbered links commands place book numbering (Aside before reported) = ⊥
 
 -- so it is of each terminal
 abbrev pub AreStandingsNumbered : Past → List BookedEntry → Core → Type 0
-AreStandingsNumbered past book core = (number : ℕ) (terminal : Terminal) → slice_get core.terminals number ≡ Some terminal → IsStandingNumbered past.links past.commands past.place book terminal.pt.poi terminal.standing
+AreStandingsNumbered past book core = (number : ℕ) (terminal : Terminal) → slice_get core.terminals number ≡ Some terminal → IsStandingNumbered past.links past.commands past.place book (numbering_at terminal.pt) terminal.standing
 
 -- ---- the order of items and links
 

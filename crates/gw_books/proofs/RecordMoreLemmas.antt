@@ -30,6 +30,7 @@ use Rattle.gw_owes.specs.declared.terminal.Service.TheVariants.{Transaction, End
 use Rattle.gw_owes.specs.declared.terminal.Standing.{Standing}
 use Rattle.gw_owes.specs.declared.terminal.Standing.TheVariants.{Unlinked, Registering, Enquiring, Ready, Serving, Aside}
 use Rattle.gw_owes.proofs.RecordLemmas.{LedgerLaws, account-more, entry-parts, intent-stays, open_entry_of, still-there}
+use Rattle.gw_books.specs.Kinds.{BookedKind}
 use Rattle.gw_books.specs.Agrees.{is_accepted}
 use Rattle.gw_books.specs.Books.{BookedEntry}
 use Rattle.gw_books.specs.Past.{SentCommand, MadeLink}
@@ -162,13 +163,13 @@ accepted-more laws records next key folded accepted =
     (accepted-intent laws (records ++ next ∷ []) parts.slot parts.intent folded (intent-stays records (next ∷ []) parts.slot parts.intent parts.intent_is))
 
 -- what an Intent asks stays with more records
-pub asked-first : (kept more : List Record) (key : Key) (reversal : Bool) → IsFirstOf kept more → IsAskedAs kept key reversal → IsAskedAs more key reversal
-asked-first kept more key reversal first asked = record {
+pub asked-first : (kept more : List Record) (key : Key) (kind : BookedKind) → IsFirstOf kept more → IsAskedAs kept key kind → IsAskedAs more key kind
+asked-first kept more key kind first asked = record {
   slot = asked.slot;
   intent = asked.intent;
   intent_is = subst (λ records. intent_at records asked.slot ≡ Some asked.intent) (sym first.1) (intent-stays kept first.0 asked.slot asked.intent asked.intent_is);
   own = asked.own;
-  kind = asked.kind;
+  kind_is = asked.kind_is;
 }
 
 -- ---- Outcomes that are true

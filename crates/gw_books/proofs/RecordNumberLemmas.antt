@@ -1,5 +1,5 @@
 -- What the records say of open keys and of last trace numbers with one more record, and what stays of the trace numbers that an honest book bears out.
-use Rattle.std.proofs.Common.{◌≡◌, ◌∙◌, ℕ, zero, suc, ◌<◌, Bool, true, false, List, [], ◌∷◌, ◌++◌, length, Option, Some, None, is_some, IsTrue, All, slice_get, refl, sym, ap, subst, arith, ◌⊎◌, inl, inr}
+use Rattle.std.proofs.Common.{◌≡◌, ◌∙◌, ℕ, zero, suc, ◌<◌, ◌≤◌, Bool, true, false, List, [], ◌∷◌, ◌++◌, length, Option, Some, None, is_some, IsTrue, All, slice_get, refl, sym, ap, subst, arith, ◌⊎◌, inl, inr}
 use Rattle.std.specs.Prelude.{if◌then◌else◌, option_map}
 use Rattle.std.proofs.lemmas.Bool.{cases_lt}
 use Rattle.std.proofs.lemmas.List.{length-append}
@@ -22,12 +22,14 @@ use Rattle.gw_ledger.proofs.HistoryLemmas.{history-push}
 use Rattle.gw_ledger.proofs.OpenLemmas.{account_push}
 use Rattle.gw_ledger.proofs.RecordLemmas.{folded_beside, get_push, intent_push}
 use Rattle.gw_ledger.proofs.TieLemmas.{eqb_above, eqb_same}
-use Rattle.gw_owes.proofs.RecordLemmas.{LedgerLaws, intent-within, open-unended, same-text-is, same-text-itself, settled-leaves}
+use Rattle.gw_owes.proofs.RecordLemmas.{LedgerLaws, intent-stays, intent-within, open-unended, same-text-is, same-text-itself, settled-leaves}
 use Rattle.gw_books.specs.Books.{BookedEntry}
-use Rattle.gw_books.specs.Past.{SentCommand}
+use Rattle.gw_books.specs.Past.{SentCommand, Numbering, numbering_at, numbering_of}
 use Rattle.gw_books.proofs.Holding.{IsUnsent}
-use Rattle.gw_books.proofs.Numbering.{AreLastBooked, AreOpenNumbered, AreRecordsNumbered, HasEntryBefore, IsBookedNumber, IsOpenNumbered, IsReadyNumber}
+use Rattle.gw_books.proofs.ListLemmas.{In}
+use Rattle.gw_books.proofs.Numbering.{AreIntentsNumbered, AreLastBooked, AreRecordsNumbered, HasEntryBefore, HasEntryBeforeAll, IsBookedNumber, IsEntryFrom, IsForKey, IsIntentNumbered, IsOfSent, IsOpenNumbered, IsReadyNumber, IsSentFrom}
 use Rattle.gw_books.proofs.RecordMoreLemmas.{own-slot}
+use Rattle.gw_base.specs.declared.setup.Pt.{Pt}
 
 -- ---- the first of the records
 
@@ -156,23 +158,71 @@ open-after-outcome records outcome intent poi slot asked found =
 
 -- ---- the numbers
 
+-- a terminal's own record is of its numbering
+own-numbering : (numbering : Numbering) (intent : TheIntent) → is_poi numbering.poi (Some intent.poi) ≡ true → numbering_of intent ≡ numbering
+own-numbering numbering intent mine = ap (λ (poi : List ℕ). record { poi = poi }) (own-poi numbering.poi intent.poi mine)
+
 -- a number that is booked is one of the same terminal
-booked-at : (book : List BookedEntry) (poi own : List ℕ) (place trace last : ℕ) → own ≡ poi → last ≡ trace → IsBookedNumber book own place trace → IsBookedNumber book poi place last
-booked-at book poi own place trace last same is booked =
-    subst (λ (n : ℕ). IsBookedNumber book poi place n) (sym is) (subst (λ (p : List ℕ). IsBookedNumber book p place trace) same booked)
+booked-at : (book : List BookedEntry) (numbering own : Numbering) (place trace last : ℕ) → own ≡ numbering → last ≡ trace → IsBookedNumber book own place trace → IsBookedNumber book numbering place last
+booked-at book numbering own place trace last same is booked =
+    subst (λ (n : ℕ). IsBookedNumber book numbering place n) (sym is) (subst (λ (one : Numbering). IsBookedNumber book one place trace) same booked)
+
+-- one more record: where it is an Intent, nothing was sent for its key
+module _ (records : List Record) (next : Record) (book : List BookedEntry) (commands : List SentCommand) (unsent : (intent : TheIntent) → as_intent next ≡ Some intent → IsUnsent commands (intent_key intent)) where
+  -- what was sent for its Intents was sent for those before
+  sent-before : (poi : List ℕ) (slot : ℕ) (command : SentCommand) → In command commands → IsSentFrom (records ++ next ∷ []) poi slot command → IsSentFrom records poi slot command
+  sent-before poi slot command sent since = elim (intent_push records next since.at since.intent since.intent_is) [
+    | inl earlier ↦ record { at = since.at; intent = since.intent; from = since.from; intent_is = earlier.1; poi_is = since.poi_is; key_is = since.key_is }
+    | inr it ↦ absurd (unsent since.intent it.1 command sent since.key_is)
+  ]
+
+  -- and what is of those before is of all
+  entry-more : (poi : List ℕ) (slot : ℕ) (entry : BookedEntry) → IsEntryFrom commands records poi slot entry → IsEntryFrom commands (records ++ next ∷ []) poi slot entry
+  entry-more poi slot entry of = record {
+    command = of.command;
+    sent = of.sent;
+    since = record { at = of.since.at; intent = of.since.intent; from = of.since.from; intent_is = intent-stays records (next ∷ []) of.since.at of.since.intent of.since.intent_is; poi_is = of.since.poi_is; key_is = of.since.key_is };
+    caused = of.caused;
+  }
+
+  -- each Intent before stays as it is numbered
+  intent-more : (place slot : ℕ) (intent : TheIntent) → IsIntentNumbered book commands place records slot intent → IsIntentNumbered book commands place (records ++ next ∷ []) slot intent
+  intent-more place slot intent is = record {
+    sent_to = is.sent_to;
+    base = base is.base;
+    lower = λ entry within same of approved. more entry (is.lower entry within same of approved);
+    others = λ entry within same of command sent key_is. more entry (is.others entry within same of command sent key_is);
+  }
+    where
+      base : (intent.before ≡ 0) ⊎ HasEntryBeforeAll book commands records (numbering_of intent) place slot intent.before → (intent.before ≡ 0) ⊎ HasEntryBeforeAll book commands (records ++ next ∷ []) (numbering_of intent) place slot intent.before
+      base (inl none) = inl none
+      base (inr has) = inr (record { numbered = has.numbered; earlier = λ command sent since. has.earlier command sent (sent-before intent.poi slot command sent since) })
+
+      more : {A : Type 0} (entry : BookedEntry) → A ⊎ IsEntryFrom commands records intent.poi slot entry → A ⊎ IsEntryFrom commands (records ++ next ∷ []) intent.poi slot entry
+      more entry (inl so) = inl so
+      more entry (inr of) = inr (entry-more intent.poi slot entry of)
 
 -- one more Intent whose number before is that of its terminal which is ready, and for whose key nothing was sent
-pub numbered-with-intent : (laws : LedgerLaws) (records : List Record) (intent : TheIntent) → AreFolded (records ++ Intent intent ∷ []) → (book : List BookedEntry) (commands : List SentCommand) (place : ℕ)
-    → AreRecordsNumbered book commands place records → IsReadyNumber book commands intent.poi place intent.before → IsUnsent commands (intent_key intent)
+pub numbered-with-intent : (records : List Record) (intent : TheIntent) (book : List BookedEntry) (commands : List SentCommand) (place : ℕ)
+    → AreRecordsNumbered book commands place records → IsReadyNumber book commands (numbering_of intent) place intent.before → IsUnsent commands (intent_key intent)
     → AreRecordsNumbered book commands place (records ++ Intent intent ∷ [])
-numbered-with-intent laws records intent folded book commands place numbered ready unsent = record { opened = opened; last = last }
+numbered-with-intent records intent book commands place numbered ready unsent = record { intents = intents; last = last }
   where
-    -- nothing was sent for the key, so what is to hold of its commands does
-    based : IsBookedNumber book intent.poi place intent.before → (intent.before ≡ 0) ⊎ HasEntryBefore book commands intent.poi place (intent_key intent) intent.before
-    based (inl none) = inl none
-    based (inr has) = inr (record { numbered = has; earlier = λ command within own. absurd (unsent command within own) })
+    its-key : (other : TheIntent) → as_intent (Intent intent) ≡ Some other → IsUnsent commands (intent_key other)
+    its-key other is = subst (λ (i : TheIntent). IsUnsent commands (intent_key i)) (same_Some intent other is) unsent
 
-    own : IsOpenNumbered book commands intent.poi place (intent_key intent) intent.before
+    -- nothing was sent for the key, so what is to hold of its commands does
+    none-since : (command : SentCommand) → In command commands → IsSentFrom (records ++ Intent intent ∷ []) intent.poi (length records) command → ⊥
+    none-since command sent since = elim (intent_push records (Intent intent) since.at since.intent since.intent_is) [
+      | inl earlier ↦ let below = earlier.0 in let from = since.from in omega (arith, below, from)
+      | inr it ↦ its-key since.intent it.1 command sent since.key_is
+    ]
+
+    based : IsBookedNumber book (numbering_of intent) place intent.before → (intent.before ≡ 0) ⊎ HasEntryBeforeAll book commands (records ++ Intent intent ∷ []) (numbering_of intent) place (length records) intent.before
+    based (inl none) = inl none
+    based (inr has) = inr (record { numbered = has; earlier = λ command sent since. absurd (none-since command sent since) })
+
+    own : IsIntentNumbered book commands place (records ++ Intent intent ∷ []) (length records) intent
     own = record {
       sent_to = λ command within key_is. absurd (unsent command within key_is);
       base = based ready.booked;
@@ -180,64 +230,129 @@ numbered-with-intent laws records intent folded book commands place numbered rea
       others = λ entry within poi_is of-sent command sent key_is. absurd (unsent command sent key_is);
     }
 
-    opened : AreOpenNumbered book commands place (records ++ Intent intent ∷ [])
-    opened poi slot other is_open asked = elim (open-after-intent records intent poi slot is_open) [
-      | inl mine ↦
-          let there : as_intent (Intent intent) ≡ Some other = last-intent mine.1 in
-          subst (λ (p : List ℕ). IsOpenNumbered book commands p place (intent_key other) other.before) mine.0
-          (subst (λ (i : TheIntent). IsOpenNumbered book commands intent.poi place (intent_key i) i.before) (same_Some intent other there) own)
-      | inr before ↦ numbered.opened poi slot other before.1 (earlier-intent before.1)
+    intents : AreIntentsNumbered book commands place (records ++ Intent intent ∷ [])
+    intents slot other there = elim (intent_push records (Intent intent) slot other there) [
+      | inl earlier ↦ intent-more records (Intent intent) book commands its-key place slot other (numbered.intents slot other earlier.1)
+      | inr it ↦
+          subst (λ (at : ℕ). IsIntentNumbered book commands place (records ++ Intent intent ∷ []) at other) (sym it.0)
+          (subst (λ (i : TheIntent). IsIntentNumbered book commands place (records ++ Intent intent ∷ []) (length records) i) (same_Some intent other it.1) own)
     ]
-      where
-        last-intent : slot ≡ length records → as_intent (Intent intent) ≡ Some other
-        last-intent last = elim (intent_push records (Intent intent) slot other asked) [
-          | inl earlier ↦ let below = earlier.0 in absurd (omega (arith, below, last))
-          | inr it ↦ it.1
-        ]
-
-        earlier-intent : open_slot records poi ≡ Some slot → intent_at records slot ≡ Some other
-        earlier-intent was = elim (intent_push records (Intent intent) slot other asked) [
-          | inl earlier ↦ earlier.1
-          | inr it ↦
-              let has = open-has-intent laws records (folded-first records (Intent intent ∷ []) folded) poi slot was in
-              let below = intent-within records slot has.0 has.1 in
-              let at-end = it.0 in
-              absurd (omega (arith, below, at-end))
-        ]
 
     last : AreLastBooked book place (records ++ Intent intent ∷ [])
-    last poi = elim (last-after records (Intent intent) poi) [
-      | inl same ↦ subst (λ (n : ℕ). IsBookedNumber book poi place n) (sym same) (numbered.last poi)
-      | inr mine ↦ booked-at book poi intent.poi place intent.before (last_number_of (records ++ Intent intent ∷ []) poi) (own-poi poi intent.poi mine.0) mine.1 ready.booked
+    last numbering = elim (last-after records (Intent intent) numbering.poi) [
+      | inl same ↦ subst (λ (n : ℕ). IsBookedNumber book numbering place n) (sym same) (numbered.last numbering)
+      | inr mine ↦
+          booked-at book numbering (numbering_of intent) place intent.before (last_number_of (records ++ Intent intent ∷ []) numbering.poi) (own-numbering numbering intent mine.0) mine.1 ready.booked
     ]
+
+-- with one more record that is no Intent
+intents-beside : (records : List Record) (next : Record) → as_intent next ≡ None → (book : List BookedEntry) (commands : List SentCommand) (place : ℕ) → AreIntentsNumbered book commands place records
+    → AreIntentsNumbered book commands place (records ++ next ∷ [])
+intents-beside records next none book commands place intents slot other there = elim (intent_push records next slot other there) [
+  | inl earlier ↦ intent-more records next book commands (λ intent is. no-intent intent is) place slot other (intents slot other earlier.1)
+  | inr it ↦ no-intent other it.1
+]
+  where
+    no-intent : {A : Type 0} (intent : TheIntent) → as_intent next ≡ Some intent → A
+    no-intent intent is = let clash : None ≡ Some intent = sym none ∙ is in absurd cc
 
 -- one more Outcome whose number is booked at its terminal
-pub numbered-with-outcome : (laws : LedgerLaws) (records : List Record) (outcome : TheOutcome) (intent : TheIntent) → AreFolded (records ++ Outcome outcome ∷ []) → intent_at records outcome.slot ≡ Some intent
-    → (book : List BookedEntry) (commands : List SentCommand) (place : ℕ) → AreRecordsNumbered book commands place records → IsBookedNumber book intent.poi place outcome.number
+pub numbered-with-outcome : (records : List Record) (outcome : TheOutcome) (intent : TheIntent) → intent_at records outcome.slot ≡ Some intent
+    → (book : List BookedEntry) (commands : List SentCommand) (place : ℕ) → AreRecordsNumbered book commands place records → IsBookedNumber book (numbering_of intent) place outcome.number
     → AreRecordsNumbered book commands place (records ++ Outcome outcome ∷ [])
-numbered-with-outcome laws records outcome intent folded asked book commands place numbered booked = record { opened = opened; last = last }
+numbered-with-outcome records outcome intent asked book commands place numbered booked = record { intents = intents-beside records (Outcome outcome) refl book commands place numbered.intents; last = last }
   where
-    opened : AreOpenNumbered book commands place (records ++ Outcome outcome ∷ [])
-    opened poi slot other is_open there = numbered.opened poi slot other (open-after-outcome records outcome intent poi slot asked is_open).1 (elim (intent_push records (Outcome outcome) slot other there) [
-      | inl earlier ↦ earlier.1
-      | inr it ↦ let clash = it.1 in absurd cc
-    ])
-
     last : AreLastBooked book place (records ++ Outcome outcome ∷ [])
-    last poi = elim (last-after records (Outcome outcome) poi) [
-      | inl same ↦ subst (λ (n : ℕ). IsBookedNumber book poi place n) (sym same) (numbered.last poi)
+    last numbering = elim (last-after records (Outcome outcome) numbering.poi) [
+      | inl same ↦ subst (λ (n : ℕ). IsBookedNumber book numbering place n) (sym same) (numbered.last numbering)
       | inr mine ↦
-          let own : intent.poi ≡ poi = own-poi poi intent.poi (sym (ap (λ (i : Option TheIntent). is_poi poi (option_map (λ (j : TheIntent). j.poi) i)) asked) ∙ mine.0) in
-          booked-at book poi intent.poi place outcome.number (last_number_of (records ++ Outcome outcome ∷ []) poi) own mine.1 booked
+          let own = own-numbering numbering intent (sym (ap (λ (i : Option TheIntent). is_poi numbering.poi (option_map (λ (j : TheIntent). j.poi) i)) asked) ∙ mine.0) in
+          booked-at book numbering (numbering_of intent) place outcome.number (last_number_of (records ++ Outcome outcome ∷ []) numbering.poi) own mine.1 booked
     ]
 
--- one more Settled, which opens nothing and has no trace number
+-- one more Settled, which has no trace number
 pub numbered-with-settled : (laws : LedgerLaws) (records : List Record) (settled : TheSettled) (book : List BookedEntry) (commands : List SentCommand) (place : ℕ) → AreRecordsNumbered book commands place records
     → AreRecordsNumbered book commands place (records ++ Settled settled ∷ [])
 numbered-with-settled laws records settled book commands place numbered = record {
-  opened = λ poi slot other is_open there. numbered.opened poi slot other (sym (settled-leaves laws records settled poi).slot_stays ∙ is_open) (elim (intent_push records (Settled settled) slot other there) [
-    | inl earlier ↦ earlier.1
-    | inr it ↦ let clash = it.1 in absurd cc
-  ]);
-  last = λ poi. subst (λ (n : ℕ). IsBookedNumber book poi place n) (sym (settled-leaves laws records settled poi).number_stays) (numbered.last poi);
+  intents = intents-beside records (Settled settled) refl book commands place numbered.intents;
+  last = λ numbering. subst (λ (n : ℕ). IsBookedNumber book numbering place n) (sym (settled-leaves laws records settled numbering.poi).number_stays) (numbered.last numbering);
 }
+
+-- ---- the open key
+
+-- a terminal's open slot is that of its last Intent
+abbrev OpensLast : List Record → Type 0
+OpensLast records = (poi : List ℕ) (slot at : ℕ) (intent : TheIntent) → open_slot records poi ≡ Some slot → intent_at records at ≡ Some intent → intent.poi ≡ poi → at ≤ slot
+
+last-step : LedgerLaws → (before : List Record) (next : Record) → OpensLast before → IsRecord next → IsTrue (fits_beside_key before next) → OpensLast (before ++ next ∷ [])
+last-step laws before (Intent new) lasts within fitting poi slot at intent is_open there same = elim (open-after-intent before new poi slot is_open) [
+  | inl mine ↦
+      let inside : at < length (before ++ Intent new ∷ []) = intent-within (before ++ Intent new ∷ []) at intent there in
+      let last = mine.1 in
+      omega (arith, inside, length-append before (Intent new ∷ []), last)
+  | inr was ↦ elim (intent_push before (Intent new) at intent there) [
+    | inl earlier ↦ lasts poi slot at intent was.1 earlier.1 same
+    | inr it ↦ absurd (was.0 (ap (λ (i : TheIntent). i.poi) (same_Some new intent it.1) ∙ same))
+  ]
+]
+last-step laws before (Outcome outcome) lasts within fitting poi slot at intent is_open there same = by-asked (intent_at before outcome.slot) refl (open_has_intent before outcome.slot (open_parts before outcome fitting))
+  where
+    by-asked : (asked : Option TheIntent) → intent_at before outcome.slot ≡ asked → is_some asked ≡ true → at ≤ slot
+    by-asked None is some = absurd cc
+    by-asked (Some asked) is some = elim (intent_push before (Outcome outcome) at intent there) [
+      | inl earlier ↦ lasts poi slot at intent (open-after-outcome before outcome asked poi slot is is_open).1 earlier.1 same
+      | inr it ↦ let clash = it.1 in absurd cc
+    ]
+last-step laws before (Settled settled) lasts within fitting poi slot at intent is_open there same = elim (intent_push before (Settled settled) at intent there) [
+  | inl earlier ↦ lasts poi slot at intent (sym (settled-leaves laws before settled poi).slot_stays ∙ is_open) earlier.1 same
+  | inr it ↦ let clash = it.1 in absurd cc
+]
+
+none-last : OpensLast []
+none-last poi slot at intent is_open there same = absurd cc
+
+pub open-is-last : (laws : LedgerLaws) (records : List Record) → AreFolded records → (poi : List ℕ) (slot at : ℕ) (intent : TheIntent) → open_slot records poi ≡ Some slot → intent_at records at ≡ Some intent → intent.poi ≡ poi → at ≤ slot
+open-is-last laws records folded = along OpensLast (last-step laws) none-last records (folded_beside records folded)
+
+-- it is numbered as its terminal is
+pub open-numbering : (laws : LedgerLaws) (records : List Record) → AreFolded records → (pt : Pt) (slot : ℕ) (intent : TheIntent) → open_slot records pt.poi ≡ Some slot → intent_at records slot ≡ Some intent → numbering_of intent ≡ numbering_at pt
+open-numbering laws records folded pt slot intent is_open there = ap (λ (poi : List ℕ). record { poi = poi }) (open-poi laws records folded pt.poi slot intent is_open there)
+
+-- what holds of each Intent, of the one that is open: no Intent of its terminal is later
+pub open-numbered : (laws : LedgerLaws) (records : List Record) → AreFolded records → (book : List BookedEntry) (commands : List SentCommand) (place : ℕ) → AreIntentsNumbered book commands place records
+    → (poi : List ℕ) (slot : ℕ) (intent : TheIntent) → open_slot records poi ≡ Some slot → intent_at records slot ≡ Some intent → IsOpenNumbered book commands (numbering_of intent) place (intent_key intent) intent.before
+open-numbered laws records folded book commands place intents poi slot intent is_open there =
+    record { sent_to = is.sent_to; base = base is.base; lower = lower; others = others }
+  where
+    mine : intent.poi ≡ poi
+    mine = open-poi laws records folded poi slot intent is_open there
+
+    is : IsIntentNumbered book commands place records slot intent
+    is = intents slot intent there
+
+    -- an entry from its slot on is its key's
+    for-key : (entry : BookedEntry) → IsEntryFrom commands records intent.poi slot entry → IsForKey commands (intent_key intent) entry
+    for-key entry of = record { command = of.command; sent = of.sent; key_is = of.since.key_is ∙ ap (λ (i : TheIntent). Some (intent_key i)) same; caused = of.caused }
+      where
+        here : of.since.at ≡ slot
+        here = let last = open-is-last laws records folded poi slot of.since.at of.since.intent is_open of.since.intent_is (of.since.poi_is ∙ mine) in let from = of.since.from in omega (arith, last, from)
+
+        same : of.since.intent ≡ intent
+        same = same_Some of.since.intent intent (sym of.since.intent_is ∙ ap (intent_at records) here ∙ there)
+
+    base : (intent.before ≡ 0) ⊎ HasEntryBeforeAll book commands records (numbering_of intent) place slot intent.before → (intent.before ≡ 0) ⊎ HasEntryBefore book commands (numbering_of intent) place (intent_key intent) intent.before
+    base (inl none) = inl none
+    base (inr has) = inr (record { numbered = has.numbered; earlier = λ command sent key_is. has.earlier command sent (record { at = slot; intent = intent; from = omega arith; intent_is = there; poi_is = refl; key_is = key_is }) })
+
+    lower : (entry : BookedEntry) → In entry book → entry.numbering ≡ numbering_of intent → IsOfSent commands entry → entry.approved ≡ true → (entry.number ≤ intent.before) ⊎ IsForKey commands (intent_key intent) entry
+    lower entry within same of approved = elim (is.lower entry within same of approved) [
+      | inl low ↦ inl low
+      | inr from ↦ inr (for-key entry from)
+    ]
+
+    others : (entry : BookedEntry) → In entry book → entry.numbering.poi ≡ intent.poi → IsOfSent commands entry → (command : SentCommand) → In command commands → command.key ≡ Some (intent_key intent)
+        → (entry.place ≤ command.place) ⊎ IsForKey commands (intent_key intent) entry
+    others entry within same of command sent key_is = elim (is.others entry within same of command sent key_is) [
+      | inl early ↦ inl early
+      | inr from ↦ inr (for-key entry from)
+    ]

@@ -17,7 +17,7 @@ use Rattle.gw_ledger.specs.Accounts.{is_poi, open_slot}
 use Rattle.gw_ledger.specs.Fold.{AreFolded, fits_beside_key}
 use Rattle.gw_ledger.specs.History.{history}
 use Rattle.gw_ledger.specs.Keys.{intent_key}
-use Rattle.gw_ledger.specs.Slots.{as_outcome, asks_payment, ended_at, ended_in, intent_at, is_open, is_outcome_of}
+use Rattle.gw_ledger.specs.Slots.{as_outcome, ended_at, ended_in, intent_at, is_open, is_outcome_of}
 use Rattle.gw_ledger.proofs.FoldLemmas.{along}
 use Rattle.gw_ledger.proofs.HistoryLemmas.{history-push}
 use Rattle.gw_ledger.proofs.RecordLemmas.{folded_beside, get_last}
@@ -41,11 +41,12 @@ use Rattle.gw_rules.specs.View.{View, at_first, view_from}
 use Rattle.gw_rules.proofs.RecordOrderLemmas.{between-items, each-log-folds, log-ordered, waits-between-items}
 use Rattle.gw_rules.proofs.RecordRowLemmas.{LeavesInOrder, OrderLaws, rows-in-order}
 use Rattle.gw_rules.proofs.SetupLemmas.{HasSetup, setup-within-limits}
-use Rattle.gw_books.specs.Past.{MadeLink, MadePoll, Past, past_of}
+use Rattle.gw_books.specs.Kinds.{booked_kind_of}
+use Rattle.gw_books.specs.Past.{MadeLink, MadePoll, Past, numbering_at, past_of}
 use Rattle.gw_books.specs.Books.{BookedEntry, Honest, is_caused}
 use Rattle.gw_books.specs.Agrees.{is_approved_entry, is_report_on, is_resolved_on, report_resolves}
 use Rattle.gw_books.specs.RecoveryLaws.{EachOutcomeIsTrue, HasTrueOutcome, HonestSetsNoneAside, IsReportedAt, ReportIsSaid, ReportedIsResolved, agrees_outcome, is_as_asked, is_entry_of}
-use Rattle.gw_books.proofs.AgreeLemmas.{approved-for, entry-kind, none-approved}
+use Rattle.gw_books.proofs.AgreeLemmas.{approved-for, entry-kind, none-approved, same-kind}
 use Rattle.gw_books.proofs.HeadlineLemmas.{HoldsNumbered, holds-along, lean-folds}
 use Rattle.gw_books.proofs.Holding.{AreKeyed, AreOutcomesTrue, BearsOut, IsFirstOf, IsOutcomeTrue}
 use Rattle.gw_books.proofs.KeptReplyLemmas.{ended-entry, entry-found, first-reply-is-kept}
@@ -104,11 +105,6 @@ open-or-ended laws records slot intent folded asked = by-end (ended_at records s
 
 -- ---- an Outcome agrees with the book
 
--- the entry is of the Intent's kind
-as-asked : (payment reversal : Bool) → reversal ≡ not payment → (if payment then not reversal else reversal) ≡ true
-as-asked true reversal is = ap not is
-as-asked false reversal is = is
-
 -- the Outcome of an Intent that is kept
 module _ (laws : LedgerLaws) (kept : List Record) (folded : AreFolded kept) (past : Past) (book : List BookedEntry) (keyed : AreKeyed kept past.place past.commands) (honest : Honest past book) (place slot : ℕ) (intent : TheIntent)
     (intent_is : intent_at kept slot ≡ Some intent) (outcome : TheOutcome) where
@@ -121,7 +117,7 @@ module _ (laws : LedgerLaws) (kept : List Record) (folded : AreFolded kept) (pas
       let kind = entry-kind laws kept folded past keyed entry caused own.command own.sent own.booked.caused slot intent intent_is own.key_is in
       any-from (is_entry_of past intent outcome) book entry own.booked.within
       (and_from (is_approved_entry past (intent_key intent) entry) _ approved
-      (and_from (is_as_asked intent entry) _ (as-asked (asks_payment intent.what) entry.reversal kind)
+      (and_from (is_as_asked intent entry) _ (same-kind (booked_kind_of intent.what) entry.kind (sym kind))
       (and_from (entry.number == outcome.number) _ (eq-eqb entry.number outcome.number own.booked.number)
       (and_from (entry.receipt == outcome.receipt) (entry.amount == outcome.amount) (eq-eqb entry.receipt outcome.receipt own.booked.receipt) (eq-eqb entry.amount outcome.amount own.booked.amount)))))
 
@@ -220,7 +216,7 @@ reported-is-resolved orders laws log past book poll link slot intent has honest 
 pub sets-none-aside : OrderLaws → LedgerLaws → HonestSetsNoneAside
 sets-none-aside orders laws log moves book number before reported lean honest aside =
     let along-moves = holds-along orders laws book moves lean.lawful honest in
-    subst (IsStandingNumbered (past_of moves).links (past_of moves).commands (past_of moves).place book aside.terminal.pt.poi) aside.standing_is (along-moves.numbers.standings number aside.terminal aside.found)
+    subst (IsStandingNumbered (past_of moves).links (past_of moves).commands (past_of moves).place book (numbering_at aside.terminal.pt)) aside.standing_is (along-moves.numbers.standings number aside.terminal aside.found)
 
 -- ---- a report is said
 

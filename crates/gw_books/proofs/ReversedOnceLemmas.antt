@@ -1,7 +1,7 @@
 -- A payment is reversed at most once along a lean course and a book that is honest for it, and only one that the book has.
 use Rattle.std.proofs.Common.{◌≡◌, ◌∙◌, ℕ, zero, suc, Bool, true, false, List, [], ◌∷◌, refl, sym, ap, subst, inl, inr, eqb, eqb-true, eq-eqb}
 use Rattle.std.proofs.lemmas.Option.{same_Some}
-use Rattle.std.specs.Prelude.{not, slice_get, Option, Some, None, option_and_then, option_to_list}
+use Rattle.std.specs.Prelude.{slice_get, Option, Some, None, option_and_then, option_to_list}
 use Rattle.gw_base.specs.declared.key.Key.{Key}
 use Rattle.gw_site.specs.declared.turn.Turn.{Turn}
 use Rattle.jrn_record.specs.declared.records.Intent.{Intent as TheIntent}
@@ -11,13 +11,14 @@ use Rattle.gw_ledger.specs.Fold.{AreFolded}
 use Rattle.gw_ledger.specs.Keys.{intent_key}
 use Rattle.gw_ledger.specs.Laws.{HasApproval, IsOriginalOf}
 use Rattle.gw_ledger.specs.Reversals.{IsDeclined, IsReversalOf, OriginalIsPayment, OthersAreDeclined}
-use Rattle.gw_ledger.specs.Slots.{asks_payment, entry_at, intent_at}
+use Rattle.gw_ledger.specs.Slots.{entry_at, intent_at}
 use Rattle.gw_owes.specs.Calls.{records_kept}
 use Rattle.gw_owes.proofs.RecordLemmas.{LedgerLaws, entry-parts}
 use Rattle.gw_rules.specs.Laws.{IsLeanCourse}
 use Rattle.gw_rules.specs.Scene.{records_of}
 use Rattle.gw_rules.specs.View.{Move, view_from, at_first}
 use Rattle.gw_rules.proofs.RecordRowLemmas.{OrderLaws}
+use Rattle.gw_books.specs.Kinds.{booked_kind_of}
 use Rattle.gw_books.specs.Past.{Past, past_of}
 use Rattle.gw_books.specs.Books.{BookedEntry, Honest, is_caused}
 use Rattle.gw_books.specs.Agrees.{entry_key, key_at_place}
@@ -32,7 +33,7 @@ use Rattle.gw_books.proofs.ReplyTruthLemmas.{has-outcome}
 use Rattle.gw_books.proofs.TillLemmas.{at-in, in-at}
 
 -- of a list whose keys are apart one has the key
-apart-one : {A : Type 0} (f : A → Option Key) (list : List A) → AreApart f list → (first second : ℕ) (x y : A) (key : Key) → slice_get list first ≡ Some x → slice_get list second ≡ Some y → f x ≡ Some key → f y ≡ Some key
+pub apart-one : {A : Type 0} (f : A → Option Key) (list : List A) → AreApart f list → (first second : ℕ) (x y : A) (key : Key) → slice_get list first ≡ Some x → slice_get list second ≡ Some y → f x ≡ Some key → f y ≡ Some key
     → first ≡ second
 apart-one f [] apart first second x y key at also mine yours = absurd cc
 apart-one f (one ∷ list) apart zero zero x y key at also mine yours = refl
@@ -64,7 +65,7 @@ module _ (orders : OrderLaws) (laws : LedgerLaws) (log : List Turn) (moves : Lis
   caused = all-in (λ (entry : BookedEntry). is_caused past entry entry.cause) book honest.caused
 
   entry-asked : (slot : ℕ) (entry : BookedEntry) (intent : TheIntent) → In entry book → intent_at (kept_after moves) slot ≡ Some intent → entry_key past entry ≡ Some (intent_key intent)
-      → entry.reversal ≡ not (asks_payment intent.what)
+      → entry.kind ≡ booked_kind_of intent.what
   entry-asked slot entry intent within intent_is key_is =
       let sent = caused-for past entry (intent_key intent) key_is in
       entry-kind laws (kept_after moves) folded past keyed entry (caused entry within) sent.command sent.sent sent.cause_is slot intent intent_is sent.key_is
@@ -133,7 +134,7 @@ module _ (orders : OrderLaws) (laws : LedgerLaws) (log : List Turn) (moves : Lis
             found = found.1;
             key_is = key_is;
             approved = booked.approved;
-            is_payment = entry-asked payment booked.entry original.intent booked.within intent_is key_is ∙ ap (λ what. not (asks_payment what)) is_original.what;
+            is_payment = entry-asked payment booked.entry original.intent booked.within intent_is key_is ∙ ap booked_kind_of is_original.what;
             whole = booked.amount ∙ approved.1;
           }
 

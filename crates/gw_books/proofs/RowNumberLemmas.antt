@@ -19,7 +19,6 @@ use Rattle.jrn_record.specs.declared.records.Record.{Record}
 use Rattle.jrn_record.specs.declared.records.How.TheVariants as hows
 use Rattle.jrn_record.specs.declared.records.Record.TheVariants.{Intent, Settled}
 use Rattle.jrn_record.specs.declared.records.Settled.{Settled as TheSettled}
-use Rattle.gw_ledger.specs.Fold.{AreFolded}
 use Rattle.gw_ledger.specs.Keys.{intent_key}
 use Rattle.xlate.specs.Ask.{ask}
 use Rattle.gw_owes.specs.declared.terminal.Standing.{Standing}
@@ -47,7 +46,7 @@ use Rattle.gw_owes.specs.Rows.{asked_row, gone_row, row_of}
 use Rattle.gw_owes.specs.Serving.{reply_to_outcome, staying, stops}
 use Rattle.gw_owes.specs.Stops.{wishing}
 use Rattle.gw_owes.specs.Terminals.{with_terminal, reply_calls_to, reply_to_lost, terminal_at, terminal_becomes, unlinks, link_lost}
-use Rattle.gw_owes.proofs.BeginLemmas.{IsAskedAnew, begins-anew, begins-keeps}
+use Rattle.gw_owes.proofs.BeginLemmas.{IsAskedAnew, begins-anew}
 use Rattle.gw_owes.proofs.HandlingLemmas.{by-where, each-terminal, each-linked}
 use Rattle.gw_owes.proofs.KeepingLemmas.{replies-keep-nothing}
 use Rattle.gw_owes.proofs.NextLemmas.{each-next, each-overdue, each-queued, known_without}
@@ -70,7 +69,7 @@ use Rattle.gw_rules.proofs.RowFormLemmas.{form-handled, form-begun}
 use Rattle.gw_rules.proofs.SetupLemmas.{HasSetup}
 use Rattle.gw_rules.proofs.StageLemmas.{no-true}
 use Rattle.gw_books.specs.Books.{BookedEntry, Honest}
-use Rattle.gw_books.specs.Past.{Past, past_after}
+use Rattle.gw_books.specs.Past.{Past, past_after, Numbering, numbering_at, numbering_of}
 use Rattle.gw_books.proofs.BeginHoldsLemmas.{between-holds, between-numbered}
 use Rattle.gw_books.proofs.HandledLemmas.{IsItemHandled}
 use Rattle.gw_books.proofs.Holding.{begun_past, charge_owed, charges, charges_terminal, is_deed, sending_charges, HoldsBetween, deed_owed, is_handle}
@@ -110,13 +109,13 @@ quiet-numbers known past book row n q = record {
   records = subst (λ (records : List Record). AreRecordsNumbered book past.commands past.place records) (sym (ap (λ l. known.kept ++ l) q.none_kept ∙ append-nil known.kept)) n.records;
   standings = λ number terminal found.
       let was = q.calm.was number terminal found in
-      subst (λ (pt : Pt). IsStandingNumbered past.links past.commands past.place book pt.poi terminal.standing) (sym was.pt_is) (calm-numbered past book was.old.pt.poi was.old.standing terminal.standing was.standing_is (n.standings number was.old was.found));
+      subst (λ (pt : Pt). IsStandingNumbered past.links past.commands past.place book (numbering_at pt) terminal.standing) (sym was.pt_is) (calm-numbered past book (numbering_at was.old.pt) was.old.standing terminal.standing was.standing_is (n.standings number was.old was.found));
   asked = λ number terminal found owed. no-true (sym q.no_deed ∙ charge-is-deed number row.calls owed);
 }
   where
-    calm-numbered : (past : Past) (book : List BookedEntry) (poi : List ℕ) (old new : Standing) → (new ≡ old) ⊎ ((due : Option ℕ) × (new ≡ Unlinked due)) → IsStandingNumbered past.links past.commands past.place book poi old → IsStandingNumbered past.links past.commands past.place book poi new
-    calm-numbered past book poi old new (inl same) is = subst (IsStandingNumbered past.links past.commands past.place book poi) (sym same) is
-    calm-numbered past book poi old new (inr lost) is = subst (IsStandingNumbered past.links past.commands past.place book poi) (sym lost.1) tt
+    calm-numbered : (past : Past) (book : List BookedEntry) (numbering : Numbering) (old new : Standing) → (new ≡ old) ⊎ ((due : Option ℕ) × (new ≡ Unlinked due)) → IsStandingNumbered past.links past.commands past.place book numbering old → IsStandingNumbered past.links past.commands past.place book numbering new
+    calm-numbered past book numbering old new (inl same) is = subst (IsStandingNumbered past.links past.commands past.place book numbering) (sym same) is
+    calm-numbered past book numbering old new (inr lost) is = subst (IsStandingNumbered past.links past.commands past.place book numbering) (sym lost.1) tt
 
 -- a row that owes these calls and changes nothing
 owing-quiet : (known : Known) (calls : List OwedCall) (items : List RoundItem) → records_kept calls ≡ [] → deed_owed calls ≡ false → list_any is_handle items ≡ false → IsQuiet known (record { core = known.core; calls = calls; items = items })
@@ -167,10 +166,10 @@ lost-quiet known number = each-terminal (IsQuiet known) known number (unlinks kn
 -- ---- a payment or a reversal begins
 
 -- the terminal serves what its last trace number and its quiet allow
-begun-numbers : (laws : LedgerLaws) (known : Known) (past : Past) (book : List BookedEntry) (number till : ℕ) (header : Header) (terminal : Terminal) (last : ℕ) (asking : Asking) → HoldsBetween known past book → NumberedBetween known past book
+begun-numbers : (known : Known) (past : Past) (book : List BookedEntry) (number till : ℕ) (header : Header) (terminal : Terminal) (last : ℕ) (asking : Asking) → HoldsBetween known past book → NumberedBetween known past book
     → terminal_at known number ≡ Some terminal → terminal.standing ≡ Ready last → IsAskedAnew known header terminal last asking → NumberedAfterRow known past book (beginning_row known number till terminal last asking.intent asking.original)
-begun-numbers laws known past book number till header terminal last asking between n there_is standing_is anew = record {
-  records = numbered-with-intent laws known.kept intent folded book past.commands past.place n.records before (key-unsent known past book between (intent_key intent) anew.unknown);
+begun-numbers known past book number till header terminal last asking between n there_is standing_is anew = record {
+  records = numbered-with-intent known.kept intent book past.commands past.place n.records before (key-unsent known past book between (intent_key intent) anew.unknown);
   standings = standings-set past book known.core number terminal new there_is (λ other one apart found. n.standings other one found) tt;
   asked = λ other one found owed. by-number other one found owed (eqb other number) refl;
 }
@@ -181,15 +180,11 @@ begun-numbers laws known past book number till header terminal last asking betwe
     new : Terminal
     new = asked_for known till terminal last intent asking.original
 
-    -- the records are folded with the Intent
-    folded : AreFolded (known.kept ++ Intent intent ∷ [])
-    folded = ((begins-keeps laws known between.in_order number till header terminal last asking there_is standing_is anew).uncut refl).folded
+    ready : IsReadyNumber book past.commands (numbering_at terminal.pt) past.place last
+    ready = subst (IsStandingNumbered past.links past.commands past.place book (numbering_at terminal.pt)) standing_is (n.standings number terminal there_is)
 
-    ready : IsReadyNumber book past.commands terminal.pt.poi past.place last
-    ready = subst (IsStandingNumbered past.links past.commands past.place book terminal.pt.poi) standing_is (n.standings number terminal there_is)
-
-    before : IsReadyNumber book past.commands intent.poi past.place intent.before
-    before = subst (λ (poi : List ℕ). IsReadyNumber book past.commands poi past.place intent.before) (sym anew.poi_is) (subst (IsReadyNumber book past.commands terminal.pt.poi past.place) (sym anew.before_is) ready)
+    before : IsReadyNumber book past.commands (numbering_of intent) past.place intent.before
+    before = subst (λ (numbering : Numbering). IsReadyNumber book past.commands numbering past.place intent.before) (ap (λ (poi : List ℕ). record { poi = poi }) (sym anew.poi_is)) (subst (IsReadyNumber book past.commands (numbering_at terminal.pt) past.place) (sym anew.before_is) ready)
 
     by-number : (other : ℕ) (one : Terminal) → slice_get (with_terminal known.core number new).terminals other ≡ Some one
         → charge_owed other (keep_calls (length known.kept) (Intent intent) ++ SendPt number (Ask (ask intent asking.original terminal.pt)) ∷ []) ≡ true → (b : Bool) → eqb other number ≡ b → IsQuietAt book past.commands one.pt.poi past.place
@@ -227,13 +222,13 @@ settled-numbers laws known past book till header terminal n =
 
 -- a terminal that is ready serves what has no trace number
 beside-numbers : (known : Known) (past : Past) (book : List BookedEntry) (number : ℕ) (terminal new : Terminal) (last : ℕ) (command : Command) → NumberedBetween known past book → terminal_at known number ≡ Some terminal → terminal.standing ≡ Ready last
-    → new.pt ≡ terminal.pt → charges command ≡ false → (IsReadyNumber book past.commands terminal.pt.poi past.place last → IsStandingNumbered past.links past.commands past.place book terminal.pt.poi new.standing)
+    → new.pt ≡ terminal.pt → charges command ≡ false → (IsReadyNumber book past.commands (numbering_at terminal.pt) past.place last → IsStandingNumbered past.links past.commands past.place book (numbering_at terminal.pt) new.standing)
     → NumberedAfterRow known past book (terminal_becomes known number new (SendPt number (Ask command) ∷ []))
 beside-numbers known past book number terminal new last command n found standing same free stands = record {
   records = subst (λ (records : List Record). AreRecordsNumbered book past.commands past.place records) (sym (append-nil known.kept)) n.records;
   standings = standings-set past book known.core number terminal new found (λ other one apart there. n.standings other one there)
-      (subst (λ (pt : Pt). IsStandingNumbered past.links past.commands past.place book pt.poi new.standing) (sym same)
-      (stands (subst (IsStandingNumbered past.links past.commands past.place book terminal.pt.poi) standing (n.standings number terminal found))));
+      (subst (λ (pt : Pt). IsStandingNumbered past.links past.commands past.place book (numbering_at pt) new.standing) (sym same)
+      (stands (subst (IsStandingNumbered past.links past.commands past.place book (numbering_at terminal.pt)) standing (n.standings number terminal found))));
   asked = λ other one there owed. no-true (sym (ap (λ (b : Bool). b || false) free) ∙ charge-is-deed other (SendPt number (Ask command) ∷ []) owed);
 }
 
@@ -241,7 +236,7 @@ serve-numbers : (laws : LedgerLaws) (number till : ℕ) (header : Header) (reque
 serve-numbers laws number till header request scene tills known past book same between n linked read honest =
     each-served (NumberedAfterRow known past book) known number till header request (record {
       none = quiet-numbers known past book (owing known []) n (nothing-quiet known);
-      begins = λ terminal last asking at. begun-numbers laws known past book number till header terminal last asking between n at.found at.standing_is (begins-anew laws known between.in_order number till header request terminal last asking read at);
+      begins = λ terminal last asking at. begun-numbers known past book number till header terminal last asking between n at.found at.standing_is (begins-anew laws known between.in_order number till header request terminal last asking read at);
       sent = λ terminal talk at may.
           quiet-numbers known past book (stops known number (wishing terminal talk)) n (stopped-quiet known number header request terminal talk (one_more_awaited terminal.awaited) (SendPt number (Ask commands.Stop) ∷ []) at refl refl);
       wished = λ terminal talk at may. quiet-numbers known past book (staying known number (wishing terminal talk)) n (stopped-quiet known number header request terminal talk terminal.awaited [] at refl refl);
@@ -263,7 +258,7 @@ next-numbers laws known past book number between n =
       none = quiet-numbers known past book (owing known []) n (nothing-quiet known);
       refused = λ terminal last wait condition at refuses. quiet-numbers known past book (record (taken_out known condition wait) { items = NextWaiting number ∷ [] }) n (taken-quiet known condition wait (NextWaiting number ∷ []) refl);
       begins = λ terminal last wait asking at. numbers-without known past book wait (beginning_row (known_without known wait) number wait.till terminal last asking.intent asking.original)
-          (begun-numbers laws (known_without known wait) past book number wait.till wait.header terminal last asking (between-without known past book wait between) (record { records = n.records; standings = n.standings })
+          (begun-numbers (known_without known wait) past book number wait.till wait.header terminal last asking (between-without known past book wait between) (record { records = n.records; standings = n.standings })
           at.first.found at.first.standing_is (begun-anew laws known between.in_order between.waits number terminal last wait asking at));
       day = λ terminal last wait at. numbers-without known past book wait (day_row (known_without known wait) number wait.till wait.header terminal last)
           (beside-numbers (known_without known wait) past book number terminal (asked_for_day (known_without known wait) wait.till terminal last wait.header) last (day_command terminal.pt) (record { records = n.records; standings = n.standings })

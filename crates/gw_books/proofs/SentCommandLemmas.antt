@@ -1,97 +1,89 @@
--- A command that may charge a card begins so in its bytes, and nothing else that a terminal is sent does; its bytes say whether it is a reversal or a payment.
-use Rattle.std.proofs.Common.{◌≡◌, ◌∙◌, ℕ, Bool, true, false, List, [], ◌∷◌, ◌++◌, refl, sym, ap}
-use Rattle.std.specs.Prelude.{◌&&◌, ◌||◌}
+-- A command that may charge a card begins so in its bytes, and nothing else that a terminal is sent does; its bytes say of which kind it is.
+use Rattle.std.proofs.Common.{◌≡◌, ◌∙◌, ℕ, Bool, true, false, List, [], ◌∷◌, ◌++◌, refl, sym, ap, Option, Some, None, is_some}
+use Rattle.std.specs.Prelude.{◌&&◌, if◌then◌else◌, is_some, Option, Some, None}
 use Rattle.gw_bytes.specs.Bytes.{IsPrefix}
 use Rattle.zvt_msg.specs.CommandCanonical.{canonical_command}
 use Rattle.zvt_msg.specs.declared.command.Command.{Command}
 use Rattle.zvt_msg.specs.declared.command.Command.TheVariants as command
 use Rattle.gw_owes.specs.Calls.{Sending, Ask, Acknowledge, Refuse, sending_bytes}
 use Rattle.gw_rules.proofs.StageLemmas.{no-true}
-use Rattle.gw_books.specs.Past.{is_of_instruction, may_charge}
+use Rattle.gw_books.specs.Kinds.{BookedKind, OfPayment, OfReversal, kind_of_command, may_charge}
 use Rattle.gw_books.proofs.Holding.{charges, sending_charges}
 
+-- ---- kinds
+
+-- what a command asks for, where it may charge a card
+abbrev pub kind_asked : Command → Option BookedKind
+kind_asked (command.Register password config_byte currency) = None
+kind_asked (command.Authorise amount currency) = Some OfPayment
+kind_asked (command.Reverse password receipt) = Some OfReversal
+kind_asked (command.EndOfDay password) = None
+kind_asked (command.Enquire password) = None
+kind_asked command.Stop = None
+kind_asked (command.Show lines) = None
+
+abbrev pub kind_of_sending : Sending → Option BookedKind
+kind_of_sending (Ask asked) = kind_asked asked
+kind_of_sending Acknowledge = None
+kind_of_sending Refuse = None
+
+-- the bytes of each say it
+command-kind : (asked : Command) → kind_of_command (canonical_command asked) ≡ kind_asked asked
+command-kind (command.Register password config_byte currency) = refl
+command-kind (command.Authorise amount currency) = refl
+command-kind (command.Reverse password receipt) = refl
+command-kind (command.EndOfDay password) = refl
+command-kind (command.Enquire password) = refl
+command-kind command.Stop = refl
+command-kind (command.Show lines) = refl
+
+sending-kind : (sending : Sending) → kind_of_command (sending_bytes sending) ≡ kind_of_sending sending
+sending-kind (Ask asked) = command-kind asked
+sending-kind Acknowledge = refl
+sending-kind Refuse = refl
+
+-- a command of a kind is one that may charge a card
+command-charges : (asked : Command) → charges asked ≡ is_some (kind_asked asked)
+command-charges (command.Register password config_byte currency) = refl
+command-charges (command.Authorise amount currency) = refl
+command-charges (command.Reverse password receipt) = refl
+command-charges (command.EndOfDay password) = refl
+command-charges (command.Enquire password) = refl
+command-charges command.Stop = refl
+command-charges (command.Show lines) = refl
+
+sending-charges : (sending : Sending) → sending_charges sending ≡ is_some (kind_of_sending sending)
+sending-charges (Ask asked) = command-charges asked
+sending-charges Acknowledge = refl
+sending-charges Refuse = refl
+
+-- ---- beginnings
+
 -- one byte is no beginning of two
-no-one : (one other : Bool) → ((one && false) || (other && false)) ≡ true → ⊥
-no-one true true e = no-true e
-no-one true false e = no-true e
-no-one false true e = no-true e
-no-one false false e = no-true e
+no-one : {A : Type 0} (one other : Bool) (kind : BookedKind) → (if one && false then Some OfPayment else (if other && false then Some OfReversal else None)) ≡ Some kind → A
+no-one true true kind e = absurd cc
+no-one true false kind e = absurd cc
+no-one false true kind e = absurd cc
+no-one false false kind e = absurd cc
 
--- bytes that begin so do with more after them
-more-charge : (bytes more : List ℕ) → may_charge bytes ≡ true → may_charge (bytes ++ more) ≡ true
-more-charge [] more e = no-true e
-more-charge (one ∷ []) more e = absurd (no-one _ _ e)
-more-charge (one ∷ two ∷ bytes) more e = e
+-- bytes of a kind are of it with more after them
+more-kind : (bytes more : List ℕ) (kind : BookedKind) → kind_of_command bytes ≡ Some kind → kind_of_command (bytes ++ more) ≡ Some kind
+more-kind [] more kind e = absurd cc
+more-kind (one ∷ []) more kind e = no-one _ _ kind e
+more-kind (one ∷ two ∷ bytes) more kind e = e
 
-command-charges : (asked : Command) → may_charge (canonical_command asked) ≡ true → charges asked ≡ true
-command-charges (command.Register password config_byte currency) e = no-true e
-command-charges (command.Authorise amount currency) e = refl
-command-charges (command.Reverse password receipt) e = refl
-command-charges (command.EndOfDay password) e = no-true e
-command-charges (command.Enquire password) e = no-true e
-command-charges command.Stop e = no-true e
-command-charges (command.Show lines) e = no-true e
+-- what begins as a command of a kind is the beginning of one
+pub kind-sent : (sending : Sending) (bytes : List ℕ) (kind : BookedKind) → IsPrefix bytes (sending_bytes sending) → kind_of_command bytes ≡ Some kind → kind_of_sending sending ≡ Some kind
+kind-sent sending bytes kind first e = sym (sending-kind sending) ∙ ap kind_of_command first.1 ∙ more-kind bytes first.0 kind e
 
-command-charged : (asked : Command) → charges asked ≡ true → may_charge (canonical_command asked) ≡ true
-command-charged (command.Register password config_byte currency) e = no-true e
-command-charged (command.Authorise amount currency) e = refl
-command-charged (command.Reverse password receipt) e = refl
-command-charged (command.EndOfDay password) e = no-true e
-command-charged (command.Enquire password) e = no-true e
-command-charged command.Stop e = no-true e
-command-charged (command.Show lines) e = no-true e
-
-sending-bytes-charge : (sending : Sending) → may_charge (sending_bytes sending) ≡ true → sending_charges sending ≡ true
-sending-bytes-charge (Ask asked) e = command-charges asked e
-sending-bytes-charge Acknowledge e = no-true e
-sending-bytes-charge Refuse e = no-true e
-
--- what begins as a command that may charge a card is the beginning of one
+-- so it may charge a card
 pub charging : (sending : Sending) (bytes : List ℕ) → IsPrefix bytes (sending_bytes sending) → may_charge bytes ≡ true → sending_charges sending ≡ true
-charging sending bytes first e = sending-bytes-charge sending (ap may_charge first.1 ∙ more-charge bytes first.0 e)
+charging sending bytes first e = by-kind (kind_of_command bytes) refl e
+  where
+    by-kind : (found : Option BookedKind) → kind_of_command bytes ≡ found → is_some found ≡ true → sending_charges sending ≡ true
+    by-kind None is none = no-true none
+    by-kind (Some kind) is some = sending-charges sending ∙ ap (λ (found : Option BookedKind). is_some found) (kind-sent sending bytes kind first is)
 
 -- and such a command begins so
 pub charged : (sending : Sending) → sending_charges sending ≡ true → may_charge (sending_bytes sending) ≡ true
-charged (Ask asked) e = command-charged asked e
-charged Acknowledge e = no-true e
-charged Refuse e = no-true e
-
--- the command reverses a charge
-abbrev pub reverses_charge : Command → Bool
-reverses_charge (command.Register password config_byte currency) = false
-reverses_charge (command.Authorise amount currency) = false
-reverses_charge (command.Reverse password receipt) = true
-reverses_charge (command.EndOfDay password) = false
-reverses_charge (command.Enquire password) = false
-reverses_charge command.Stop = false
-reverses_charge (command.Show lines) = false
-
-abbrev pub sending_reverses : Sending → Bool
-sending_reverses (Ask asked) = reverses_charge asked
-sending_reverses Acknowledge = false
-sending_reverses Refuse = false
-
--- its instruction is among its first two bytes
-more-instruction : (bytes more : List ℕ) → may_charge bytes ≡ true → is_of_instruction 0x30 bytes ≡ is_of_instruction 0x30 (bytes ++ more)
-more-instruction [] more e = no-true e
-more-instruction (one ∷ []) more e = absurd (no-one _ _ e)
-more-instruction (one ∷ two ∷ bytes) more e = refl
-
-command-reverses : (asked : Command) → charges asked ≡ true → is_of_instruction 0x30 (canonical_command asked) ≡ reverses_charge asked
-command-reverses (command.Register password config_byte currency) e = no-true e
-command-reverses (command.Authorise amount currency) e = refl
-command-reverses (command.Reverse password receipt) e = refl
-command-reverses (command.EndOfDay password) e = no-true e
-command-reverses (command.Enquire password) e = no-true e
-command-reverses command.Stop e = no-true e
-command-reverses (command.Show lines) e = no-true e
-
-sending-bytes-reverse : (sending : Sending) → sending_charges sending ≡ true → is_of_instruction 0x30 (sending_bytes sending) ≡ sending_reverses sending
-sending-bytes-reverse (Ask asked) e = command-reverses asked e
-sending-bytes-reverse Acknowledge e = no-true e
-sending-bytes-reverse Refuse e = no-true e
-
--- what begins as a reversal is the beginning of one
-pub reversing : (sending : Sending) (bytes : List ℕ) → IsPrefix bytes (sending_bytes sending) → may_charge bytes ≡ true → is_of_instruction 0x30 bytes ≡ sending_reverses sending
-reversing sending bytes first e =
-    more-instruction bytes first.0 e ∙ ap (is_of_instruction 0x30) (sym first.1) ∙ sending-bytes-reverse sending (charging sending bytes first e)
+charged sending e = ap (λ (found : Option BookedKind). is_some found) (sending-kind sending) ∙ sym (sending-charges sending) ∙ e

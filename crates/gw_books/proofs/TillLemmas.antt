@@ -2,7 +2,7 @@
 use Rattle.std.proofs.Common.{◌≡◌, ◌∙◌, ℕ, Bool, true, false, List, [], ◌∷◌, ◌++◌, zero, suc, ◌+◌, length, take, drop, refl, sym, ap, subst, inl, inr, arith, leb-true}
 use Rattle.std.proofs.lemmas.Bool.{and_from, and_parts, false_from_ne_true}
 use Rattle.std.proofs.lemmas.List.Elements.{All-head, All-tail}
-use Rattle.std.specs.Prelude.{nat_le, ◌&&◌, ◌||◌, not, bytes_eq, if◌then◌else◌, All, slice_get, codes, Some, option_to_list}
+use Rattle.std.specs.Prelude.{nat_le, ◌&&◌, ◌||◌, not, bytes_eq, if◌then◌else◌, All, slice_get, codes, Some, option_to_list, Option, None}
 use Rattle.std.specs.Fmt.{digits}
 use Rattle.std.specs.List.{list_any, list_all}
 use Rattle.gw_base.specs.Transaction.{transaction_text}
@@ -16,7 +16,8 @@ use Rattle.gw_rules.specs.Lawful.{turns_of}
 use Rattle.gw_rules.specs.Scene.{Scene}
 use Rattle.gw_rules.specs.Stage.{is_round}
 use Rattle.gw_rules.specs.View.{View, Move, Begin, Read, Make, after, at_first}
-use Rattle.gw_books.specs.Past.{SentReply, Past, no_past, poi_of_number, may_charge, with_sent_command, waiting_keys, with_turn, past_after, past_from, past_of}
+use Rattle.gw_books.specs.Kinds.{BookedKind, kind_of_command}
+use Rattle.gw_books.specs.Past.{SentReply, Past, no_past, waiting_keys, with_turn, past_after, past_from, past_of, numbering_of_number, with_sent_bytes}
 use Rattle.gw_books.specs.Books.{BookedEntry, Honest}
 use Rattle.gw_books.specs.Said.{Said, all_said, IsFramed}
 use Rattle.gw_books.specs.Agrees.{EachSaid, entry_key, is_transaction, is_success, is_failure, is_approved_entry, is_entry_said, is_of_category, names_entry, success_agrees, refusal_agrees}
@@ -63,11 +64,11 @@ turn-keeps scene past Stopped reply within = within
 turn-keeps scene past (Linked pt) reply within = within
 turn-keeps scene past (LinkFailed pt) reply within = within
 turn-keeps scene past (SentTill till bytes sent) reply within = inr within
-turn-keeps scene past (SentPt pt bytes sent) reply within = by (may_charge bytes)
+turn-keeps scene past (SentPt pt bytes sent) reply within = by (kind_of_command bytes)
   where
-    by : (b : Bool) → In reply (if b then with_sent_command scene (poi_of_number scene pt) bytes past else past).replies
-    by true = within
-    by false = within
+    by : (found : Option BookedKind) → In reply (with_sent_bytes scene (numbering_of_number scene pt) bytes past found).replies
+    by None = within
+    by (Some kind) = within
 turn-keeps scene past (CutTill till) reply within = within
 turn-keeps scene past (CutPt pt) reply within = within
 turn-keeps scene past (Wrote offset bytes) reply within = by (is_round scene.stage)

@@ -60,7 +60,7 @@ falling-later place (command ∷ commands) falling = (omega (arith, falling.0), 
 keyed-later : (kept more : List Record) (place : ℕ) (commands : List SentCommand) → ((key : Key) → is_accepted kept key ≡ true → is_accepted more key ≡ true) → IsFirstOf kept more → AreKeyed kept place commands → AreKeyed more (place + 1) commands
 keyed-later kept more place commands stays first keyed = record {
   falling = falling-later place commands keyed.falling;
-  accepted = λ command sent. let own = keyed.accepted command sent in record { key = own.key; key_is = own.key_is; accepted = stays own.key own.accepted; asked = asked-first kept more own.key command.reversal first own.asked };
+  accepted = λ command sent. let own = keyed.accepted command sent in record { key = own.key; key_is = own.key_is; accepted = stays own.key own.accepted; asked = asked-first kept more own.key command.kind first own.asked };
   once = keyed.once;
 }
 
@@ -77,7 +77,7 @@ any-by one other list implies e = let found = any-in one list e in any-from othe
 
 -- a report on a link before a poll is one after the link
 report-after : (poll : MadePoll) (link : MadeLink) (end : HeardEnd) → is_report_on poll link end ≡ true → is_report_after link end ≡ true
-report-after poll link end e = by_tests (is_report end.ending) (bytes_eq end.poi link.poi) (nat_lt link.place end.place) (nat_lt end.place poll.place) e
+report-after poll link end e = by_tests (is_report end.ending) (bytes_eq end.numbering.poi link.poi) (nat_lt link.place end.place) (nat_lt end.place poll.place) e
   where
     by_tests : (a b c d : Bool) → (a && (b && (c && d))) ≡ true → (a && (b && c)) ≡ true
     by_tests true true true d e = refl

@@ -31,7 +31,7 @@ use Rattle.gw_rules.proofs.RecordOrderLemmas.{written-coming}
 use Rattle.gw_rules.proofs.RecordRowLemmas.{first-later}
 use Rattle.gw_rules.proofs.StageLemmas.{no-true}
 use Rattle.gw_rules.proofs.TranscriptLogLemmas.{image-there, there-image}
-use Rattle.gw_books.specs.Past.{MadeLink, Past, no_past, past_after}
+use Rattle.gw_books.specs.Past.{MadeLink, Past, no_past, past_after, numbering_at}
 use Rattle.gw_books.specs.Books.{BookedEntry}
 use Rattle.gw_books.proofs.Holding.{charge_owed, is_handle}
 use Rattle.gw_books.proofs.ListLemmas.{In}
@@ -181,7 +181,7 @@ start-numbers setup log v past book o ok h n =
     standings : AreStandingsNumbered past book (new_core setup)
     standings number terminal found =
         let was = image-there new_terminal setup.terminals number terminal found in
-        subst (λ (t : Terminal). IsStandingNumbered past.links past.commands past.place book t.pt.poi t.standing) (same-some (new_terminal was.0) terminal (sym (there-image new_terminal setup.terminals number was.0 was.1) ∙ found)) tt
+        subst (λ (t : Terminal). IsStandingNumbered past.links past.commands past.place book (numbering_at t.pt) t.standing) (same-some (new_terminal was.0) terminal (sym (there-image new_terminal setup.terminals number was.0 was.1) ∙ found)) tt
 
 open-failed-numbers : TurnNumbers OpenFailed
 open-failed-numbers log v past book o ok h n =
@@ -269,7 +269,7 @@ none-there at x found = absurd (let n : None ≡ Some x = found in cc)
 -- of no records
 no-records : (book : List BookedEntry) → AreRecordsNumbered book [] 0 []
 unfolding history
-no-records book = record { opened = λ poi slot intent opened. absurd (let n : None ≡ Some slot = opened in cc); last = λ poi. inl refl }
+no-records book = record { intents = λ slot intent there. absurd (let n : None ≡ Some intent = there in cc); last = λ numbering. inl refl }
 
 pub first-numbered : (book : List BookedEntry) → Numbered at_first no_past book
 first-numbered book = record {

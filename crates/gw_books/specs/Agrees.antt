@@ -18,6 +18,7 @@ use Rattle.gw_ledger.specs.Fold.{found_of, last_entry}
 use Rattle.gw_ledger.specs.Keys.{is_key, intent_key, same_key, slot_of}
 use Rattle.gw_ledger.specs.Slots.{intent_at, is_open}
 use Rattle.gw_owes.specs.Content.{has_same_content}
+use Rattle.gw_books.specs.Kinds.{OfPayment, OfReversal, is_kind}
 use Rattle.gw_books.specs.Past.{Occasion, OfRequest, OfMessage, OfNothing, SentCommand, MadeLink, Ending, Approved, Declined, Reported, HeardEnd, SentReply, MadePoll, Past}
 use Rattle.gw_books.specs.Books.{BookedEntry}
 use Rattle.gw_books.specs.Said.{Said, all_said, IsFramed}
@@ -67,7 +68,7 @@ names_entry kept key text entry = list_any (λ slot. bytes_eq text (transaction_
 
 -- the entry is a reversal where it is said of one, and a payment where it is said of anything else
 abbrev pub is_of_category : Said → BookedEntry → Bool
-is_of_category said entry = if bytes_eq said.category (codes "Reversal") then entry.reversal else not entry.reversal
+is_of_category said entry = is_kind (if bytes_eq said.category (codes "Reversal") then OfReversal else OfPayment) entry.kind
 
 -- the entry is the approved one of what is said, is of its category, is placed before the reply, and has the numbers and the amount that are said
 abbrev pub is_entry_said : Past → SentReply → Said → BookedEntry → Bool
@@ -154,7 +155,7 @@ is_report (Reported trace figures) = true
 
 -- the end is the report of an enquiry on this link, before the poll
 abbrev pub is_report_on : MadePoll → MadeLink → HeardEnd → Bool
-is_report_on poll link end = is_report end.ending && (bytes_eq end.poi link.poi && (nat_lt link.place end.place && nat_lt end.place poll.place))
+is_report_on poll link end = is_report end.ending && (bytes_eq end.numbering.poi link.poi && (nat_lt link.place end.place && nat_lt end.place poll.place))
 
 -- no Intent of its POIID is open at the poll that was kept before the link was made
 abbrev pub is_resolved_on : MadePoll → MadeLink → Bool

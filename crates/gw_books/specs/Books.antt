@@ -1,17 +1,18 @@
 -- The books of the terminals, and when they are honest for what has happened.
-use Rattle.std.specs.Prelude.{◌≡◌, ℕ, Bool, true, nat_lt, nat_le, ◌&&◌, ◌||◌, ◌==◌, not, bytes_eq, if◌then◌else◌, List, [], ◌∷◌, filter, Option, Some, None}
+use Rattle.std.specs.Prelude.{◌≡◌, ℕ, Bool, true, nat_lt, nat_le, ◌&&◌, ◌||◌, ◌==◌, not, bytes_eq, List, [], ◌∷◌, filter, Option, Some, None}
 use Rattle.std.specs.List.{list_any, list_all, last_or}
 use Rattle.std.specs.Option.{option_to_list}
 use Rattle.gw_base.specs.declared.figures.Figures.{Figures}
-use Rattle.gw_books.specs.Past.{SentCommand, MadeLink, Ending, Approved, Declined, Reported, HeardEnd, Past}
+use Rattle.gw_books.specs.Kinds.{BookedKind, is_kind}
+use Rattle.gw_books.specs.Past.{Numbering, is_numbering, SentCommand, MadeLink, Ending, Approved, Declined, Reported, HeardEnd, Past}
 
 -- An entry of a terminal's book. With place p it is older than the turn at place p; it may be later than the log's end.
 pub record BookedEntry : Type 0 where
-  pub poi : List ℕ
+  pub numbering : Numbering
   pub place : ℕ
   -- the place of the command that caused it; none: it is older than the log
   pub cause : Option ℕ
-  pub reversal : Bool
+  pub kind : BookedKind
   pub number : ℕ
   pub receipt : ℕ
   pub amount : ℕ
@@ -24,7 +25,7 @@ pub record BookedEntry : Type 0 where
 -- the command at this place is whole, was sent to the entry's terminal, and asks for what the entry is
 abbrev pub is_cause : BookedEntry → ℕ → SentCommand → Bool
 is_cause entry place command =
-    command.place == place && (command.whole && (bytes_eq command.poi entry.poi && (if command.reversal then entry.reversal else not entry.reversal)))
+    command.place == place && (command.whole && (is_numbering command.numbering entry.numbering && is_kind command.kind entry.kind))
 
 -- an entry with this cause is later than its command, which is one that was sent, or is still to come after the log's end; one without is older than the log
 abbrev pub is_caused : Past → BookedEntry → Option ℕ → Bool
@@ -35,7 +36,7 @@ is_caused past entry (Some place) = nat_lt place entry.place && (nat_le past.pla
 
 -- the link is not of the entry's terminal, or it was made before the command or after the entry
 abbrev pub leaves_entry : BookedEntry → ℕ → MadeLink → Bool
-leaves_entry entry cause link = not (bytes_eq link.poi entry.poi) || (nat_lt link.place cause || nat_le entry.place link.place)
+leaves_entry entry cause link = not (bytes_eq link.poi entry.numbering.poi) || (nat_lt link.place cause || nat_le entry.place link.place)
 
 -- no link of its terminal was made between its command and the entry
 abbrev pub is_of_its_link : Past → BookedEntry → Bool
@@ -51,9 +52,11 @@ is_caused_by place entry = list_any (λ cause. cause == place) (option_to_list e
 abbrev pub have_one_cause : BookedEntry → BookedEntry → Bool
 have_one_cause one other = list_any (λ cause. is_caused_by cause other) (option_to_list one.cause)
 
--- of two entries of a terminal, the other one isn't placed before this one, has a greater trace number, and another cause
+-- of two entries of a terminal, the other one isn't placed before this one, has a greater trace number where both are of one numbering, and another cause
 abbrev pub comes_before : BookedEntry → BookedEntry → Bool
-comes_before one other = not (bytes_eq one.poi other.poi) || (nat_le one.place other.place && (nat_lt one.number other.number && not (have_one_cause one other)))
+comes_before one other =
+    not (bytes_eq one.numbering.poi other.numbering.poi)
+    || (nat_le one.place other.place && ((not (is_numbering one.numbering other.numbering) || nat_lt one.number other.number) && not (have_one_cause one other)))
 
 -- each entry comes before those after it
 abbrev pub is_ordered : List BookedEntry → Bool
@@ -64,7 +67,11 @@ is_ordered (entry ∷ book) = list_all (comes_before entry) book && is_ordered b
 
 -- the entry was in the terminal's book at the hearing
 abbrev pub was_booked : HeardEnd → BookedEntry → Bool
-was_booked end entry = bytes_eq end.poi entry.poi && nat_le entry.place end.place
+was_booked end entry = bytes_eq end.numbering.poi entry.numbering.poi && nat_le entry.place end.place
+
+-- and it is of the end's numbering
+abbrev pub was_numbered : HeardEnd → BookedEntry → Bool
+was_numbered end entry = is_numbering end.numbering entry.numbering && nat_le entry.place end.place
 
 -- the entry is approved, with these figures
 abbrev pub has_figures : Figures → BookedEntry → Bool
@@ -76,7 +83,7 @@ is_over book end place = list_all (λ (entry : BookedEntry). not (is_caused_by p
 
 -- a trace number, but 0, is that of an entry at the hearing
 abbrev pub is_entry_number : List BookedEntry → HeardEnd → ℕ → Bool
-is_entry_number book end trace = trace == 0 || list_any (λ (entry : BookedEntry). was_booked end entry && entry.number == trace) book
+is_entry_number book end trace = trace == 0 || list_any (λ (entry : BookedEntry). was_numbered end entry && entry.number == trace) book
 
 -- the last entry has this trace number, is approved where figures are reported, and has them; with 0 there is no entry
 abbrev pub is_last_entry : ℕ → Option Figures → Option BookedEntry → Bool
@@ -89,7 +96,7 @@ abbrev pub is_true : List BookedEntry → HeardEnd → Ending → Bool
 is_true book end (Approved place figures) = is_over book end place && list_any (λ (entry : BookedEntry). is_caused_by place entry && has_figures figures entry) book
 is_true book end (Declined place trace) =
     is_over book end place && (list_all (λ (entry : BookedEntry). not (is_caused_by place entry && entry.approved)) book && list_all (is_entry_number book end) (option_to_list trace))
-is_true book end (Reported trace figures) = is_last_entry trace figures (last_or None (filter (was_booked end) book))
+is_true book end (Reported trace figures) = is_last_entry trace figures (last_or None (filter (was_numbered end) book))
 
 -- ---- honest
 

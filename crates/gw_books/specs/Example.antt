@@ -40,7 +40,8 @@ use Rattle.gw_rules.specs.RowExample.{terminal_setup}
 use Rattle.gw_rules.specs.Scene.{known_in}
 use Rattle.gw_rules.specs.TerminalLogExample.{items_begin, enquired_course}
 use Rattle.gw_rules.specs.View.{Move, Begin, Read, Make, view_from, at_first}
-use Rattle.gw_books.specs.Past.{Occasion, OfRequest, OfMessage, OfNothing, Approved, Declined, Reported, SentCommand, MadeLink, SentReply, MadePoll, Past}
+use Rattle.gw_books.specs.Kinds.{OfPayment}
+use Rattle.gw_books.specs.Past.{Numbering, Occasion, OfRequest, OfMessage, OfNothing, Approved, Declined, Reported, SentCommand, MadeLink, SentReply, MadePoll, Past}
 use Rattle.gw_books.specs.Books.{BookedEntry, Honest}
 use Rattle.gw_books.specs.Agrees.{Agrees}
 use Rattle.gw_books.specs.RoundLaws.{ComesNext, EndsRound}
@@ -120,9 +121,13 @@ pub record IsHonestAndAgrees (past : Past) (book : List BookedEntry) : Type 0 wh
 abbrev pub first_link : MadeLink
 first_link = record { place = 5; poi = codes "T1"; records = 0 }
 
+-- the numbering of its terminal
+abbrev pub first_numbering : Numbering
+first_numbering = record { poi = codes "T1" }
+
 -- the command, at place 22
 abbrev pub payment_command : SentCommand
-payment_command = record { place = 22; poi = codes "T1"; reversal = false; whole = true; key = Some payment_key }
+payment_command = record { place = 22; numbering = first_numbering; kind = OfPayment; whole = true; key = Some payment_key }
 
 -- the till's request, for which the calls are made
 abbrev pub payment_occasion : Occasion
@@ -141,7 +146,7 @@ asked_past = record {
   commands = payment_command ∷ [];
   links = first_link ∷ [];
   lasting = first_link ∷ [];
-  ends = record { place = 12; poi = codes "T1"; ending = Reported 0 None } ∷ [];
+  ends = record { place = 12; numbering = first_numbering; ending = Reported 0 None } ∷ [];
   replies = [];
   polls = polled_linked 16 [] ∷ polled_linked 14 [] ∷ polled_linked 11 [] ∷ polled_linked 7 [] ∷ record { place = 4; links = []; kept = [] } ∷ [];
   deeds = payment_occasion ∷ payment_occasion ∷ payment_occasion ∷ [];
@@ -183,7 +188,7 @@ abbrev pub paid_past : Past
 paid_past = record asked_past {
   place = 33;
   heard = 24;
-  ends = record { place = 24; poi = codes "T1"; ending = Approved 22 (record { number = 123; receipt = 17; amount = 1099 }) } ∷ asked_past.ends;
+  ends = record { place = 24; numbering = first_numbering; ending = Approved 22 (record { number = 123; receipt = 17; amount = 1099 }) } ∷ asked_past.ends;
   replies = sent_success ∷ [];
   polls = polled_linked 32 (Intent paying_intent ∷ Outcome kept_approval ∷ []) ∷ polled_linked 23 (Intent paying_intent ∷ []) ∷ asked_past.polls;
   deeds = OfMessage 0 Completion ∷ OfMessage 0 Completion ∷ asked_past.deeds;
@@ -191,7 +196,7 @@ paid_past = record asked_past {
 
 -- its entry, which is in the book before the approval is heard
 abbrev pub paid_entry : BookedEntry
-paid_entry = record { poi = codes "T1"; place = 24; cause = Some 22; reversal = false; number = 123; receipt = 17; amount = 1099; approved = true }
+paid_entry = record { numbering = first_numbering; place = 24; cause = Some 22; kind = OfPayment; number = 123; receipt = 17; amount = 1099; approved = true }
 
 -- the same, just after the command
 abbrev pub entry_in_time : BookedEntry
@@ -237,7 +242,7 @@ abbrev pub refused_past : Past
 refused_past = record asked_past {
   place = 32;
   heard = 24;
-  ends = record { place = 24; poi = codes "T1"; ending = Declined 22 None } ∷ asked_past.ends;
+  ends = record { place = 24; numbering = first_numbering; ending = Declined 22 None } ∷ asked_past.ends;
   replies = sent_refusal ∷ [];
   polls = polled_linked 31 (Intent paying_intent ∷ Outcome kept_decline ∷ []) ∷ polled_linked 23 (Intent paying_intent ∷ []) ∷ asked_past.polls;
   deeds = OfMessage 0 (Abort (Some 0x6C)) ∷ OfMessage 0 (Abort (Some 0x6C)) ∷ asked_past.deeds;

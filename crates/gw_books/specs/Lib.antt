@@ -4,6 +4,7 @@ pub mod Books
 pub mod BrokenLaws
 pub mod Example
 pub mod Headline
+pub mod Kinds
 pub mod Past
 pub mod PastLaws
 pub mod RecoveryExample
@@ -15,3 +16,5 @@ pub mod RoundLaws
 pub mod Said
 pub mod SaidLaws
 pub mod TillLaws
+pub mod WindowLaws
+pub mod Windows

@@ -1,9 +1,10 @@
 -- What has happened along a course: a second fold beside the view. A place is a number of turns: the turn at place p is the one after the first p. Each list has the newest first.
-use Rattle.std.specs.Prelude.{ℕ, ◌+◌, Bool, ◌||◌, nat_lt, not, bytes_eq, if◌then◌else◌, List, [], ◌∷◌, ◌++◌, map, filter, find, length, take, slice_get, Option, Some, None, unwrap_or, Result, Ok, Err}
+use Rattle.std.specs.Prelude.{ℕ, ◌+◌, Bool, nat_lt, not, bytes_eq, if◌then◌else◌, List, [], ◌∷◌, ◌++◌, map, filter, find, length, slice_get, Option, Some, None, unwrap_or, Result, Ok, Err}
 use Rattle.std.specs.List.{flat_map}
 use Rattle.std.specs.Option.{option_and_then, option_map, option_to_list}
 use Rattle.gw_base.specs.declared.figures.Figures.{Figures}
 use Rattle.gw_base.specs.declared.key.Key.{Key}
+use Rattle.gw_base.specs.declared.setup.Pt.{Pt}
 use Rattle.gw_site.specs.declared.turn.Turn.{Turn}
 use Rattle.gw_site.specs.declared.turn.Turn.TheVariants.{Start, OpenFailed, Polled, Opened, HeardTill, Closed, HeardPt, Lost, Stopped, Linked, LinkFailed, SentTill, SentPt, CutTill, CutPt, Wrote, Synced, DiskFailed, Crash}
 use Rattle.sale_values.specs.declared.header.Header.{Header}
@@ -14,6 +15,7 @@ use Rattle.zvt_msg.specs.Message.{MessageValue}
 use Rattle.zvt_msg.specs.MessageDecode.{decode_pt_message}
 use Rattle.zvt_talk.specs.declared.meaning.Heard.{Heard}
 use Rattle.zvt_talk.specs.declared.meaning.Heard.TheVariants as heard
+use Rattle.jrn_record.specs.declared.records.Intent.{Intent as TheIntent}
 use Rattle.jrn_record.specs.declared.records.Record.{Record}
 use Rattle.gw_ledger.specs.declared.entry.Entry.{Entry}
 use Rattle.gw_ledger.specs.Fold.{open_entry}
@@ -32,6 +34,7 @@ use Rattle.gw_owes.specs.ReadAs.{ReadAs, Request, Silent, NoMessage, NoJson}
 use Rattle.gw_owes.specs.Waits.{waiting_with, queue_of, first_waiting}
 use Rattle.gw_rules.specs.Scene.{Scene}
 use Rattle.gw_rules.specs.Stage.{is_round}
+use Rattle.gw_books.specs.Kinds.{BookedKind, kind_of_command}
 use Rattle.gw_rules.specs.View.{View, Move, Begin, Read, Make, after, at_first}
 
 -- ---- what is remembered
@@ -45,11 +48,27 @@ pub data Occasion : Type 0 where
   -- nothing that was said within the grammars
   OfNothing : Occasion
 
+-- within what the trace numbers of a terminal rise
+pub record Numbering : Type 0 where
+  pub poi : List ℕ
+
+-- both are the same
+abbrev pub is_numbering : Numbering → Numbering → Bool
+is_numbering one other = bytes_eq one.poi other.poi
+
+-- that of a terminal with these settings
+abbrev pub numbering_at : Pt → Numbering
+numbering_at pt = record { poi = pt.poi }
+
+-- and that of an Intent
+abbrev pub numbering_of : TheIntent → Numbering
+numbering_of intent = record { poi = intent.poi }
+
 -- a command that may charge a card, or reverse a charge, was sent, or the beginning of one: `06 01` or `06 30`
 pub record SentCommand : Type 0 where
   pub place : ℕ
-  pub poi : List ℕ
-  pub reversal : Bool
+  pub numbering : Numbering
+  pub kind : BookedKind
   -- all of it was sent
   pub whole : Bool
   -- the key of its POIID's open Intent
@@ -73,7 +92,7 @@ pub data Ending : Type 0 where
 -- the end of a dialogue, heard at this place
 pub record HeardEnd : Type 0 where
   pub place : ℕ
-  pub poi : List ℕ
+  pub numbering : Numbering
   pub ending : Ending
 
 -- a till was sent bytes
@@ -167,7 +186,7 @@ served_in (Aside before reported) = None
 
 -- where a payment or a reversal is served, the place of the last command to its POIID
 abbrev pub command_served : Past → List ℕ → Service → Option ℕ
-command_served past poi (Transaction slot) = option_map (λ (command : SentCommand). command.place) (find (λ (command : SentCommand). bytes_eq command.poi poi) past.commands)
+command_served past poi (Transaction slot) = option_map (λ (command : SentCommand). command.place) (find (λ (command : SentCommand). bytes_eq command.numbering.poi poi) past.commands)
 command_served past poi (EndOfDay header period) = None
 command_served past poi (Display header outputs) = None
 
@@ -191,7 +210,7 @@ ending_at past terminal message = ending_with (option_and_then (command_served p
 
 -- the end that a message of a terminal brings, where it brings one
 abbrev pub ends_by : Past → MessageValue → Terminal → List HeardEnd
-ends_by past message terminal = map (λ ending. record { place = past.heard; poi = terminal.pt.poi; ending = ending }) (option_to_list (ending_at past terminal message))
+ends_by past message terminal = map (λ ending. record { place = past.heard; numbering = numbering_at terminal.pt; ending = ending }) (option_to_list (ending_at past terminal message))
 
 -- the end that an item brings as it begins
 abbrev pub ends_of : Scene → Past → Occasion → List HeardEnd
@@ -201,9 +220,13 @@ ends_of scene past OfNothing = []
 
 -- ---- turns
 
--- the POIID of the terminal of this number
+-- the numbering of the terminal of this number
+abbrev pub numbering_of_number : Scene → ℕ → Numbering
+numbering_of_number scene number = unwrap_or (option_map (λ (terminal : Terminal). numbering_at terminal.pt) (slice_get scene.core.terminals number)) (record { poi = [] })
+
+-- its POIID
 abbrev pub poi_of_number : Scene → ℕ → List ℕ
-poi_of_number scene number = unwrap_or (option_map (λ (terminal : Terminal). terminal.pt.poi) (slice_get scene.core.terminals number)) []
+poi_of_number scene number = (numbering_of_number scene number).poi
 
 -- there is no run: no link lasts
 abbrev pub past_between_runs : Past → Past
@@ -227,23 +250,20 @@ without_link poi past = record past { lasting = filter (λ (link : MadeLink). no
 abbrev pub open_key : List Record → List ℕ → Option Key
 open_key kept poi = option_map (λ (entry : Entry). intent_key entry.intent) (open_entry kept poi)
 
--- the bytes begin as the command of this instruction does
-abbrev pub is_of_instruction : ℕ → List ℕ → Bool
-is_of_instruction instruction bytes = bytes_eq (take 2 bytes) (0x06 ∷ instruction ∷ [])
-
 -- the file is written; while the journal is opened that is no deed
 abbrev pub with_write : Scene → Past → Past
 with_write scene past = if is_round scene.stage then record past { deeds = past.occasion ∷ past.deeds } else past
 
--- the bytes begin as a command that may charge a card; a reversal counts too, since it may book an entry
-abbrev pub may_charge : List ℕ → Bool
-may_charge bytes = is_of_instruction 0x01 bytes || is_of_instruction 0x30 bytes
-
--- the terminal of this POIID is sent such a command
-abbrev pub with_sent_command : Scene → List ℕ → List ℕ → Past → Past
-with_sent_command scene poi bytes past =
-    let command : SentCommand = record { place = past.place; poi = poi; reversal = is_of_instruction 0x30 bytes; whole = nat_lt 0 (length (decode_apdus bytes).apdus); key = open_key scene.kept poi } in
+-- the terminal with this numbering is sent a command of this kind
+abbrev pub with_sent_command : Scene → Numbering → List ℕ → Past → BookedKind → Past
+with_sent_command scene numbering bytes past kind =
+    let command : SentCommand = record { place = past.place; numbering = numbering; kind = kind; whole = nat_lt 0 (length (decode_apdus bytes).apdus); key = open_key scene.kept numbering.poi } in
     record past { commands = command ∷ past.commands; deeds = past.occasion ∷ past.deeds }
+
+-- it is sent bytes that are a command of this kind, or none
+abbrev pub with_sent_bytes : Scene → Numbering → List ℕ → Past → Option BookedKind → Past
+with_sent_bytes scene numbering bytes past None = past
+with_sent_bytes scene numbering bytes past (Some kind) = with_sent_command scene numbering bytes past kind
 
 -- the key of the end of day that a terminal serves
 abbrev pub day_key_of : Terminal → Option Key
@@ -273,7 +293,7 @@ with_turn scene past Stopped = past
 with_turn scene past (Linked pt) = with_made_link scene (poi_of_number scene pt) past
 with_turn scene past (LinkFailed pt) = past
 with_turn scene past (SentTill till bytes sent) = with_reply scene bytes past
-with_turn scene past (SentPt pt bytes sent) = if may_charge bytes then with_sent_command scene (poi_of_number scene pt) bytes past else past
+with_turn scene past (SentPt pt bytes sent) = with_sent_bytes scene (numbering_of_number scene pt) bytes past (kind_of_command bytes)
 with_turn scene past (CutTill till) = past
 with_turn scene past (CutPt pt) = without_link (poi_of_number scene pt) past
 with_turn scene past (Wrote offset bytes) = with_write scene past

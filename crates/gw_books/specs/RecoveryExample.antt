@@ -33,7 +33,7 @@ use Rattle.gw_books.specs.Past.{Occasion, OfRequest, OfMessage, Reported, SentCo
 use Rattle.gw_books.specs.Books.{BookedEntry, Honest}
 use Rattle.gw_books.specs.Said.{Said}
 use Rattle.gw_books.specs.Agrees.{is_transaction, is_success}
-use Rattle.gw_books.specs.Example.{payment_command, asked_past, paid_entry, paid_figures, older_entry}
+use Rattle.gw_books.specs.Example.{first_numbering, payment_command, asked_past, paid_entry, paid_figures, older_entry}
 use Rattle.gw_books.specs.Headline.{HasPast}
 use Rattle.gw_books.specs.RecoveryLaws.{IsReportedAt, HasTrueOutcome, IsAsideIn, IsSaidAlong}
 use Rattle.gw_books.specs.RoundLaws.{ComesNext, EndsRound}
@@ -108,7 +108,7 @@ abbrev pub recovered_past : Past
 recovered_past = record open_past {
   place = 51;
   heard = 39;
-  ends = record { place = 39; poi = codes "T1"; ending = Reported 123 (Some paid_figures) } ∷ open_past.ends;
+  ends = record { place = 39; numbering = first_numbering; ending = Reported 123 (Some paid_figures) } ∷ open_past.ends;
   replies = sent_resolved_status ∷ open_past.replies;
   polls = polled_later 49 recovered_records ∷ polled_later 46 recovered_records ∷ open_past.polls;
   deeds = OfMessage 0 Completion ∷ OfMessage 0 Completion ∷ open_past.deeds;
@@ -152,7 +152,7 @@ abbrev pub unperformed_past : Past
 unperformed_past = record open_past {
   place = 46;
   heard = 39;
-  ends = record { place = 39; poi = codes "T1"; ending = Reported 0 None } ∷ open_past.ends;
+  ends = record { place = 39; numbering = first_numbering; ending = Reported 0 None } ∷ open_past.ends;
   polls = polled_later 45 unperformed_records ∷ open_past.polls;
   deeds = OfMessage 0 (Abort (Some 0x64)) ∷ OfMessage 0 (Abort (Some 0x64)) ∷ open_past.deeds;
 }

@@ -15,7 +15,7 @@ use Rattle.gw_ledger.specs.declared.entry.Entry.{Entry as TheEntry}
 use Rattle.gw_ledger.specs.declared.entry.Found.TheVariants.{Entry}
 use Rattle.gw_ledger.specs.Fold.{found_of}
 use Rattle.gw_ledger.specs.Keys.{intent_key}
-use Rattle.gw_ledger.specs.Slots.{asks_payment, intent_at}
+use Rattle.gw_ledger.specs.Slots.{intent_at}
 use Rattle.gw_owes.specs.declared.terminal.Standing.TheVariants.{Aside}
 use Rattle.gw_owes.specs.declared.terminal.Terminal.{Terminal}
 use Rattle.gw_owes.specs.Items.{Handle}
@@ -25,6 +25,7 @@ use Rattle.gw_rules.specs.Laws.{IsLeanCourse}
 use Rattle.gw_rules.specs.Lawful.{turns_of}
 use Rattle.gw_rules.specs.Scene.{known_in}
 use Rattle.gw_rules.specs.View.{View, Move, at_first, view_from}
+use Rattle.gw_books.specs.Kinds.{is_kind, booked_kind_of}
 use Rattle.gw_books.specs.Past.{MadeLink, MadePoll, Past, SentReply, past_of}
 use Rattle.gw_books.specs.Books.{BookedEntry, Honest}
 use Rattle.gw_books.specs.Said.{IsFramed, Said, all_said}
@@ -45,9 +46,9 @@ pub record IsReportedAt (past : Past) (poll : MadePoll) (link : MadeLink) (slot 
   pub poi_is : intent.poi ≡ link.poi
   pub before : slot < link.records
 
--- the entry is a payment or a reversal, as the Intent asks
+-- the entry is of the kind that the Intent asks for
 abbrev pub is_as_asked : TheIntent → BookedEntry → Bool
-is_as_asked intent entry = if asks_payment intent.what then not entry.reversal else entry.reversal
+is_as_asked intent entry = is_kind (booked_kind_of intent.what) entry.kind
 
 -- the entry is approved, for the key of the Intent, of its kind, and with the numbers and the amount of the Outcome
 abbrev pub is_entry_of : Past → TheIntent → TheOutcome → BookedEntry → Bool

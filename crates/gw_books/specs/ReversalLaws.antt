@@ -1,5 +1,5 @@
 -- Reversals and stops along a lawful log: what is asked of a terminal before the next poll, and, with an honest book, that a payment is reversed at most once.
-use Rattle.std.specs.Prelude.{◌≡◌, ℕ, true, false, not, List, [], ◌∷◌, ◌++◌, length, slice_get, Some}
+use Rattle.std.specs.Prelude.{◌≡◌, ℕ, true, List, [], ◌∷◌, ◌++◌, length, slice_get, Some}
 use Rattle.gw_base.specs.declared.setup.Setup.{Setup}
 use Rattle.gw_site.specs.Outside.{is_connected}
 use Rattle.gw_site.specs.declared.turn.Turn.{Turn}
@@ -18,7 +18,7 @@ use Rattle.gw_ledger.specs.declared.entry.Entry.{Entry as TheEntry}
 use Rattle.gw_ledger.specs.Keys.{intent_key}
 use Rattle.gw_ledger.specs.Laws.{IsOriginalOf}
 use Rattle.gw_ledger.specs.Reversals.{IsReversalOf}
-use Rattle.gw_ledger.specs.Slots.{asks_payment, entry_at, intent_at}
+use Rattle.gw_ledger.specs.Slots.{entry_at, intent_at}
 use Rattle.xlate.specs.Ask.{receipt_of}
 use Rattle.gw_owes.specs.declared.terminal.Standing.TheVariants.{Ready}
 use Rattle.gw_owes.specs.Calls.{Ask, SendPt, keep_calls}
@@ -32,6 +32,7 @@ use Rattle.gw_rules.specs.Laws.{IsLeanCourse}
 use Rattle.gw_rules.specs.Lawful.{turns_of}
 use Rattle.gw_rules.specs.Scene.{known_in}
 use Rattle.gw_rules.specs.View.{View, Move, at_first, view_from}
+use Rattle.gw_books.specs.Kinds.{OfPayment, booked_kind_of}
 use Rattle.gw_books.specs.Past.{Past, past_of}
 use Rattle.gw_books.specs.Books.{BookedEntry, Honest}
 use Rattle.gw_books.specs.Agrees.{entry_key}
@@ -65,11 +66,11 @@ StopIsSent =
 abbrev pub kept_after : List Move → List Record
 kept_after moves = (view_from at_first moves).scene.kept
 
--- an entry whose command was sent in the log is a reversal exactly where what was asked under its key is one
+-- an entry whose command was sent in the log is of the kind of what was asked under its key
 abbrev pub EntryIsAsAsked : Type 0
 EntryIsAsAsked =
     (log : List Turn) (moves : List Move) (book : List BookedEntry) (at slot : ℕ) (entry : BookedEntry) (intent : TheIntent) → IsLeanCourse log moves → Honest (past_of moves) book → slice_get book at ≡ Some entry
-    → intent_at (kept_after moves) slot ≡ Some intent → entry_key (past_of moves) entry ≡ Some (intent_key intent) → entry.reversal ≡ not (asks_payment intent.what)
+    → intent_at (kept_after moves) slot ≡ Some intent → entry_key (past_of moves) entry ≡ Some (intent_key intent) → entry.kind ≡ booked_kind_of intent.what
 
 -- ---- a payment is reversed at most once
 
@@ -96,7 +97,7 @@ pub record IsOfPaid (kept : List Record) (past : Past) (book : List BookedEntry)
   pub found : slice_get book at ≡ Some paid
   pub key_is : entry_key past paid ≡ Some (intent_key original.intent)
   pub approved : paid.approved ≡ true
-  pub is_payment : paid.reversal ≡ false
+  pub is_payment : paid.kind ≡ OfPayment
   pub whole : paid.amount ≡ reversal.intent.amount
 
 -- so is each that was accepted

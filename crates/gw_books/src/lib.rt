@@ -13,6 +13,7 @@ ghost use Rattle.gw_books.specs.ReversalLaws.{EntryIsAsAsked, OnlyPaidIsReversed
 ghost use Rattle.gw_books.specs.RoundLaws.{ApprovalIsSaid, DeclineIsSaid, OwedIsDone, PaymentIsAsked};
 ghost use Rattle.gw_books.specs.SaidLaws.{EachReplyIsFramed, EachReplySays, EachSentIsFramed, OneMessageIsFramed};
 ghost use Rattle.gw_books.specs.TillLaws.{PaidIsSaid, RefusedIsNeverCharged, RefusedIsSaid, SuccessIsBooked};
+ghost use Rattle.gw_books.specs.WindowLaws.{ComingDoesNotMatch, HonestMatches, ReversedMatches};
 
 /// What a till is sent says what its reply says: a reply its own category, key, result and condition, and that of a finished request its
 /// transaction and its amount; one that repeats says its own success, and then what it repeats; a device request and an event say nothing
@@ -159,6 +160,26 @@ pub fn law_recovery()
     gw_owes::law_records();
     gw_owes::law_waits();
     gw_owes::law_open_reports();
+    gw_ledger::law_next();
+    gw_ledger::law_open();
+    gw_ledger::law_within();
+    gw_ledger::law_named();
+    gw_ledger::law_fits();
+}
+
+/// What an auditor may rely on who has the journal and the books of the terminals. Whatever was asked and wherever the power failed,
+/// where the books are honest and no entry's command is still to come after the log's end: the kept records may come each after those
+/// before it, the trace numbers of each terminal rise, and each Intent, by the numbers above the one before it and up to the one before
+/// the next Intent of its terminal, has at most one approved entry; an approved key has one, of its kind, with its numbers and its amount,
+/// and a declined key has none. In the examples a payment is approved and then reversed, and the records match the book with both
+/// entries; and an honest book with an entry whose command is still to come doesn't match a declined payment.
+pub fn law_windows()
+    ensures matches { HonestMatches }
+    ensures example { ReversedMatches }
+    ensures coming { ComingDoesNotMatch }
+{
+    gw_owes::law_records();
+    gw_owes::law_waits();
     gw_ledger::law_next();
     gw_ledger::law_open();
     gw_ledger::law_within();

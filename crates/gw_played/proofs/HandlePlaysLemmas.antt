@@ -132,7 +132,7 @@ module _ (laws : PeerLaws) (settings : List ℕ → Setting) (v : View) (past : 
   -- the new ends are sound
   abbrev AreSound : List HeardEnd → Type 0
   AreSound ends = (end : HeardEnd) → In end ends
-      → (IsOfCommand past.commands end.poi end.ending × WasLinked past.links end.poi × (end.place ≤ past.heard)) × (is_true (book_along (settings end.poi) end.poi (exchanges end.poi)) end end.ending ≡ true)
+      → (IsOfCommand past.commands end.numbering.poi end.ending × WasLinked past.links end.numbering.poi × (end.place ≤ past.heard)) × (is_true (book_along (settings end.numbering.poi) end.numbering.poi (exchanges end.numbering.poi)) end end.ending ≡ true)
 
   none-sound : AreSound []
   none-sound end within = absurd within
@@ -192,7 +192,7 @@ module _ (laws : PeerLaws) (settings : List ℕ → Setting) (v : View) (past : 
       made-now other terminal (inl (apart, found)) linked = plays.made other terminal found linked
       made-now other terminal (inr (same, own)) linked = subst (λ (pt : Pt). WasLinked past.links pt.poi) own.settings_are (plays.made number own.old own.here (own.linked_before linked))
 
-      ends-now : (end : HeardEnd) → In end ends ⊎ In end past.ends → IsOfCommand past.commands end.poi end.ending × WasLinked past.links end.poi × (end.place ≤ past.heard)
+      ends-now : (end : HeardEnd) → In end ends ⊎ In end past.ends → IsOfCommand past.commands end.numbering.poi end.ending × WasLinked past.links end.numbering.poi × (end.place ≤ past.heard)
       ends-now end (inl new) = (sound end new).0
       ends-now end (inr earlier) = plays.ends end earlier
 
@@ -268,7 +268,7 @@ module _ (laws : PeerLaws) (settings : List ℕ → Setting) (v : View) (past : 
     one-sound : (ending : Ending) → IsOfCommand past.commands old.pt.poi ending → is_true (book_along setting old.pt.poi placed) (heard_now past old.pt.poi ending) ending ≡ true → AreSound (heard_now past old.pt.poi ending ∷ [])
     one-sound ending of_command true_of end (inl same) =
         let P : HeardEnd → Type 0 = λ e.
-        (IsOfCommand past.commands e.poi e.ending × WasLinked past.links e.poi × (e.place ≤ past.heard)) × (is_true (book_along (settings e.poi) e.poi (exchanges e.poi)) e e.ending ≡ true) in
+        (IsOfCommand past.commands e.numbering.poi e.ending × WasLinked past.links e.numbering.poi × (e.place ≤ past.heard)) × (is_true (book_along (settings e.numbering.poi) e.numbering.poi (exchanges e.numbering.poi)) e e.ending ≡ true) in
         let least : past.heard ≤ past.heard = omega arith in
         subst P (sym same) ((of_command, plays.made number old here linked, least), true_of)
     one-sound ending of_command true_of end (inr none) = absurd none
@@ -409,10 +409,10 @@ module _ (laws : PeerLaws) (settings : List ℕ → Setting) (v : View) (past : 
 
     module _ (slot last : ℕ) (p : IsTransacting setting old.pt.poi placed number (Handle number apdu ∷ rest) past.commands old.talk) where
       -- the last command to the terminal
-      command-is : (command : SentCommand) × In command past.commands × (command.place ≡ p.last.command.place) × (command.poi ≡ old.pt.poi)
+      command-is : (command : SentCommand) × In command past.commands × (command.place ≡ p.last.command.place) × (command.numbering.poi ≡ old.pt.poi)
       command-is =
-          let found = found-in (λ (one : SentCommand). bytes_eq one.poi old.pt.poi) past.commands p.last.command p.last.last in
-          (p.last.command, found.0, refl, bytes-are p.last.command.poi old.pt.poi found.1)
+          let found = found-in (λ (one : SentCommand). bytes_eq one.numbering.poi old.pt.poi) past.commands p.last.command p.last.last in
+          (p.last.command, found.0, refl, bytes-are p.last.command.numbering.poi old.pt.poi found.1)
 
       -- the end of this command
       ends-are : (meant : Heard) (ending : Ending) → ending_with (Some p.last.command.place) meant ≡ Some ending → EndsIn (Serving (Transaction slot) last) meant ≡ heard_now past old.pt.poi ending ∷ []

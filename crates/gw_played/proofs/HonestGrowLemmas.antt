@@ -20,19 +20,21 @@ use Rattle.zvt_apdu.specs.DecodeStream.{DecodedApdus}
 use Rattle.gw_rules.specs.Scene.{Scene}
 use Rattle.gw_rules.specs.Stage.{is_round}
 use Rattle.gw_rules.specs.View.{View, Move, Begin, Read, Make}
-use Rattle.gw_books.specs.Past.{SentCommand, MadeLink, Ending, Approved, Declined, Reported, HeardEnd, Past, may_charge, past_after, poi_of_number, with_sent_command, with_turn}
+use Rattle.gw_books.proofs.AgreeLemmas.{same-kind}
+use Rattle.gw_books.specs.Kinds.{BookedKind, OfReversal, is_kind, kind_of_command}
+use Rattle.gw_books.specs.Past.{SentCommand, MadeLink, Ending, Approved, Declined, Reported, HeardEnd, Past, past_after, poi_of_number, with_turn, Numbering, is_numbering, numbering_of_number, with_sent_bytes}
 use Rattle.gw_books.specs.Books.{BookedEntry, comes_before, has_figures, have_one_cause, is_cause, is_caused, is_caused_by, is_entry_number, is_last_entry, is_of_its_link, is_ordered, is_over, is_true, leaves_entry, was_booked}
 use Rattle.gw_books.proofs.Holding.{AreFalling}
 use Rattle.gw_books.proofs.KeyedLemmas.{sent-below}
 use Rattle.gw_books.proofs.ListLemmas.{In, all-in, all-from, any-in, any-from, bytes-itself, in-either, in-first, in-second}
-use Rattle.gw_played.specs.Played.{PlacedExchange, exchanges_in, exchanges_after, booked_by, placed_entry, book_along, done_by}
+use Rattle.gw_played.specs.Played.{PlacedExchange, exchanges_in, exchanges_after, booked_by, placed_entry, book_along, done_by, kind_booked}
 use Rattle.gw_played.proofs.Playing.{is_numbered, HasCommand, IsHonestFor, IsOfCommand, PeerLaws, WasLinked, met_in}
 
 -- ---- what is known of a past
 
 -- the ends of a past are those of commands that were sent and of terminals that were linked
 abbrev pub AreEnds : Past → Type 0
-AreEnds past = (end : HeardEnd) → In end past.ends → IsOfCommand past.commands end.poi end.ending × WasLinked past.links end.poi × (end.place ≤ past.heard)
+AreEnds past = (end : HeardEnd) → In end past.ends → IsOfCommand past.commands end.numbering.poi end.ending × WasLinked past.links end.numbering.poi × (end.place ≤ past.heard)
 
 -- its links were made before its place
 abbrev pub AreLinksBefore : Past → Type 0
@@ -172,7 +174,7 @@ linked-later past later poi entry falling follows has = each entry.cause
     of cause link all (inl within) = all-in (leaves_entry entry cause) past.links all link within
     of cause link all (inr h) =
         let g = entry-placed past poi entry falling has in
-        or_right (not (bytes_eq link.poi entry.poi)) (nat_lt link.place cause || nat_le entry.place link.place)
+        or_right (not (bytes_eq link.poi entry.numbering.poi)) (nat_lt link.place cause || nat_le entry.place link.place)
         (or_right (nat_lt link.place cause) (nat_le entry.place link.place) (le-leb entry.place link.place (omega (arith, h, g))))
 
     each : (cause : Option ℕ) → list_all (λ (one : ℕ). list_all (leaves_entry entry one) past.links) (option_to_list cause) ≡ true → list_all (λ (one : ℕ). list_all (leaves_entry entry one) later.links) (option_to_list cause) ≡ true
@@ -193,7 +195,7 @@ commanded-later past later poi entry follows has = record {
 
 -- a book that is honest is so later, where each new end is true of it
 honest-later : (past later : Past) (poi : List ℕ) (book : List BookedEntry) → AreFalling past.place past.commands → Follows past later
-    → ((end : HeardEnd) → In end later.ends → In end past.ends ⊎ (end.poi ≡ poi → is_true book end end.ending ≡ true)) → IsHonestFor past poi book → IsHonestFor later poi book
+    → ((end : HeardEnd) → In end later.ends → In end past.ends ⊎ (end.numbering.poi ≡ poi → is_true book end end.ending ≡ true)) → IsHonestFor past poi book → IsHonestFor later poi book
 honest-later past later poi book falling follows ends honest = record {
   commanded = λ entry within. commanded-later past later poi entry follows (honest.commanded entry within);
   caused = λ entry within. caused-later past later poi entry falling follows (honest.commanded entry within) (honest.caused entry within);
@@ -203,7 +205,7 @@ honest-later past later poi book falling follows ends honest = record {
   true_ends = λ end within own. by end own (ends end within);
 }
   where
-    by : (end : HeardEnd) → end.poi ≡ poi → In end past.ends ⊎ (end.poi ≡ poi → is_true book end end.ending ≡ true) → is_true book end end.ending ≡ true
+    by : (end : HeardEnd) → end.numbering.poi ≡ poi → In end past.ends ⊎ (end.numbering.poi ≡ poi → is_true book end end.ending ≡ true) → is_true book end end.ending ≡ true
     by end own (inl old) = honest.true_ends end old own
     by end own (inr new) = new own
 
@@ -239,13 +241,13 @@ honest-other past later poi book command falling place commands links ends =
 
 -- ends are heard, each of them true of this terminal's book where it is its own
 pub honest-ends : (past later : Past) (poi : List ℕ) (book : List BookedEntry) (new : List HeardEnd) → AreFalling past.place past.commands → past.place ≤ later.place → later.commands ≡ past.commands
-    → later.links ≡ past.links → later.ends ≡ new ++ past.ends → ((end : HeardEnd) → In end new → end.poi ≡ poi → is_true book end end.ending ≡ true) → IsHonestFor past poi book → IsHonestFor later poi book
+    → later.links ≡ past.links → later.ends ≡ new ++ past.ends → ((end : HeardEnd) → In end new → end.numbering.poi ≡ poi → is_true book end end.ending ≡ true) → IsHonestFor past poi book → IsHonestFor later poi book
 honest-ends past later poi book new falling place commands links ends true_ =
     honest-later past later poi book falling
     (record { place = place; commands = λ command within. subst (In command) (sym commands) within; links = λ link within. inl (subst (In link) links within) })
     (λ end within. by end (in-either end new past.ends (subst (In end) ends within)))
   where
-    by : (end : HeardEnd) → In end new ⊎ In end past.ends → In end past.ends ⊎ (end.poi ≡ poi → is_true book end end.ending ≡ true)
+    by : (end : HeardEnd) → In end new ⊎ In end past.ends → In end past.ends ⊎ (end.numbering.poi ≡ poi → is_true book end end.ending ≡ true)
     by end (inl first) = inr (true_ end first)
     by end (inr old) = inl old
 
@@ -272,7 +274,7 @@ record IsNext (past : Past) (poi : List ℕ) (book : List BookedEntry) (entry : 
   numbered : is_numbered entry ≡ true
   after : (one : BookedEntry) → In one book → comes_before one entry ≡ true
   -- of no end that was heard
-  own : (end : HeardEnd) → In end past.ends → end.poi ≡ poi → IsOwn book (book ++ entry ∷ []) end.ending
+  own : (end : HeardEnd) → In end past.ends → end.numbering.poi ≡ poi → IsOwn book (book ++ entry ∷ []) end.ending
   unheard : (end : HeardEnd) → In end past.ends → was_booked end entry ≡ false
 
 unbooked : (book : List BookedEntry) (end : HeardEnd) (entry : BookedEntry) → was_booked end entry ≡ false → filter (was_booked end) (book ++ entry ∷ []) ≡ filter (was_booked end) book
@@ -303,16 +305,23 @@ one-more past poi book entry next honest = record {
 
 -- an entry without its place
 abbrev pub plain_entry : BookedEntry → BookEntry
-plain_entry entry = record { number = entry.number; receipt = entry.receipt; amount = entry.amount; reversal = entry.reversal; approved = entry.approved }
+plain_entry entry = record { number = entry.number; receipt = entry.receipt; amount = entry.amount; reversal = is_kind OfReversal entry.kind; approved = entry.approved }
 
 pub in-map : {A B : Type 0} (f : A → B) (list : List A) (x : A) → In x list → In (f x) (map f list)
 in-map f [] x within = absurd within
 in-map f (y ∷ list) x (inl same) = inl (ap f same)
 in-map f (y ∷ list) x (inr within) = inr (in-map f list x within)
 
+plain-one : (poi : List ℕ) (place : ℕ) (entry : BookEntry) → plain_entry (placed_entry poi place entry) ≡ entry
+plain-one poi place entry = ap (λ (reversal : Bool). record { number = entry.number; receipt = entry.receipt; amount = entry.amount; reversal = reversal; approved = entry.approved }) (by-kind entry.reversal)
+  where
+    by-kind : (reversal : Bool) → is_kind OfReversal (kind_booked reversal) ≡ reversal
+    by-kind true = refl
+    by-kind false = refl
+
 plain-placed : (poi : List ℕ) (place : ℕ) (entries : List BookEntry) → map plain_entry (map (placed_entry poi place) entries) ≡ entries
 plain-placed poi place [] = refl
-plain-placed poi place (entry ∷ entries) = ap (λ (list : List BookEntry). entry ∷ list) (plain-placed poi place entries)
+plain-placed poi place (entry ∷ entries) = ap (λ (one : BookEntry). one ∷ map plain_entry (map (placed_entry poi place) entries)) (plain-one poi place entry) ∙ ap (λ (list : List BookEntry). entry ∷ list) (plain-placed poi place entries)
 
 -- what is booked for a sending comes after the book before it
 pub book-grows : (laws : PeerLaws) (setting : Setting) (exchanges : List Exchange) (bytes : List ℕ)
@@ -386,17 +395,11 @@ pub book-still : (setting : Setting) (poi : List ℕ) (one : PlacedExchange) (ex
 book-still setting poi one exchanges none =
     ap (λ (entries : List BookEntry). book_along setting poi exchanges ++ map (placed_entry poi one.place) entries) none ∙ append-nil (book_along setting poi exchanges)
 
--- for a command a terminal books nothing, or one entry, where the command is whole, a reversal where the entry is one
+-- for a command a terminal books nothing, or one entry of its kind, where the command is whole
 abbrev pub BooksOne : SentCommand → List BookEntry → Type 0
 BooksOne command [] = Unit {0}
-BooksOne command (entry ∷ []) = (command.whole ≡ true) × (command.reversal ≡ entry.reversal)
+BooksOne command (entry ∷ []) = (command.whole ≡ true) × (command.kind ≡ kind_booked entry.reversal)
 BooksOne command (entry ∷ other ∷ entries) = ⊥
-
-same-kind : (asked is : Bool) → asked ≡ is → (if asked then is else not is) ≡ true
-same-kind true true e = refl
-same-kind true false e = cc
-same-kind false true e = cc
-same-kind false false e = refl
 
 -- the sending of a command at the past's place
 record Sending (past later : Past) (poi : List ℕ) (command : SentCommand) : Type 0 where
@@ -406,13 +409,13 @@ record Sending (past later : Past) (poi : List ℕ) (command : SentCommand) : Ty
   links_before : AreLinksBefore past
   place : past.place + 1 ≤ later.place
   command_place : command.place ≡ past.place
-  command_poi : command.poi ≡ poi
+  command_poi : command.numbering.poi ≡ poi
   commands_are : later.commands ≡ command ∷ past.commands
   links_are : later.links ≡ past.links
   ends_are : later.ends ≡ past.ends
 
 -- the entry that is booked for it comes next
-next-entry : (past later : Past) (poi : List ℕ) (command : SentCommand) (book : List BookedEntry) (entry : BookEntry) → Sending past later poi command → (command.whole ≡ true) × (command.reversal ≡ entry.reversal)
+next-entry : (past later : Past) (poi : List ℕ) (command : SentCommand) (book : List BookedEntry) (entry : BookEntry) → Sending past later poi command → (command.whole ≡ true) × (command.kind ≡ kind_booked entry.reversal)
     → ((one : BookedEntry) → In one book → one.number < entry.number) → (1 ≤ entry.number) × (entry.number ≤ 999999) × (entry.receipt ≤ 9999) → IsHonestFor past poi book → IsNext later poi book (placed_entry poi past.place entry)
 next-entry past later poi command book entry sending kind below within honest = record {
   commanded = record {
@@ -443,10 +446,10 @@ next-entry past later poi command book entry sending kind below within honest = 
 
     is-own : is_cause new past.place command ≡ true
     is-own =
-        and_from (command.place == past.place) (command.whole && (bytes_eq command.poi poi && (if command.reversal then entry.reversal else not entry.reversal))) (eq-eqb command.place past.place sending.command_place)
-        (and_from command.whole (bytes_eq command.poi poi && (if command.reversal then entry.reversal else not entry.reversal)) kind.0
-        (and_from (bytes_eq command.poi poi) (if command.reversal then entry.reversal else not entry.reversal) (ap (λ (p : List ℕ). bytes_eq p poi) sending.command_poi ∙ bytes-itself poi)
-        (same-kind command.reversal entry.reversal kind.1)))
+        and_from (command.place == past.place) (command.whole && (bytes_eq command.numbering.poi poi && is_kind command.kind (kind_booked entry.reversal))) (eq-eqb command.place past.place sending.command_place)
+        (and_from command.whole (bytes_eq command.numbering.poi poi && is_kind command.kind (kind_booked entry.reversal)) kind.0
+        (and_from (bytes_eq command.numbering.poi poi) (is_kind command.kind (kind_booked entry.reversal)) (ap (λ (p : List ℕ). bytes_eq p poi) sending.command_poi ∙ bytes-itself poi)
+        (same-kind command.kind (kind_booked entry.reversal) kind.1)))
 
     leaves : (link : MadeLink) → In link past.links → leaves_entry new past.place link ≡ true
     leaves link inside =
@@ -462,14 +465,15 @@ next-entry past later poi command book entry sending kind below within honest = 
     after : (one : BookedEntry) → In one book → comes_before one new ≡ true
     after one inside =
         let h = entry-placed past poi one sending.falling (honest.commanded one inside) in
-        or_right (not (bytes_eq one.poi poi)) (nat_le one.place (past.place + 1) && (nat_lt one.number entry.number && not (have_one_cause one new)))
-        (and_from (nat_le one.place (past.place + 1)) (nat_lt one.number entry.number && not (have_one_cause one new)) (le-leb one.place (past.place + 1) (omega (arith, h)))
-        (and_from (nat_lt one.number entry.number) (not (have_one_cause one new)) (lt-ltb one.number entry.number (below one inside))
+        let rises : Bool = not (is_numbering one.numbering new.numbering) || nat_lt one.number entry.number in
+        or_right (not (bytes_eq one.numbering.poi poi)) (nat_le one.place (past.place + 1) && (rises && not (have_one_cause one new)))
+        (and_from (nat_le one.place (past.place + 1)) (rises && not (have_one_cause one new)) (le-leb one.place (past.place + 1) (omega (arith, h)))
+        (and_from rises (not (have_one_cause one new)) (or_right (not (is_numbering one.numbering new.numbering)) (nat_lt one.number entry.number) (lt-ltb one.number entry.number (below one inside)))
         (not_from_false (have_one_cause one new) (one-cause one (honest.commanded one inside)))))
 
     unheard : (end : HeardEnd) → In end past.ends → was_booked end new ≡ false
     unheard end inside = false_from_ne_true (was_booked end new) (λ e.
-        let h = leb-true (past.place + 1) end.place (and_parts (bytes_eq end.poi poi) (nat_le (past.place + 1) end.place) e).1 in
+        let h = leb-true (past.place + 1) end.place (and_parts (bytes_eq end.numbering.poi poi) (nat_le (past.place + 1) end.place) e).1 in
         let g = (sending.ends end inside).2 in
         let f = sending.heard in
         omega (arith, h, g, f))
@@ -484,7 +488,7 @@ next-entry past later poi command book entry sending kind below within honest = 
             absurd (omega (arith, h, is))
         by (inr (inr none)) = absurd none
 
-    ending-own : (end : HeardEnd) (ending : Ending) → IsOfCommand past.commands end.poi ending → IsOwn book (book ++ new ∷ []) ending
+    ending-own : (end : HeardEnd) (ending : Ending) → IsOfCommand past.commands end.numbering.poi ending → IsOwn book (book ++ new ∷ []) ending
     ending-own end (Approved place figures) of =
         let h = sent-below past.place past.commands sending.falling of.0 of.1 in
         let e = of.2 in
@@ -500,7 +504,7 @@ next-entry past later poi command book entry sending kind below within honest = 
 
 -- a command is sent to the terminal, which books for it
 pub honest-command : (laws : PeerLaws) (setting : Setting) (poi : List ℕ) (past later : Past) (exchanges : List PlacedExchange) (bytes : List ℕ) (command : SentCommand) → AreFalling past.place past.commands
-    → past.heard ≤ past.place → AreEnds past → AreLinksBefore past → past.place + 1 ≤ later.place → command.place ≡ past.place → command.poi ≡ poi → later.commands ≡ command ∷ past.commands → later.links ≡ past.links → later.ends ≡ past.ends
+    → past.heard ≤ past.place → AreEnds past → AreLinksBefore past → past.place + 1 ≤ later.place → command.place ≡ past.place → command.numbering.poi ≡ poi → later.commands ≡ command ∷ past.commands → later.links ≡ past.links → later.ends ≡ past.ends
     → BooksOne command (booked_by setting (exchanges_in exchanges) (Sends bytes)) → IsHonestFor past poi (book_along setting poi exchanges)
     → IsHonestFor later poi (book_along setting poi (record { place = past.place; exchange = Sends bytes } ∷ exchanges))
 honest-command laws setting poi past later exchanges bytes command falling heard ends links_before place command_place command_poi commands_are links_are ends_are books honest =
@@ -531,7 +535,7 @@ honest-command laws setting poi past later exchanges bytes command falling heard
         ap (λ (list : List BookEntry). list ++ entry ∷ []) (book-plain laws setting poi exchanges) ∙ ap (λ (list : List BookEntry). book_after setting (met_in exchanges) ++ list) (sym is)
         ∙ sym (book-grows laws setting (exchanges_in exchanges) bytes)
 
-    one : (entry : BookEntry) → booked_by setting (exchanges_in exchanges) (Sends bytes) ≡ entry ∷ [] → (command.whole ≡ true) × (command.reversal ≡ entry.reversal) → IsHonestFor later poi (book ++ placed_entry poi past.place entry ∷ [])
+    one : (entry : BookEntry) → booked_by setting (exchanges_in exchanges) (Sends bytes) ≡ entry ∷ [] → (command.whole ≡ true) × (command.kind ≡ kind_booked entry.reversal) → IsHonestFor later poi (book ++ placed_entry poi past.place entry ∷ [])
     one entry is kind =
         let after = book_after setting (Chunk bytes ∷ met_in exchanges) in
         let numbered = all_numbered setting (all_handled setting (Chunk bytes ∷ met_in exchanges)) in
@@ -568,9 +572,9 @@ falling-after v past (Make turn) falling = of turn
     same : AreFalling (past.place + 1) past.commands
     same = later-on past.place past.commands falling
 
-    sent : (b : Bool) (scene : Scene) (poi bytes : List ℕ) → AreFalling (past.place + 1) (if b then with_sent_command scene poi bytes past else past).commands
-    sent true scene poi bytes = (omega arith, falling)
-    sent false scene poi bytes = same
+    sent : (found : Option BookedKind) (scene : Scene) (numbering : Numbering) (bytes : List ℕ) → AreFalling (past.place + 1) (with_sent_bytes scene numbering bytes past found).commands
+    sent (Some kind) scene numbering bytes = (omega arith, falling)
+    sent None scene numbering bytes = same
 
     wrote : (b : Bool) → AreFalling (past.place + 1) (if b then record past { deeds = past.occasion ∷ past.deeds } else past).commands
     wrote true = same
@@ -589,7 +593,7 @@ falling-after v past (Make turn) falling = of turn
     of (Linked pt) = same
     of (LinkFailed pt) = same
     of (SentTill till bytes ok) = same
-    of (SentPt pt bytes ok) = sent (may_charge bytes) v.scene (poi_of_number v.scene pt) bytes
+    of (SentPt pt bytes ok) = sent (kind_of_command bytes) v.scene (numbering_of_number v.scene pt) bytes
     of (CutTill till) = same
     of (CutPt pt) = same
     of (Wrote offset bytes) = wrote (is_round v.scene.stage)
@@ -612,9 +616,9 @@ linked-before-after v past (Make turn) before = of turn
         omega (arith, h, is)
     made link new is (inr within) = same link within
 
-    sent : (b : Bool) (scene : Scene) (poi bytes : List ℕ) (link : MadeLink) → In link (if b then with_sent_command scene poi bytes past else past).links → link.place < past.place + 1
-    sent true scene poi bytes = same
-    sent false scene poi bytes = same
+    sent : (found : Option BookedKind) (scene : Scene) (numbering : Numbering) (bytes : List ℕ) (link : MadeLink) → In link (with_sent_bytes scene numbering bytes past found).links → link.place < past.place + 1
+    sent (Some kind) scene numbering bytes = same
+    sent None scene numbering bytes = same
 
     wrote : (b : Bool) (link : MadeLink) → In link (if b then record past { deeds = past.occasion ∷ past.deeds } else past).links → link.place < past.place + 1
     wrote true = same
@@ -633,7 +637,7 @@ linked-before-after v past (Make turn) before = of turn
     of (Linked pt) = λ link within. made link (record { place = past.place; poi = poi_of_number v.scene pt; records = length v.scene.kept }) refl within
     of (LinkFailed pt) = same
     of (SentTill till bytes ok) = same
-    of (SentPt pt bytes ok) = sent (may_charge bytes) v.scene (poi_of_number v.scene pt) bytes
+    of (SentPt pt bytes ok) = sent (kind_of_command bytes) v.scene (numbering_of_number v.scene pt) bytes
     of (CutTill till) = same
     of (CutPt pt) = same
     of (Wrote offset bytes) = wrote (is_round v.scene.stage)
@@ -650,9 +654,9 @@ heard-before-after v past (Make turn) before = of turn
     same : past.heard ≤ past.place + 1
     same = omega (arith, before)
 
-    sent : (b : Bool) (scene : Scene) (poi bytes : List ℕ) → (if b then with_sent_command scene poi bytes past else past).heard ≤ past.place + 1
-    sent true scene poi bytes = same
-    sent false scene poi bytes = same
+    sent : (found : Option BookedKind) (scene : Scene) (numbering : Numbering) (bytes : List ℕ) → (with_sent_bytes scene numbering bytes past found).heard ≤ past.place + 1
+    sent (Some kind) scene numbering bytes = same
+    sent None scene numbering bytes = same
 
     wrote : (b : Bool) → (if b then record past { deeds = past.occasion ∷ past.deeds } else past).heard ≤ past.place + 1
     wrote true = same
@@ -671,7 +675,7 @@ heard-before-after v past (Make turn) before = of turn
     of (Linked pt) = same
     of (LinkFailed pt) = same
     of (SentTill till bytes ok) = same
-    of (SentPt pt bytes ok) = sent (may_charge bytes) v.scene (poi_of_number v.scene pt) bytes
+    of (SentPt pt bytes ok) = sent (kind_of_command bytes) v.scene (numbering_of_number v.scene pt) bytes
     of (CutTill till) = same
     of (CutPt pt) = same
     of (Wrote offset bytes) = wrote (is_round v.scene.stage)

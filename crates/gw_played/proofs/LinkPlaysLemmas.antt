@@ -307,7 +307,7 @@ module _ (laws : PeerLaws) (settings : List ℕ → Setting) (log : List Turn) (
     heard_before = let before = p.heard_before in omega (arith, before);
     falling = falling-later past.place past.commands p.falling;
     linked_before = before;
-    ends = λ end within. let e = p.ends end within in (e.0, was-linked-more made_link past.links end.poi e.1, e.2);
+    ends = λ end within. let e = p.ends end within in (e.0, was-linked-more made_link past.links end.numbering.poi e.1, e.2);
     made = λ number terminal found linked. made number terminal (changed-there v.scene.core pt number old registering terminal found_old found) linked;
     places = λ poi. done-places v.scene pt past.place Links exchanges poi (p.places poi);
     honest = λ poi. subst (IsHonestFor linked_past poi) (sym (same_book poi)) (honest-link past linked_past poi (book_along (settings poi) poi (exchanges poi)) made_link p.falling (omega arith) refl refl refl refl (p.honest poi));

@@ -20,7 +20,7 @@ use Rattle.pt_core.proofs.HonestLemmas.{booked}
 use Rattle.gw_books.specs.Books.{BookedEntry, has_figures, is_caused_by, is_last_entry, is_over, is_true, was_booked}
 use Rattle.gw_books.specs.Past.{SentCommand, Ending, Approved, Declined, Reported, HeardEnd, Past}
 use Rattle.gw_books.proofs.ListLemmas.{In, all-from, any-from, bytes-itself, in-either}
-use Rattle.gw_played.specs.Played.{PlacedExchange, book_along, placed_entry}
+use Rattle.gw_played.specs.Played.{PlacedExchange, book_along, placed_entry, played_numbering}
 use Rattle.gw_played.proofs.Playing.{IsHonestFor, IsLastServed, PeerLaws, met_in}
 use Rattle.gw_played.proofs.HonestGrowLemmas.{book-plain, in-map, plain_entry}
 
@@ -152,7 +152,7 @@ report-is book end trace figures all approved reports =
 
 -- an end that is heard now
 abbrev pub heard_now : Past → List ℕ → Ending → HeardEnd
-heard_now past poi ending = record { place = past.heard; poi = poi; ending = ending }
+heard_now past poi ending = record { place = past.heard; numbering = played_numbering poi; ending = ending }
 
 module _ (laws : PeerLaws) (setting : Setting) (poi : List ℕ) (exchanges : List PlacedExchange) (past : Past) (honest : IsHonestFor past poi (book_along setting poi exchanges))
     (calm : (command : SentCommand) → In command past.commands → command.place < past.heard) where
@@ -163,7 +163,7 @@ module _ (laws : PeerLaws) (setting : Setting) (poi : List ℕ) (exchanges : Lis
       let before = calm has.command has.sent in
       let place = has.place_is in
       let placed : entry.place ≤ past.heard = omega (arith, before, place) in
-      all-true (bytes_eq poi entry.poi) (nat_le entry.place past.heard) (ap (bytes_eq poi) has.poi_is ∙ bytes-itself poi) (le-leb entry.place past.heard placed)
+      all-true (bytes_eq poi entry.numbering.poi) (nat_le entry.place past.heard) (ap (bytes_eq poi) has.poi_is ∙ bytes-itself poi) (le-leb entry.place past.heard placed)
 
   -- an approval
   pub approved-true : (before : List ApduValue) (apdu : ApduValue) (figures : Figures) (last : IsLastServed setting poi exchanges past.commands (entries_of (reaction_after setting before apdu)))

@@ -114,7 +114,7 @@ pub record IsTalking (setting : Setting) (exchanges : List PlacedExchange) (numb
 -- the last command to the POIID was sent at a place of past commands, and the book has of it just these entries
 pub record IsLastServed (setting : Setting) (poi : List ℕ) (exchanges : List PlacedExchange) (sent : List SentCommand) (entries : List BookEntry) : Type 0 where
   pub command : SentCommand
-  pub last : find (λ (one : SentCommand). bytes_eq one.poi poi) sent ≡ Some command
+  pub last : find (λ (one : SentCommand). bytes_eq one.numbering.poi poi) sent ≡ Some command
   pub booked : (entry : BookEntry) → In entry entries → In (placed_entry poi command.place entry) (book_along setting poi exchanges)
   pub only : (entry : BookedEntry) → In entry (book_along setting poi exchanges) → entry.cause ≡ Some command.place → (one : BookEntry) × In one entries × (entry ≡ placed_entry poi command.place one)
 
@@ -220,10 +220,10 @@ is_numbered entry = nat_le 1 entry.number && (nat_le entry.number 999999 && nat_
 
 -- the entry is that of a command that was sent to the POIID
 pub record HasCommand (past : Past) (poi : List ℕ) (entry : BookedEntry) : Type 0 where
-  pub poi_is : entry.poi ≡ poi
+  pub poi_is : entry.numbering.poi ≡ poi
   pub command : SentCommand
   pub sent : In command past.commands
-  pub command_poi : command.poi ≡ poi
+  pub command_poi : command.numbering.poi ≡ poi
   pub cause_is : entry.cause ≡ Some command.place
   pub place_is : entry.place ≡ command.place + 1
 
@@ -234,12 +234,12 @@ pub record IsHonestFor (past : Past) (poi : List ℕ) (book : List BookedEntry) 
   pub linked : (entry : BookedEntry) → In entry book → is_of_its_link past entry ≡ true
   pub ordered : is_ordered book ≡ true
   pub numbered : (entry : BookedEntry) → In entry book → is_numbered entry ≡ true
-  pub true_ends : (end : HeardEnd) → In end past.ends → end.poi ≡ poi → is_true book end end.ending ≡ true
+  pub true_ends : (end : HeardEnd) → In end past.ends → end.numbering.poi ≡ poi → is_true book end end.ending ≡ true
 
 -- the command of an end is one that was sent to its POIID
 abbrev pub IsOfCommand : List SentCommand → List ℕ → Ending → Type 0
-IsOfCommand sent poi (Approved place figures) = (command : SentCommand) × In command sent × (command.place ≡ place) × (command.poi ≡ poi)
-IsOfCommand sent poi (Declined place trace) = (command : SentCommand) × In command sent × (command.place ≡ place) × (command.poi ≡ poi)
+IsOfCommand sent poi (Approved place figures) = (command : SentCommand) × In command sent × (command.place ≡ place) × (command.numbering.poi ≡ poi)
+IsOfCommand sent poi (Declined place trace) = (command : SentCommand) × In command sent × (command.place ≡ place) × (command.numbering.poi ≡ poi)
 IsOfCommand sent poi (Reported trace figures) = Unit {0}
 
 -- a terminal of this POIID was linked
@@ -289,7 +289,7 @@ pub record Plays (settings : List ℕ → Setting) (v : View) (past : Past) (exc
   pub heard_before : past.heard ≤ past.place
   pub falling : AreFalling past.place past.commands
   pub linked_before : (link : MadeLink) → In link past.links → link.place < past.place
-  pub ends : (end : HeardEnd) → In end past.ends → IsOfCommand past.commands end.poi end.ending × WasLinked past.links end.poi × (end.place ≤ past.heard)
+  pub ends : (end : HeardEnd) → In end past.ends → IsOfCommand past.commands end.numbering.poi end.ending × WasLinked past.links end.numbering.poi × (end.place ≤ past.heard)
   pub made : (number : ℕ) (terminal : Terminal) → slice_get v.scene.core.terminals number ≡ Some terminal → is_linked terminal.standing ≡ true → WasLinked past.links terminal.pt.poi
   pub places : (poi : List ℕ) (one : PlacedExchange) → In one (exchanges poi) → one.place < past.place
   pub honest : (poi : List ℕ) → IsHonestFor past poi (book_along (settings poi) poi (exchanges poi))

@@ -2,9 +2,8 @@
 use Rattle.std.proofs.Common.{◌≡◌, ◌≢◌, ◌<◌, ◌∙◌, ℕ, zero, suc, ◌+◌, Bool, true, false, List, [], ◌∷◌, ◌++◌, length, refl, sym, ap, subst, arith, inl, inr, append-nil}
 use Rattle.std.proofs.lemmas.Bool.{eq-eqb, false_from_ne_true}
 use Rattle.std.proofs.lemmas.List.Elements.{All-head, All-tail}
-use Rattle.std.specs.Prelude.{◌⊎◌, ◌&&◌, ◌||◌, nat_lt, if◌then◌else◌, bytes_eq, All, find, map, slice_get, Option, Some, None, unwrap_or}
+use Rattle.std.specs.Prelude.{◌⊎◌, ◌&&◌, ◌||◌, nat_lt, if◌then◌else◌, is_some, bytes_eq, All, find, map, slice_get, Option, Some, None}
 use Rattle.std.specs.List.{list_any}
-use Rattle.std.specs.Option.{option_map}
 use Rattle.gw_base.specs.Setup.{HaveDistinctPois}
 use Rattle.gw_base.specs.declared.setup.Pt.{Pt}
 use Rattle.gw_base.specs.declared.setup.Setup.{Setup}
@@ -49,17 +48,19 @@ use Rattle.gw_rules.proofs.RecordOrderLemmas.{Ordered, configured}
 use Rattle.gw_rules.proofs.SetupLemmas.{HasSetup}
 use Rattle.gw_rules.proofs.StageLemmas.{no-true}
 use Rattle.gw_rules.proofs.TranscriptLogLemmas.{there-image, not-number}
+use Rattle.gw_books.specs.Kinds.{may_charge, BookedKind, OfPayment, OfReversal, kind_of_command}
 use Rattle.gw_books.specs.Books.{BookedEntry}
-use Rattle.gw_books.specs.Past.{Occasion, SentCommand, Ending, Approved, Declined, Reported, Past, poi_of_number, open_key, is_of_instruction, may_charge, with_sent_command}
+use Rattle.gw_books.specs.Past.{Occasion, SentCommand, Ending, Approved, Declined, Reported, Past, poi_of_number, open_key, Numbering, numbering_of_number, with_sent_bytes}
 use Rattle.gw_books.proofs.Holding.{AreFalling, charges, sending_charges, charge_owed, is_handle}
 use Rattle.gw_books.proofs.KeyedLemmas.{sent-below}
 use Rattle.gw_books.proofs.LastCallLemmas.{IsLast, is-last, last-cuts, past_then}
 use Rattle.gw_books.proofs.ListLemmas.{In, bytes-are, bytes-itself, in-either, in-second}
 use Rattle.gw_books.proofs.SentCommandLemmas.{charging, charged}
-use Rattle.gw_played.specs.Played.{PlacedExchange, exchanges_in, booked_by, placed_entry, book_along, where_poi}
+use Rattle.gw_played.specs.Played.{PlacedExchange, exchanges_in, booked_by, placed_entry, book_along, where_poi, kind_booked}
 use Rattle.gw_played.proofs.HonestGrowLemmas.{honest-place, honest-other, honest-command, BooksOne}
 use Rattle.gw_played.proofs.PeerSendLemmas.{IsOneApdu, ChangesNothing, acknowledgement-is-one, acknowledgement-silent, asked-books, begins-transacting, begins-talking, book-stays, booked-none, command-is-one, command-spelled, one-decoded, part-books-none, part-of-one, peer-still, peer-waits, refusal-is-one, refusal-silent, sends, silent-changes-nothing, stop-is-one, stop-silent, IsSilentAt, acknowledgement, refusal}
 use Rattle.gw_played.proofs.Playing.{met_in, WaitsForNone, IsQuiet, IsTalking, IsLastServed, IsTransacting, IsPeerIn, BeginsStanding, begins_dialogue, ask_owed, link_owed, IsToBeAsked, IsPeer, HasCommand, IsHonestFor, IsOfCommand, Plays, PeerLaws, PlaysTurn}
+use Rattle.gw_books.proofs.CallHoldsLemmas.{numbering-there}
 
 -- ---- lists
 
@@ -110,7 +111,7 @@ apart-pois log v k one other t u o differs found there = by_test (bytes_eq t.pt.
 
 -- the POIID of a terminal that is there
 pub poi-is : (scene : Scene) (pt : ℕ) (terminal : Terminal) → slice_get scene.core.terminals pt ≡ Some terminal → poi_of_number scene pt ≡ terminal.pt.poi
-poi-is scene pt terminal found = ap (λ (t : Option Terminal). unwrap_or (option_map (λ (terminal : Terminal). terminal.pt.poi) t) []) found
+poi-is scene pt terminal found = ap (λ (n : Numbering). n.poi) (numbering-there scene pt terminal found)
 
 -- ---- what is owed after a call
 
@@ -145,7 +146,7 @@ ends-more new sent poi (Declined place trace) is = (is.0, inr is.1, is.2, is.3)
 ends-more new sent poi (Reported trace figures) is = tt
 
 -- a command to another POIID leaves a dialogue as far as it was
-peer-other : (setting : Setting) (poi : List ℕ) (exchanges : List PlacedExchange) (number : ℕ) (items : List RoundItem) (new : SentCommand) (sent : List SentCommand) (talk : Option TalkFacts) (standing : Standing) → bytes_eq new.poi poi ≡ false
+peer-other : (setting : Setting) (poi : List ℕ) (exchanges : List PlacedExchange) (number : ℕ) (items : List RoundItem) (new : SentCommand) (sent : List SentCommand) (talk : Option TalkFacts) (standing : Standing) → bytes_eq new.numbering.poi poi ≡ false
     → IsPeerIn setting poi exchanges number items sent talk standing → IsPeerIn setting poi exchanges number items (new ∷ sent) talk standing
 peer-other setting poi exchanges number items new sent talk (Unlinked due) apart peer = tt
 peer-other setting poi exchanges number items new sent talk Registering apart peer = peer
@@ -157,7 +158,7 @@ peer-other setting poi exchanges number items new sent talk (Serving (Transactio
   talking = peer.talking;
   last = record {
     command = peer.last.command;
-    last = ap (λ (b : Bool). if b then Some new else find (λ (one : SentCommand). bytes_eq one.poi poi) sent) apart ∙ peer.last.last;
+    last = ap (λ (b : Bool). if b then Some new else find (λ (one : SentCommand). bytes_eq one.numbering.poi poi) sent) apart ∙ peer.last.last;
     booked = peer.last.booked;
     only = peer.last.only;
   };
@@ -180,12 +181,12 @@ no-entry book (entry ∷ []) command.Stop plain books = absurd books.0
 no-entry book (entry ∷ []) (command.Show lines) plain books = absurd books.0
 no-entry book (entry ∷ other ∷ more) asked plain books = absurd books
 
--- what may cause an entry books one at most, which is a reversal where it asks for one
-one-entry : (book entries : List BookEntry) (asked : Command) (sent : SentCommand) → charges asked ≡ true → sent.whole ≡ true → sent.reversal ≡ is_of_instruction 0x30 (canonical_command asked) → Books book (Some asked) entries → BooksOne sent entries
+-- what may cause an entry books one at most, which is of its kind
+one-entry : (book entries : List BookEntry) (asked : Command) (sent : SentCommand) → charges asked ≡ true → sent.whole ≡ true → Some sent.kind ≡ kind_of_command (canonical_command asked) → Books book (Some asked) entries → BooksOne sent entries
 one-entry book [] asked sent charge whole kind books = tt
 one-entry book (entry ∷ []) (command.Register password config_byte currency) sent charge whole kind books = no-true charge
-one-entry book (entry ∷ []) (command.Authorise amount currency) sent charge whole kind books = (whole, kind ∙ sym (books.0).0)
-one-entry book (entry ∷ []) (command.Reverse password receipt) sent charge whole kind books = (whole, kind ∙ sym (books.0).0)
+one-entry book (entry ∷ []) (command.Authorise amount currency) sent charge whole kind books = (whole, same-some sent.kind OfPayment kind ∙ ap kind_booked (sym (books.0).0))
+one-entry book (entry ∷ []) (command.Reverse password receipt) sent charge whole kind books = (whole, same-some sent.kind OfReversal kind ∙ ap kind_booked (sym (books.0).0))
 one-entry book (entry ∷ []) (command.EndOfDay password) sent charge whole kind books = no-true charge
 one-entry book (entry ∷ []) (command.Enquire password) sent charge whole kind books = no-true charge
 one-entry book (entry ∷ []) command.Stop sent charge whole kind books = no-true charge
@@ -198,11 +199,11 @@ books-of setting before apdu asked spells =
     (booked setting.none (play_left setting.plays before) (book_of setting before) apdu.class (decode_command apdu))
 
 -- a command that was sent to the POIID and whose entries are just these
-last-served : (setting : Setting) (poi : List ℕ) (place : ℕ) (bytes : List ℕ) (exchanges : List PlacedExchange) (new : SentCommand) (past : Past) (entries : List BookEntry) → new.place ≡ place → new.poi ≡ poi → past.place ≡ place → AreFalling place past.commands
+last-served : (setting : Setting) (poi : List ℕ) (place : ℕ) (bytes : List ℕ) (exchanges : List PlacedExchange) (new : SentCommand) (past : Past) (entries : List BookEntry) → new.place ≡ place → new.numbering.poi ≡ poi → past.place ≡ place → AreFalling place past.commands
     → booked_by setting (exchanges_in exchanges) (Sends bytes) ≡ entries → IsHonestFor past poi (book_along setting poi exchanges) → IsLastServed setting poi (sends place bytes exchanges) (new ∷ past.commands) entries
 last-served setting poi place bytes exchanges new past entries place_is poi_is now falling books h = record {
   command = new;
-  last = ap (λ (b : Bool). if b then Some new else find (λ (one : SentCommand). bytes_eq one.poi poi) past.commands) (ap (λ (p : List ℕ). bytes_eq p poi) poi_is ∙ bytes-itself poi);
+  last = ap (λ (b : Bool). if b then Some new else find (λ (one : SentCommand). bytes_eq one.numbering.poi poi) past.commands) (ap (λ (p : List ℕ). bytes_eq p poi) poi_is ∙ bytes-itself poi);
   booked = λ entry within. subst (λ (p : ℕ). In (placed_entry poi p entry) (book_along setting poi (sends place bytes exchanges))) (sym place_is)
       (in-second (placed_entry poi place entry) (book_along setting poi exchanges) (map (placed_entry poi place) (booked_by setting (exchanges_in exchanges) (Sends bytes)))
       (in-map (placed_entry poi place) (booked_by setting (exchanges_in exchanges) (Sends bytes)) entry (subst (λ (l : List BookEntry). In entry l) (sym books) within)));
@@ -284,8 +285,8 @@ asked-first pt asked sending (inl same) = let e : SendPt pt (Ask asked) ≡ Send
 asked-first pt asked sending (inr none) = absurd none
 
 -- the command that is sent with these bytes
-abbrev command_sent : Scene → Past → List ℕ → List ℕ → SentCommand
-command_sent scene past poi bytes = record { place = past.place; poi = poi; reversal = is_of_instruction 0x30 bytes; whole = nat_lt 0 (length (decode_apdus bytes).apdus); key = open_key scene.kept poi }
+abbrev command_sent : Scene → Past → Numbering → List ℕ → BookedKind → SentCommand
+command_sent scene past numbering bytes kind = record { place = past.place; numbering = numbering; kind = kind; whole = nat_lt 0 (length (decode_apdus bytes).apdus); key = open_key scene.kept numbering.poi }
 
 -- nothing may charge: the past's place alone is new
 abbrev past_plain : Past → Past
@@ -457,30 +458,30 @@ module _ (laws : PeerLaws) (settings : List ℕ → Setting) (log : List Turn) (
       by_kind (inr own) = by_silence own.0 own.1 (part-of-one laws.all.stream bytes (sending_bytes sending) (own.0).apdu (own.0).one first)
 
   -- the beginning of a command that may charge a card was sent to it
-  abbrev new_command : SentCommand
-  new_command = command_sent v.scene past (poi_of_number v.scene pt) bytes
+  abbrev new_command : BookedKind → SentCommand
+  new_command kind = command_sent v.scene past (numbering_of_number v.scene pt) bytes kind
 
-  abbrev IsChargeSent : Type 0
-  IsChargeSent = IsSentTo (settings t.terminal.pt.poi) pt v.items t.terminal (bytes ≡ sending_bytes sending) (sends past.place bytes (exchanges t.terminal.pt.poi)) (new_command ∷ past.commands) (past_charged past new_command)
+  abbrev IsChargeSent : BookedKind → Type 0
+  IsChargeSent kind = IsSentTo (settings t.terminal.pt.poi) pt v.items t.terminal (bytes ≡ sending_bytes sending) (sends past.place bytes (exchanges t.terminal.pt.poi)) (new_command kind ∷ past.commands) (past_charged past (new_command kind))
 
-  own-charged : may_charge bytes ≡ true → IsChargeSent
-  own-charged charge = by_kind (kind-is sending refl)
+  own-charged : (kind : BookedKind) → kind_of_command bytes ≡ Some kind → IsChargeSent kind
+  own-charged kind kind_is = by_kind (kind-is sending refl)
     where
       poi_same : poi_of_number v.scene pt ≡ t.terminal.pt.poi
       poi_same = poi-is v.scene pt t.terminal t.found
 
       charges_card : sending_charges sending ≡ true
-      charges_card = charging sending bytes first charge
+      charges_card = charging sending bytes first (ap (λ (found : Option BookedKind). is_some found) kind_is)
 
-      honest_then : BooksOne new_command (booked_by (settings t.terminal.pt.poi) (exchanges_in (exchanges t.terminal.pt.poi)) (Sends bytes))
-          → IsHonestFor (past_charged past new_command) t.terminal.pt.poi (book_along (settings t.terminal.pt.poi) t.terminal.pt.poi (sends past.place bytes (exchanges t.terminal.pt.poi)))
-      honest_then books = honest-command laws (settings t.terminal.pt.poi) t.terminal.pt.poi past (past_charged past new_command) (exchanges t.terminal.pt.poi) bytes new_command p.falling p.heard_before p.ends p.linked_before (omega arith) refl poi_same refl refl refl books
+      honest_then : BooksOne (new_command kind) (booked_by (settings t.terminal.pt.poi) (exchanges_in (exchanges t.terminal.pt.poi)) (Sends bytes))
+          → IsHonestFor (past_charged past (new_command kind)) t.terminal.pt.poi (book_along (settings t.terminal.pt.poi) t.terminal.pt.poi (sends past.place bytes (exchanges t.terminal.pt.poi)))
+      honest_then books = honest-command laws (settings t.terminal.pt.poi) t.terminal.pt.poi past (past_charged past (new_command kind)) (exchanges t.terminal.pt.poi) bytes (new_command kind) p.falling p.heard_before p.ends p.linked_before (omega arith) refl poi_same refl refl refl books
           (p.honest t.terminal.pt.poi)
 
       by_ask : (asked : Command) → charges asked ≡ true → (a : IsAsk (settings t.terminal.pt.poi) (exchanges t.terminal.pt.poi) pt v.items t.terminal sending asked)
-          → (IsTransacting (settings t.terminal.pt.poi) t.terminal.pt.poi (sends past.place bytes (exchanges t.terminal.pt.poi)) pt v.items (new_command ∷ past.commands) t.terminal.talk
-          → IsPeerIn (settings t.terminal.pt.poi) t.terminal.pt.poi (sends past.place bytes (exchanges t.terminal.pt.poi)) pt v.items (new_command ∷ past.commands) t.terminal.talk t.terminal.standing)
-          → (bytes ≡ canonical_command asked) ⊎ (decode_apdus bytes ≡ record { apdus = []; rest = bytes }) → IsChargeSent
+          → (IsTransacting (settings t.terminal.pt.poi) t.terminal.pt.poi (sends past.place bytes (exchanges t.terminal.pt.poi)) pt v.items ((new_command kind) ∷ past.commands) t.terminal.talk
+          → IsPeerIn (settings t.terminal.pt.poi) t.terminal.pt.poi (sends past.place bytes (exchanges t.terminal.pt.poi)) pt v.items ((new_command kind) ∷ past.commands) t.terminal.talk t.terminal.standing)
+          → (bytes ≡ canonical_command asked) ⊎ (decode_apdus bytes ≡ record { apdus = []; rest = bytes }) → IsChargeSent kind
       by_ask asked charges_it a serves (inl whole) =
           let setting : Setting = settings t.terminal.pt.poi in
           let mine : List PlacedExchange = exchanges t.terminal.pt.poi in
@@ -490,24 +491,24 @@ module _ (laws : PeerLaws) (settings : List ℕ → Setting) (log : List Turn) (
           let books : booked_by setting (exchanges_in mine) (Sends bytes) ≡ entries = ap (λ (b : List ℕ). booked_by setting (exchanges_in mine) (Sends b)) whole ∙ all_books in
           let whole_is : nat_lt 0 (length (decode_apdus bytes).apdus) ≡ true =
           ap (λ (d : DecodedApdus). nat_lt 0 (length d.apdus)) (ap decode_apdus whole ∙ one-decoded laws.all.stream (canonical_command asked) (command_apdu asked) (command-is-one laws asked a.digits a.sizes)) in
-          let kind : is_of_instruction 0x30 bytes ≡ is_of_instruction 0x30 (canonical_command asked) = ap (is_of_instruction 0x30) whole in
+          let asked_kind : Some kind ≡ kind_of_command (canonical_command asked) = sym kind_is ∙ ap kind_of_command whole in
           record {
-            own = λ all. serves (subst (λ (b : List ℕ). IsTransacting setting t.terminal.pt.poi (sends past.place b mine) pt v.items (new_command ∷ past.commands) t.terminal.talk) (sym whole)
-                (begins-transacting laws setting t.terminal.pt.poi mine pt v.items past.place asked (new_command ∷ past.commands) a.dialogue t.terminal.talk charges_it a.quiet a.digits a.sizes a.begins a.talk_is
-                (last-served setting t.terminal.pt.poi past.place (canonical_command asked) mine new_command past entries refl poi_same refl p.falling all_books (p.honest t.terminal.pt.poi))));
-            honest = honest_then (subst (BooksOne new_command) (sym books) (one-entry (book_of setting before) entries asked new_command charges_it whole_is kind (books-of setting before (command_apdu asked) asked (command-spelled laws asked a.digits a.sizes))));
+            own = λ all. serves (subst (λ (b : List ℕ). IsTransacting setting t.terminal.pt.poi (sends past.place b mine) pt v.items ((new_command kind) ∷ past.commands) t.terminal.talk) (sym whole)
+                (begins-transacting laws setting t.terminal.pt.poi mine pt v.items past.place asked ((new_command kind) ∷ past.commands) a.dialogue t.terminal.talk charges_it a.quiet a.digits a.sizes a.begins a.talk_is
+                (last-served setting t.terminal.pt.poi past.place (canonical_command asked) mine (new_command kind) past entries refl poi_same refl p.falling all_books (p.honest t.terminal.pt.poi))));
+            honest = honest_then (subst (BooksOne (new_command kind)) (sym books) (one-entry (book_of setting before) entries asked (new_command kind) charges_it whole_is asked_kind (books-of setting before (command_apdu asked) asked (command-spelled laws asked a.digits a.sizes))));
           }
       by_ask asked charges_it a serves (inr part) = record {
         own = λ all. absurd (part-not-whole laws bytes (canonical_command asked) (command_apdu asked) (command-is-one laws asked a.digits a.sizes) part (all ∙ ap sending_bytes a.sending_is));
-        honest = honest_then (subst (BooksOne new_command) (sym (part-none part)) tt);
+        honest = honest_then (subst (BooksOne (new_command kind)) (sym (part-none part)) tt);
       }
 
-      by_charge : (asked : Command) → charges asked ≡ true → IsAsk (settings t.terminal.pt.poi) (exchanges t.terminal.pt.poi) pt v.items t.terminal sending asked → IsCharge asked t.terminal.standing → IsChargeSent
+      by_charge : (asked : Command) → charges asked ≡ true → IsAsk (settings t.terminal.pt.poi) (exchanges t.terminal.pt.poi) pt v.items t.terminal sending asked → IsCharge asked t.terminal.standing → IsChargeSent kind
       by_charge asked charges_it a c =
-          by_ask asked charges_it a (c.serves (settings t.terminal.pt.poi) t.terminal.pt.poi (sends past.place bytes (exchanges t.terminal.pt.poi)) pt v.items (new_command ∷ past.commands) t.terminal.talk)
+          by_ask asked charges_it a (c.serves (settings t.terminal.pt.poi) t.terminal.pt.poi (sends past.place bytes (exchanges t.terminal.pt.poi)) pt v.items ((new_command kind) ∷ past.commands) t.terminal.talk)
           (part-of-one laws.all.stream bytes (canonical_command asked) (command_apdu asked) (command-is-one laws asked a.digits a.sizes) (subst (λ (b : List ℕ). IsPrefix bytes b) (ap sending_bytes a.sending_is) first))
 
-      by_kind : IsOfKind → IsChargeSent
+      by_kind : IsOfKind → IsChargeSent kind
       by_kind (inl asks) =
           let charges_it : charges asks.0 ≡ true = sym (ap sending_charges (asks.1).sending_is) ∙ charges_card in
           by_charge asks.0 charges_it asks.1 (begun-charge asks.0 t.terminal.standing charges_it asks.2)
@@ -591,7 +592,7 @@ module _ (settings : List ℕ → Setting) (log : List Turn) (v : View) (past : 
     heard_before = let before = p.heard_before in omega (arith, before);
     falling = falling;
     linked_before = λ link within. let before = p.linked_before link within in omega (arith, before);
-    ends = λ end within. let e = p.ends end within in (ends end.poi end.ending e.0, e.1, e.2);
+    ends = λ end within. let e = p.ends end within in (ends end.numbering.poi end.ending e.0, e.1, e.2);
     made = p.made;
     places = λ poi. done-places v.scene pt past.place (Sends bytes) exchanges poi (p.places poi);
     honest = λ poi. by-poi v.scene pt poi (own_honest poi) (λ other. subst (λ (l : List PlacedExchange). IsHonestFor next poi (book_along (settings poi) poi l)) (sym (done-other v.scene pt past.place (Sends bytes) exchanges poi other)) (honest poi other));
@@ -640,8 +641,8 @@ module _ (settings : List ℕ → Setting) (log : List Turn) (v : View) (past : 
 -- by the bytes that are sent
 sent-by-bytes : (laws : PeerLaws) (settings : List ℕ → Setting) (log : List Turn) (v : View) (past : Past) (exchanges : List ℕ → List PlacedExchange) (pt : ℕ) (sending : Sending) (bytes : List ℕ) → Ordered log v → Plays settings v past exchanges
     → first_call v.calls ≡ Some (SendPt pt sending) → IsPrefix bytes (sending_bytes sending) → (sent : Bool) (calls : List OwedCall) → AreSpare calls → (bytes ≡ sending_bytes sending) ⊎ (cut_owed pt calls ≡ true)
-    → Plays settings (called_with v (SentPt pt bytes sent) calls) (record (if may_charge bytes then with_sent_command v.scene (poi_of_number v.scene pt) bytes past else past) { place = past.place + 1 }) (done_at v.scene pt past.place (Sends bytes) exchanges)
-sent-by-bytes laws settings log v past exchanges pt sending bytes o p next first sent calls spare cut = by_test (may_charge bytes) refl
+    → Plays settings (called_with v (SentPt pt bytes sent) calls) (record (with_sent_bytes v.scene (numbering_of_number v.scene pt) bytes past (kind_of_command bytes)) { place = past.place + 1 }) (done_at v.scene pt past.place (Sends bytes) exchanges)
+sent-by-bytes laws settings log v past exchanges pt sending bytes o p next first sent calls spare cut = by-kind (kind_of_command bytes) refl
   where
     last : IsLast v (SendPt pt sending)
     last = is-last log v (SendPt pt sending) o next refl (λ more. refl)
@@ -656,21 +657,21 @@ sent-by-bytes laws settings log v past exchanges pt sending bytes o p next first
         ap (charge_owed pt) last.calls_are ∙ ap (λ (b : Bool). (b && sending_charges sending) || false) (eq-eqb pt pt refl) ∙ ap (λ (b : Bool). b || false) (charging sending bytes first charge) in
         no-true (sym (p.uncharged handles pt) ∙ owed)
 
-    by_test : (test : Bool) → may_charge bytes ≡ test
-        → Plays settings (called_with v (SentPt pt bytes sent) calls) (record (if test then with_sent_command v.scene (poi_of_number v.scene pt) bytes past else past) { place = past.place + 1 }) (done_at v.scene pt past.place (Sends bytes) exchanges)
-    by_test true e =
-        let new : SentCommand = command_sent v.scene past (poi_of_number v.scene pt) bytes in
+    by-kind : (found : Option BookedKind) → kind_of_command bytes ≡ found
+        → Plays settings (called_with v (SentPt pt bytes sent) calls) (record (with_sent_bytes v.scene (numbering_of_number v.scene pt) bytes past found) { place = past.place + 1 }) (done_at v.scene pt past.place (Sends bytes) exchanges)
+    by-kind (Some kind) is_kind =
+        let new : SentCommand = command_sent v.scene past (numbering_of_number v.scene pt) bytes kind in
         sent-plays settings log v past exchanges pt sending bytes o p last t sent calls spare cut (new ∷ past.commands) (past.occasion ∷ past.deeds) (omega arith, p.falling)
         (λ poi ending is. ends-more new past.commands poi ending is)
-        (λ handles one within. absurd (no_charge e handles))
+        (λ handles one within. absurd (no_charge (ap (λ (found : Option BookedKind). is_some found) is_kind) handles))
         (λ poi number talk standing apart peer. peer-other (settings poi) poi (exchanges poi) number v.items new past.commands talk standing apart peer)
         (λ poi apart. honest-other past (past_charged past new) poi (book_along (settings poi) poi (exchanges poi)) new p.falling (omega arith) refl refl refl (p.honest poi))
-        (own-charged laws settings log v past exchanges pt sending bytes o p last t first e)
-    by_test false e =
+        (own-charged laws settings log v past exchanges pt sending bytes o p last t first kind is_kind)
+    by-kind None is =
         sent-plays settings log v past exchanges pt sending bytes o p last t sent calls spare cut past.commands past.deeds (falling-later past.place past.commands p.falling)
         (λ poi ending is. is) p.calm (λ poi number talk standing apart peer. peer)
         (λ poi apart. honest-place past (past_plain past) poi (book_along (settings poi) poi (exchanges poi)) p.falling (omega arith) refl refl refl (p.honest poi))
-        (own-plain laws settings log v past exchanges pt sending bytes o p last t first e)
+        (own-plain laws settings log v past exchanges pt sending bytes o p last t first (ap (λ (found : Option BookedKind). is_some found) is))
 
 -- a terminal is sent something, or a first part of it
 pub sent-pt-plays : (laws : PeerLaws) (pt : ℕ) (bytes : List ℕ) (sent : Bool) → PlaysTurn (SentPt pt bytes sent)

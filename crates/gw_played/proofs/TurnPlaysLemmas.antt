@@ -2,9 +2,8 @@
 use Rattle.std.proofs.Common.{◌≡◌, ◌≢◌, ◌<◌, ℕ, ◌+◌, Bool, true, false, List, [], ◌∷◌, ◌++◌, refl, sym, ◌∙◌, ap, subst, arith, inl, inr, append_assoc, append-nil, eqb-true}
 use Rattle.std.proofs.lemmas.Bool.{eq-eqb, or_parts}
 use Rattle.std.proofs.lemmas.List.{append_cancel_left}
-use Rattle.std.specs.Prelude.{◌⊎◌, ◌&&◌, ◌||◌, ◌==◌, ℤ, bytes_eq, if◌then◌else◌, map, slice_get, unwrap_or, Option, Some, None}
+use Rattle.std.specs.Prelude.{◌⊎◌, ◌&&◌, ◌||◌, ◌==◌, ℤ, bytes_eq, if◌then◌else◌, map, slice_get, Option, Some, None}
 use Rattle.std.specs.List.{list_any}
-use Rattle.std.specs.Option.{option_map}
 use Rattle.gw_base.specs.declared.setup.Setup.{Setup}
 use Rattle.gw_bytes.specs.Bytes.{IsPrefix}
 use Rattle.gw_site.specs.Outside.{Connection, Outside, is_connected, without, hears, heard_on}
@@ -41,7 +40,7 @@ use Rattle.gw_rules.proofs.RecordRowLemmas.{first-later}
 use Rattle.gw_rules.proofs.SetupLemmas.{polled-setup}
 use Rattle.gw_rules.proofs.StageLemmas.{busy-broken, no-true}
 use Rattle.gw_rules.proofs.TranscriptLogLemmas.{image-there, there-image}
-use Rattle.gw_books.specs.Past.{Occasion, OfNothing, SentCommand, MadeLink, SentReply, MadePoll, Past, past_after, poi_of_number}
+use Rattle.gw_books.specs.Past.{Occasion, OfNothing, SentCommand, MadeLink, SentReply, MadePoll, Past, past_after, poi_of_number, Numbering}
 use Rattle.gw_books.proofs.Holding.{AreFalling, charges_terminal, charge_owed, is_handle}
 use Rattle.gw_books.proofs.KeyedLemmas.{sent-below}
 use Rattle.gw_books.proofs.LastCallLemmas.{IsLast, is-last, last-cuts}
@@ -52,6 +51,7 @@ use Rattle.gw_played.proofs.HonestGrowLemmas.{honest-place}
 use Rattle.gw_played.proofs.PeerSendLemmas.{decoded-in-parts}
 use Rattle.gw_played.proofs.Playing.{met_in, pending, AreMessages, IsLeft, IsPeerIn, begins_dialogue, asks_terminal, ask_owed, links_terminal, link_owed, IsPeer, ChargeNone, IsHonestFor, WasLinked, Plays, PeerLaws, PlaysTurn}
 use Rattle.gw_played.proofs.SentPtPlaysLemmas.{apart-pois}
+use Rattle.gw_books.proofs.CallHoldsLemmas.{numbering-there}
 
 -- ---- turns that leave each terminal as it was
 
@@ -458,7 +458,7 @@ heard-left-over laws setting exchanges number place bytes items more left prefix
 
 -- the POIID of a terminal that is there
 pub poi-there : (scene : Scene) (number : ℕ) (terminal : Terminal) → slice_get scene.core.terminals number ≡ Some terminal → poi_of_number scene number ≡ terminal.pt.poi
-poi-there scene number terminal found = ap (λ (t : Option Terminal). unwrap_or (option_map (λ (terminal : Terminal). terminal.pt.poi) t) []) found
+poi-there scene number terminal found = ap (λ (n : Numbering). n.poi) (numbering-there scene number terminal found)
 
 -- a terminal that is connected is there, and linked
 pub connected-linked : (log : List Turn) (v : View) (number : ℕ) → Ordered log v → v.scene.stage ≡ AtPoll → is_connected v.scene.outside.links number ≡ true

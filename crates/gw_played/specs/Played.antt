@@ -1,5 +1,5 @@
 -- The books of played terminals: what each of them books along a course, with its places.
-use Rattle.std.specs.Prelude.{◌≡◌, ℕ, ◌+◌, true, false, bytes_eq, if◌then◌else◌, List, [], ◌∷◌, ◌++◌, map, length, drop, slice_get, Some}
+use Rattle.std.specs.Prelude.{◌≡◌, ℕ, ◌+◌, true, false, bytes_eq, if◌then◌else◌, List, [], ◌∷◌, ◌++◌, map, length, drop, slice_get, Some, Bool}
 use Rattle.std.specs.List.{flat_map, list_any}
 use Rattle.gw_site.specs.declared.turn.Turn.{Turn}
 use Rattle.gw_site.specs.declared.turn.Turn.TheVariants.{Start, OpenFailed, Polled, Opened, HeardTill, Closed, HeardPt, Lost, Stopped, Linked, LinkFailed, SentTill, SentPt, CutTill, CutPt, Wrote, Synced, DiskFailed, Crash}
@@ -9,9 +9,10 @@ use Rattle.pt_core.specs.History.{Setting, Chunk, book_after}
 use Rattle.gw_rules.specs.Laws.{IsLeanCourse}
 use Rattle.gw_rules.specs.Scene.{Scene}
 use Rattle.gw_rules.specs.View.{View, Move, Begin, Read, Make, after, at_first}
+use Rattle.gw_books.specs.Kinds.{BookedKind, OfPayment, OfReversal}
 use Rattle.gw_books.specs.Agrees.{Agrees}
 use Rattle.gw_books.specs.Books.{BookedEntry, Honest}
-use Rattle.gw_books.specs.Past.{MadeLink, Past, past_of, poi_of_number}
+use Rattle.gw_books.specs.Past.{MadeLink, Past, past_of, poi_of_number, Numbering}
 
 -- ---- the connection of a terminal
 
@@ -79,13 +80,22 @@ booked_by setting before Links = []
 booked_by setting before (Sends bytes) = drop (length (book_after setting (met_of before))) (book_after setting (Chunk bytes ∷ met_of before))
 booked_by setting before (Hears bytes) = []
 
+-- the one numbering of a played terminal
+abbrev pub played_numbering : List ℕ → Numbering
+played_numbering poi = record { poi = poi }
+
+-- the kind of what it books
+abbrev pub kind_booked : Bool → BookedKind
+kind_booked true = OfReversal
+kind_booked false = OfPayment
+
 -- an entry of the terminal with this POIID that the send at this place has caused: it is older than the next turn
 abbrev pub placed_entry : List ℕ → ℕ → BookEntry → BookedEntry
 placed_entry poi place entry = record {
-  poi = poi;
+  numbering = played_numbering poi;
   place = place + 1;
   cause = Some place;
-  reversal = entry.reversal;
+  kind = kind_booked entry.reversal;
   number = entry.number;
   receipt = entry.receipt;
   amount = entry.amount;
