@@ -20,7 +20,7 @@ use Rattle.gw_ledger.specs.declared.entry.Entry.{Entry as TheEntry}
 use Rattle.gw_ledger.specs.Accounts.{is_settled}
 use Rattle.gw_ledger.specs.Fold.{AreFolded, FitBy, fits, found_of}
 use Rattle.gw_ledger.specs.Laws.{EntriesAreWithin, NamedIsEntry, SettledFits}
-use Rattle.gw_ledger.specs.Slots.{asks_payment, is_reversed}
+use Rattle.gw_ledger.specs.Slots.{is_reversible, is_reversed}
 use Rattle.gw_ledger.specs.Sums.{one_if, open_count_of}
 use Rattle.gw_ledger.specs.Transaction.{named_of}
 use Rattle.sale_values.specs.Key.{key_of}
@@ -164,8 +164,8 @@ pub reversible-approved : (kept : List Record) (reversal : ReversalAsk) (entry :
 reversible-approved kept reversal entry reversible =
     let may = not-false (may_be_reversed kept reversal entry) reversible in
     whole-approved reversal.amount entry.result
-    (second-holds (asks_payment entry.intent.what) (is_whole_of reversal.amount entry.result)
-    (both-hold (asks_payment entry.intent.what && is_whole_of reversal.amount entry.result) (not (is_reversed kept entry.slot) && not (is_settled kept entry.slot)) may))
+    (second-holds (is_reversible entry.intent.what) (is_whole_of reversal.amount entry.result)
+    (both-hold (is_reversible entry.intent.what && is_whole_of reversal.amount entry.result) (not (is_reversed kept entry.slot) && not (is_settled kept entry.slot)) may))
 
 -- ---- the Intent
 

@@ -2,12 +2,11 @@
 ghost use Rattle.std.specs.Prelude.{◌≡◌};
 ghost use Rattle.gw_base.specs.Moment.{IsMoment, moment_of};
 ghost use Rattle.jrn_record.specs.Limits.{IsIntent};
-ghost use Rattle.gw_ledger.specs.Slots.{asks_payment};
 ghost use Rattle.gw_owes.specs.Reversals.{amount_in, is_irreversible, is_whole_of, may_be_reversed, names_irreversible, names_none, original_of, reversal_intent};
 
 use crate::content::is_same_amount;
 use gw_base::Ident;
-use gw_ledger::{Entry, Ledger};
+use gw_ledger::{Entry, Ledger, is_reversible};
 use jrn_record::{Deal, Intent, Outcome};
 use sale_msg::{Header, ReversalAsk, SaleRequest};
 
@@ -16,16 +15,6 @@ pub(crate) fn original_of(ledger: &Ledger, poi: &Ident<40>, reversal: &ReversalA
     ensures { result ≡ original_of ledger.now.records poi.now reversal.now }
 {
     ledger.named(poi, reversal.transaction.as_bytes())
-}
-
-/// Whether what is asked is a payment.
-fn asks_payment(what: Deal) -> bool
-    ensures { result ≡ asks_payment what }
-{
-    match what {
-        Deal::Payment => true,
-        Deal::Reversal => false,
-    }
 }
 
 /// Whether the Outcome approves, and what is to be reversed is the whole of its amount.
@@ -43,7 +32,7 @@ fn is_whole_of(amount: Option<u64>, outcome: &Option<Outcome>) -> bool
 fn may_be_reversed(ledger: &Ledger, reversal: &ReversalAsk, entry: &Entry) -> bool
     ensures { result ≡ may_be_reversed ledger.now.records reversal.now entry.now }
 {
-    (asks_payment(entry.intent.what) && is_whole_of(reversal.amount, &entry.result))
+    (is_reversible(entry.intent.what) && is_whole_of(reversal.amount, &entry.result))
         && (!ledger.reversed(entry.slot) && !ledger.settled(entry.slot))
 }
 

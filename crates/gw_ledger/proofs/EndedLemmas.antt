@@ -10,7 +10,7 @@ use Rattle.gw_ledger.specs.declared.account.Account.{Account}
 use Rattle.gw_ledger.specs.declared.tables.Mark.{Mark}
 use Rattle.gw_ledger.specs.Accounts.{account_of, is_before_last_settled, is_settled}
 use Rattle.gw_ledger.specs.Fold.{fits_beside_key, rises}
-use Rattle.gw_ledger.specs.Slots.{asks_payment, ended_at, intent_at, is_reversed}
+use Rattle.gw_ledger.specs.Slots.{is_reversible, ended_at, intent_at, is_reversed}
 use Rattle.gw_ledger.specs.Tables.{mark_of}
 use Rattle.gw_ledger.proofs.FoldLemmas.{intent_inside}
 
@@ -54,31 +54,31 @@ module _ (records : List Record) (outcome : TheOutcome) (intent : TheIntent) (en
 
 module _ (records : List Record) (slot : ℕ) (intent : TheIntent) (found : intent_at records slot ≡ Some intent) where
   -- a reversal isn't
-  pub reversal_unsettled : asks_payment intent.what ≡ false → false ≡ is_settled records slot
+  pub reversal_unsettled : is_reversible intent.what ≡ false → false ≡ is_settled records slot
   reversal_unsettled other = rw (found, other) refl
 
-  settled_where : (payment : Bool) (ended : Option ℕ) → asks_payment intent.what ≡ payment → ended ≡ ended_at records slot → payment && is_before_last_settled records (Some intent) ended ≡ is_settled records slot
+  settled_where : (payment : Bool) (ended : Option ℕ) → is_reversible intent.what ≡ payment → ended ≡ ended_at records slot → payment && is_before_last_settled records (Some intent) ended ≡ is_settled records slot
   settled_where payment ended is at =
       ap (λ b. b && is_before_last_settled records (Some intent) ended) (sym is)
-      ∙ ap (λ e. asks_payment intent.what && is_before_last_settled records (Some intent) e) at
+      ∙ ap (λ e. is_reversible intent.what && is_before_last_settled records (Some intent) e) at
       ∙ rw found refl
 
   -- what is open isn't
   pub open_unsettled : None ≡ ended_at records slot → false ≡ is_settled records slot
-  open_unsettled at = by_payment (asks_payment intent.what) refl
+  open_unsettled at = by_payment (is_reversible intent.what) refl
     where
-      by_payment : (payment : Bool) → asks_payment intent.what ≡ payment → false ≡ is_settled records slot
+      by_payment : (payment : Bool) → is_reversible intent.what ≡ payment → false ≡ is_settled records slot
       by_payment true is = settled_where true None is at
       by_payment false is = settled_where false None is at
 
   -- a payment is where its Outcome is before the last Settled of its terminal
-  pub payment_settled : (at : ℕ) (account : Account) → asks_payment intent.what ≡ true → Some at ≡ ended_at records slot → account ≡ account_of records intent.poi → nat_lt at account.settled ≡ is_settled records slot
+  pub payment_settled : (at : ℕ) (account : Account) → is_reversible intent.what ≡ true → Some at ≡ ended_at records slot → account ≡ account_of records intent.poi → nat_lt at account.settled ≡ is_settled records slot
   payment_settled at account is ended account_is = ap (λ (a : Account). nat_lt at a.settled) account_is ∙ settled_where true (Some at) is ended
 
   -- a reversal isn't reversed
-  pub reversal_unreversed : asks_payment intent.what ≡ false → false ≡ is_reversed records slot
+  pub reversal_unreversed : is_reversible intent.what ≡ false → false ≡ is_reversed records slot
   reversal_unreversed other = rw (found, other) refl
 
   -- a payment is where its mark says so
-  pub payment_reversed : (mark : Mark) → asks_payment intent.what ≡ true → mark ≡ mark_of records slot → mark.reversed ≡ is_reversed records slot
+  pub payment_reversed : (mark : Mark) → is_reversible intent.what ≡ true → mark ≡ mark_of records slot → mark.reversed ≡ is_reversed records slot
   payment_reversed mark payment at = ap (λ (m : Mark). m.reversed) at ∙ rw (found, payment) refl

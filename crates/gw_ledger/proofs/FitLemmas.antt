@@ -18,7 +18,7 @@ use Rattle.gw_ledger.specs.Fold.{AreFolded, fits, found_by, found_of, has_fittin
 use Rattle.gw_ledger.specs.History.{same_text}
 use Rattle.gw_ledger.specs.Keys.{intent_key, record_key, settled_key, slot_of}
 use Rattle.gw_ledger.specs.Laws.{HasApproval, IsOriginalOf}
-use Rattle.gw_ledger.specs.Slots.{as_intent, asks_payment, ended_at, entry_at, entry_with, intent_at, is_open, is_reversed}
+use Rattle.gw_ledger.specs.Slots.{as_intent, is_reversible, ended_at, entry_at, entry_with, intent_at, is_open, is_reversed}
 use Rattle.gw_ledger.specs.Sums.{ordinal, same_currency}
 use Rattle.gw_ledger.proofs.FoldLemmas.{open_has_intent}
 use Rattle.gw_ledger.proofs.OpenLemmas.{open_slot_is}
@@ -108,7 +108,7 @@ outcome_fits records folded poi entry outcome found same above = by_slot (open_s
 original_fits : (records : List Record) (intent : TheIntent) (slot : ℕ) (entry : TheEntry) → entry_at records slot ≡ Some entry → IsOriginalOf intent entry
     → is_reversed records slot ≡ false → is_settled records slot ≡ false → may_reverse records intent (Some slot) ≡ true
 original_fits records intent slot entry found original kept unsettled =
-    let payment : asks_payment entry.intent.what ≡ true = ap asks_payment original.what in
+    let payment : is_reversible entry.intent.what ≡ true = ap is_reversible original.what in
     let poi : same_text intent.poi entry.intent.poi ≡ true = ap (same_text intent.poi) original.poi ∙ same_text-itself intent.poi in
     let currency : same_currency intent.currency entry.intent.currency ≡ true = ap (same_currency intent.currency) original.currency ∙ eqb_same (ordinal intent.currency) in
     let amount : is_approved_with intent.amount entry.result ≡ true = by_result entry.result original.approved in

@@ -14,9 +14,8 @@ use Rattle.gw_ledger.specs.Fold.{AreFoldedBesideKeys, FitBy, fits_beside_key}
 use Rattle.gw_ledger.specs.History.{Placed, history}
 use Rattle.gw_ledger.specs.Laws.{count_below}
 use Rattle.gw_ledger.specs.Slots.{as_intent, ended_at, intent_at, is_open, is_outcome_of}
-use Rattle.jrn_record.specs.declared.records.Deal.TheVariants.{Payment, Reversal}
 use Rattle.gw_ledger.specs.Steps.{HasRoomFor}
-use Rattle.gw_ledger.specs.Sums.{approves, is_approval, sums_of, units_in, one_if, open_count_of, settles, sum_over, unsettled}
+use Rattle.gw_ledger.specs.Sums.{approves, is_approval, sums_of, units_in, one_if, open_count_of, settles, sum_over, unsettled, Debit, ReverseDebit}
 use Rattle.gw_ledger.proofs.RecordLemmas.{get_before, get_last, length-history}
 use Rattle.gw_ledger.proofs.HistoryLemmas.{history-push}
 use Rattle.gw_ledger.proofs.TieLemmas.{eqb_above, eqb_same}
@@ -111,10 +110,10 @@ room_for records folded few amount small poi currency =
     let le : length past ≤ length records = omega (arith, unsettled-le poi (history records), length-history records) in
     let each = each_unsettled poi (history records) (each_within records folded) in
     record {
-      debits = count-small records few past le (approves poi currency Payment);
-      debited = sum-below records few past le each (approves poi currency Payment) amount small;
-      reversals = count-small records few past le (approves poi currency Reversal);
-      undone = sum-below records few past le each (approves poi currency Reversal) amount small;
+      debits = count-small records few past le (approves poi currency Debit);
+      debited = sum-below records few past le each (approves poi currency Debit) amount small;
+      reversals = count-small records few past le (approves poi currency ReverseDebit);
+      undone = sum-below records few past le each (approves poi currency ReverseDebit) amount small;
     }
 
 pub total-below : (records : List Record) → AreFoldedBesideKeys records → length records < 1000000 → (amount : ℕ) → amount ≤ 999999999999

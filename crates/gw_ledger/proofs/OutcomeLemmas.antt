@@ -22,7 +22,7 @@ use Rattle.gw_ledger.specs.Accounts.{account_of, account_with}
 use Rattle.gw_ledger.specs.History.{same_text}
 use Rattle.gw_ledger.specs.Keys.{last_slot, slot_of}
 use Rattle.gw_ledger.specs.Slots.{intent_at, is_original}
-use Rattle.gw_ledger.specs.Sums.{one_if, same_currency, same_deal, count_of, units_sum_of, sums_of, tally_of, totals_of}
+use Rattle.gw_ledger.specs.Sums.{one_if, same_currency, counts_in, count_of, units_sum_of, sums_of, tally_of, totals_of, Debit, ReverseDebit}
 use Rattle.gw_ledger.specs.Table.{value_at}
 use Rattle.gw_ledger.specs.Tables.{account_in_row, mark_of, poi_cmp, sums_in_row}
 use Rattle.gw_ledger.proofs.RecordLemmas.{get_before, get_last, get_push, intent_push}
@@ -79,12 +79,12 @@ module _ (records : List Record) (outcome : TheOutcome) (intent : TheIntent) (as
     sums_by : (currency : Currency) (approved tie same : Bool) (what : Deal) → Sums
     sums_by currency approved tie same what = record {
       debit = (
-        count_of records poi currency Payment + one_if (approved && (tie && same && same_deal Payment what)),
-        units_sum_of records poi currency Payment + (if approved && (tie && same && same_deal Payment what) then outcome.amount else 0),
+        count_of records poi currency Debit + one_if (approved && (tie && same && counts_in Debit what)),
+        units_sum_of records poi currency Debit + (if approved && (tie && same && counts_in Debit what) then outcome.amount else 0),
       );
       reversed = (
-        count_of records poi currency Reversal + one_if (approved && (tie && same && same_deal Reversal what)),
-        units_sum_of records poi currency Reversal + (if approved && (tie && same && same_deal Reversal what) then outcome.amount else 0),
+        count_of records poi currency ReverseDebit + one_if (approved && (tie && same && counts_in ReverseDebit what)),
+        units_sum_of records poi currency ReverseDebit + (if approved && (tie && same && counts_in ReverseDebit what) then outcome.amount else 0),
       );
     }
 

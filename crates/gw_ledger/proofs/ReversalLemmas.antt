@@ -21,7 +21,7 @@ use Rattle.gw_ledger.specs.Fold.{AreFoldedBesideKeys, fits_beside_key, has_fitti
 use Rattle.gw_ledger.specs.History.{history, same_text}
 use Rattle.gw_ledger.specs.Laws.{IsOriginalOf, poi_at}
 use Rattle.gw_ledger.specs.Reversals.{HasPaidOriginal, IsDeclined, IsReversalOf, IsReversedAt}
-use Rattle.gw_ledger.specs.Slots.{as_intent, as_outcome, asks_payment, ended_at, entry_at, entry_with, intent_at, is_open, is_original, is_outcome_of, is_payment, is_reversal_of, is_reversed, outcome_at, reversed_in, reverses}
+use Rattle.gw_ledger.specs.Slots.{as_intent, as_outcome, is_reversible, ended_at, entry_at, entry_with, intent_at, is_open, is_original, is_outcome_of, is_reversible_intent, is_reversal_of, is_reversed, outcome_at, reversed_in, reverses}
 use Rattle.gw_ledger.specs.Sums.{ordinal, same_currency}
 use Rattle.gw_ledger.proofs.FitLemmas.{entry_parts}
 use Rattle.gw_ledger.proofs.FoldLemmas.{along, intent_inside, open_has_intent, open_parts}
@@ -217,7 +217,7 @@ same_currency-is a b tie =
     let same : ordinal a ≡ ordinal b = grind (arith, nat_tests) in
     same_Some a b (sym (at_ordinal a) ∙ ap (slice_get currencies) same ∙ at_ordinal b)
 
-is_payment_deal : (what : Deal) → asks_payment what ≡ true → what ≡ Payment
+is_payment_deal : (what : Deal) → is_reversible what ≡ true → what ≡ Payment
 is_payment_deal Payment asks = refl
 is_payment_deal Reversal asks = cc
 
@@ -226,12 +226,12 @@ module _ (records : List Record) (intent : TheIntent) (payment : ℕ) where
   original_of : (entry : Option TheEntry) → entry_at records payment ≡ entry → is_approved_payment intent.poi intent.currency intent.amount entry ≡ true → IsOriginalAt records payment intent
   original_of None is passes = cc
   original_of (Some entry) is passes =
-      let first = and_parts (asks_payment entry.intent.what && same_text intent.poi entry.intent.poi && same_currency intent.currency entry.intent.currency) (is_approved_with intent.amount entry.result) passes in
-      let second = and_parts (asks_payment entry.intent.what && same_text intent.poi entry.intent.poi) (same_currency intent.currency entry.intent.currency) first.0 in
-      let third = and_parts (asks_payment entry.intent.what) (same_text intent.poi entry.intent.poi) second.0 in
+      let first = and_parts (is_reversible entry.intent.what && same_text intent.poi entry.intent.poi && same_currency intent.currency entry.intent.currency) (is_approved_with intent.amount entry.result) passes in
+      let second = and_parts (is_reversible entry.intent.what && same_text intent.poi entry.intent.poi) (same_currency intent.currency entry.intent.currency) first.0 in
+      let third = and_parts (is_reversible entry.intent.what) (same_text intent.poi entry.intent.poi) second.0 in
       by_result entry.result refl first.1 third.0 third.1 second.1
     where
-      by_result : (result : Option TheOutcome) → entry.result ≡ result → is_approved_with intent.amount result ≡ true → asks_payment entry.intent.what ≡ true
+      by_result : (result : Option TheOutcome) → entry.result ≡ result → is_approved_with intent.amount result ≡ true → is_reversible entry.intent.what ≡ true
           → same_text intent.poi entry.intent.poi ≡ true → same_currency intent.currency entry.intent.currency ≡ true → IsOriginalAt records payment intent
       by_result None result with_amount what poi currency = cc
       by_result (Some outcome) result with_amount what poi currency =
@@ -484,7 +484,7 @@ others_declined before folded payment slot asked next found refers fits holds = 
         let outcome : outcome_at before at ≡ Some has.outcome = ap (option_and_then as_outcome) has.found in
         let marked : reversed_in payment (history before) ≡ true =
         approved_mark before folded slot payment asked has.outcome (record { at = at; asked = found; ended = is; found = outcome }) refers (holds at has.outcome is outcome) in
-        let paid : is_payment (intent_at before payment) ≡ true = ap is_payment fits.original.ended.asked ∙ ap asks_payment fits.original.is_original.what in
+        let paid : is_reversible_intent (intent_at before payment) ≡ true = ap is_reversible_intent fits.original.ended.asked ∙ ap is_reversible fits.original.is_original.what in
         let reversed : is_reversed before payment ≡ true = rw (paid, marked) refl in
         let clash : true ≡ false = sym reversed ∙ fits.not_reversed in
         cc
@@ -532,7 +532,7 @@ module _ (records : List Record) (folded : AreFoldedBesideKeys records) (payment
   counts_as_reversed : (at : ℕ) → IsReversedAt records payment at → is_reversed records payment ≡ true
   counts_as_reversed at is =
       let original = (have_originals records folded is.outcome.slot is.intent payment is.asked is.original).0 in
-      let paid : is_payment (intent_at records payment) ≡ true = ap is_payment original.ended.asked ∙ ap asks_payment original.is_original.what in
+      let paid : is_reversible_intent (intent_at records payment) ≡ true = ap is_reversible_intent original.ended.asked ∙ ap is_reversible original.is_original.what in
       let outcome : outcome_at records at ≡ Some is.outcome = ap (option_and_then as_outcome) is.found in
       let marked : reversed_in payment (history records) ≡ true =
       approved_mark records folded is.outcome.slot payment is.intent is.outcome (record { at = at; asked = is.asked; ended = ended_by at is; found = outcome }) is.original is.approved in
@@ -540,7 +540,7 @@ module _ (records : List Record) (folded : AreFoldedBesideKeys records) (payment
 
   pub reversed_is : (is_reversed records payment ≡ true) ↔ ((at : ℕ) × IsReversedAt records payment at)
   reversed_is = (
-    λ reversed. marked_by records folded payment (and_parts (is_payment (intent_at records payment)) (reversed_in payment (history records)) reversed).1,
+    λ reversed. marked_by records folded payment (and_parts (is_reversible_intent (intent_at records payment)) (reversed_in payment (history records)) reversed).1,
     λ has. counts_as_reversed has.0 has.1,
   )
 

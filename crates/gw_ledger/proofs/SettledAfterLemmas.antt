@@ -15,7 +15,7 @@ use Rattle.gw_ledger.specs.declared.account.Account.{Account}
 use Rattle.gw_ledger.specs.Accounts.{account_of, account_with, is_poi, is_settled, poi_of}
 use Rattle.gw_ledger.specs.History.{history, same_text}
 use Rattle.gw_ledger.specs.Laws.{IsSettledAfter}
-use Rattle.gw_ledger.specs.Slots.{asks_payment, ended_at, intent_at, is_outcome_of, is_payment}
+use Rattle.gw_ledger.specs.Slots.{is_reversible, ended_at, intent_at, is_outcome_of, is_reversible_intent}
 use Rattle.gw_ledger.proofs.HistoryLemmas.{history-push}
 use Rattle.gw_ledger.proofs.OpenLemmas.{account_push}
 use Rattle.gw_ledger.proofs.RecordLemmas.{get_before, get_last, get_push}
@@ -163,7 +163,7 @@ module _ (records : List Record) where
   pub settled_is_after : (slot ended : ℕ) (intent : TheIntent) → intent_at records slot ≡ Some intent → intent.what ≡ Payment → ended_at records slot ≡ Some ended
       → (is_settled records slot ≡ true) ↔ IsSettledAfter records intent.poi ended
   settled_is_after slot ended intent asked what at =
-      let payment : is_payment (intent_at records slot) ≡ true = ap is_payment asked ∙ ap asks_payment what in
+      let payment : is_reversible_intent (intent_at records slot) ≡ true = ap is_reversible_intent asked ∙ ap is_reversible what in
       let test : is_settled records slot ≡ nat_lt ended (account_of records intent.poi).settled = rw (asked, what, at) refl in
       let counts = of_all CountsSettled counts_step no_settled records intent.poi ended in (
         λ settled.

@@ -5,7 +5,6 @@ use Rattle.std.proofs.lemmas.Bool.{cases_lt}
 use Rattle.std.proofs.lemmas.List.{take-append-le, length-append}
 use Rattle.gw_base.specs.Key.{key_cmp}
 use Rattle.gw_base.specs.declared.currency.Currency.{Currency}
-use Rattle.jrn_record.specs.declared.records.Deal.TheVariants.{Payment, Reversal}
 use Rattle.std.proofs.Math.Seq.{take-append_seam}
 use Rattle.std.specs.Prelude.{if◌then◌else◌}
 use Rattle.gw_base.specs.declared.key.Key.{Key}
@@ -22,7 +21,7 @@ use Rattle.gw_ledger.specs.Accounts.{account_of, account_with}
 use Rattle.gw_ledger.specs.History.{Placed, history, same_text}
 use Rattle.gw_ledger.specs.Keys.{settled_key, last_slot, slot_of}
 use Rattle.gw_ledger.specs.Slots.{intent_at}
-use Rattle.gw_ledger.specs.Sums.{approves, units_in, one_if, sums_of, sum_over, tally_of, totals_of, unsettled}
+use Rattle.gw_ledger.specs.Sums.{approves, units_in, one_if, sums_of, sum_over, tally_of, totals_of, unsettled, Debit, ReverseDebit}
 use Rattle.gw_ledger.specs.Table.{value_at}
 use Rattle.gw_ledger.specs.Tables.{account_in_row, no_sums, mark_of, poi_cmp, sums_in_row}
 use Rattle.gw_ledger.proofs.RecordLemmas.{get_before, get_last, get_push, intent_push}
@@ -70,8 +69,8 @@ module _ (records : List Record) (settled : TheSettled) where
     -- the sums over the records after the last Settled, where the new one is of this terminal, or isn't
     sums_with : Bool → Currency → Sums
     sums_with b currency = record {
-      debit = (sum_over (λ before the_record. one_if (approves poi currency Payment before the_record)) (past b), sum_over (λ before the_record. if approves poi currency Payment before the_record then units_in the_record else 0) (past b));
-      reversed = (sum_over (λ before the_record. one_if (approves poi currency Reversal before the_record)) (past b), sum_over (λ before the_record. if approves poi currency Reversal before the_record then units_in the_record else 0) (past b));
+      debit = (sum_over (λ before the_record. one_if (approves poi currency Debit before the_record)) (past b), sum_over (λ before the_record. if approves poi currency Debit before the_record then units_in the_record else 0) (past b));
+      reversed = (sum_over (λ before the_record. one_if (approves poi currency ReverseDebit before the_record)) (past b), sum_over (λ before the_record. if approves poi currency ReverseDebit before the_record then units_in the_record else 0) (past b));
     }
       where
         past : Bool → List Placed

@@ -5,7 +5,7 @@ use Rattle.jrn_record.specs.declared.records.Record.{Record}
 use Rattle.jrn_record.specs.declared.records.Record.TheVariants.{Intent, Outcome, Settled}
 use Rattle.gw_ledger.specs.declared.account.Account.{Account}
 use Rattle.gw_ledger.specs.History.{Placed, history, same_text}
-use Rattle.gw_ledger.specs.Slots.{intent_at, is_payment, ended_at}
+use Rattle.gw_ledger.specs.Slots.{intent_at, is_reversible_intent, ended_at}
 
 -- the terminal of a record; that of an Outcome is its Intent's
 abbrev pub poi_of : List Record → Record → Option (List ℕ)
@@ -57,4 +57,4 @@ is_before_last_settled records (Some intent) (Some ended) =
 -- the slot is that of a payment's Intent, and a Settled of its terminal comes after its Outcome
 abbrev pub is_settled : List Record → ℕ → Bool
 is_settled records slot =
-    is_payment (intent_at records slot) && is_before_last_settled records (intent_at records slot) (ended_at records slot)
+    is_reversible_intent (intent_at records slot) && is_before_last_settled records (intent_at records slot) (ended_at records slot)

@@ -22,7 +22,7 @@ use Rattle.gw_ledger.specs.History.{history}
 use Rattle.gw_ledger.specs.Keys.{last_slot, slot_of}
 use Rattle.gw_ledger.specs.Laws.{IsTraceOf}
 use Rattle.gw_ledger.specs.Slots.{ended_at, is_reversed}
-use Rattle.gw_ledger.specs.Sums.{count_of, units_sum_of, open_count_of, tally_of, totals_of}
+use Rattle.gw_ledger.specs.Sums.{count_of, units_sum_of, open_count_of, tally_of, totals_of, Debit, ReverseDebit}
 use Rattle.gw_ledger.specs.Transaction.{named_of}
 
 -- a payment of till `S` at terminal `poi`
@@ -128,15 +128,15 @@ abbrev pub second : TheEntry
 second = record { slot = 2; intent = day_payment (codes "A") (codes "2") 500 123; result = Some (day_approval 2 124 500) }
 
 -- the totals of the day are two payments of 15.99 and one reversal of 10.99; those of another terminal are none
-example_totals : (count_of day (codes "A") Eur Payment ≡ 2) × (units_sum_of day (codes "A") Eur Payment ≡ 1599)
-    × (count_of day (codes "A") Eur Reversal ≡ 1) × (units_sum_of day (codes "A") Eur Reversal ≡ 1099)
-    × (count_of day (codes "A") Chf Payment ≡ 0) × (count_of day (codes "B") Eur Payment ≡ 0)
+example_totals : (count_of day (codes "A") Eur Debit ≡ 2) × (units_sum_of day (codes "A") Eur Debit ≡ 1599)
+    × (count_of day (codes "A") Eur ReverseDebit ≡ 1) × (units_sum_of day (codes "A") Eur ReverseDebit ≡ 1099)
+    × (count_of day (codes "A") Chf Debit ≡ 0) × (count_of day (codes "B") Eur Debit ≡ 0)
 unfolding history
 example_totals = (refl, refl, refl, refl, refl, refl)
 
 -- after a reconciliation they begin anew
-example_totals_after : (count_of (day ++ settled (codes "A") (codes "4") ∷ []) (codes "A") Eur Payment ≡ 0)
-    × (units_sum_of (day ++ settled (codes "B") (codes "4") ∷ []) (codes "A") Eur Payment ≡ 1599)
+example_totals_after : (count_of (day ++ settled (codes "A") (codes "4") ∷ []) (codes "A") Eur Debit ≡ 0)
+    × (units_sum_of (day ++ settled (codes "B") (codes "4") ∷ []) (codes "A") Eur Debit ≡ 1599)
 unfolding history
 example_totals_after = (refl, refl)
 

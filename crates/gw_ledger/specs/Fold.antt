@@ -18,7 +18,7 @@ use Rattle.gw_ledger.specs.declared.entry.Found.TheVariants.{Entry, Closed}
 use Rattle.gw_ledger.specs.declared.fault.LedgerFault.{LedgerFault}
 use Rattle.gw_ledger.specs.declared.fault.LedgerFault.TheVariants.{BadRecord, Memory}
 use Rattle.gw_ledger.specs.History.{same_text}
-use Rattle.gw_ledger.specs.Slots.{intent_at, entry_at, is_open, is_payment, is_reversed}
+use Rattle.gw_ledger.specs.Slots.{intent_at, entry_at, is_open, is_reversible_intent, is_reversed}
 use Rattle.gw_ledger.specs.Keys.{intent_key, settled_key, slot_of, last_slot}
 use Rattle.gw_ledger.specs.Accounts.{open_slot, last_number_of, is_settled}
 use Rattle.gw_ledger.specs.Sums.{same_currency, totals_of}
@@ -36,7 +36,7 @@ is_approved_with amount (Some outcome) = outcome.approved && (outcome.amount == 
 abbrev pub is_approved_payment : List ℕ → Currency → ℕ → Option TheEntry → Bool
 is_approved_payment poi currency amount None = false
 is_approved_payment poi currency amount (Some entry) =
-    is_payment (Some entry.intent) && same_text poi entry.intent.poi
+    is_reversible_intent (Some entry.intent) && same_text poi entry.intent.poi
     && same_currency currency entry.intent.currency && is_approved_with amount entry.result
 
 -- what an Intent refers to may be reversed by it: an approved payment of its terminal, amount and currency that is

@@ -22,10 +22,10 @@ as_outcome (Intent intent) = None
 as_outcome (Outcome outcome) = Some outcome
 as_outcome (Settled settled) = None
 
--- what is asked is a payment
-abbrev pub asks_payment : Deal → Bool
-asks_payment Payment = true
-asks_payment Reversal = false
+-- what is asked may be reversed, once it is approved
+abbrev pub is_reversible : Deal → Bool
+is_reversible Payment = true
+is_reversible Reversal = false
 
 -- the Intent at this slot
 abbrev pub intent_at : List Record → ℕ → Option TheIntent
@@ -97,11 +97,11 @@ reversed_in slot [] = false
 reversed_in slot (p ∷ older) =
     if length p.before == slot then false else reverses slot p.before p.the_record || reversed_in slot older
 
--- the Intent is that of a payment
-abbrev pub is_payment : Option TheIntent → Bool
-is_payment None = false
-is_payment (Some intent) = asks_payment intent.what
+-- what the Intent asks may be reversed
+abbrev pub is_reversible_intent : Option TheIntent → Bool
+is_reversible_intent None = false
+is_reversible_intent (Some intent) = is_reversible intent.what
 
 -- the slot is that of a payment's Intent, and an approved reversal has it as its original
 abbrev pub is_reversed : List Record → ℕ → Bool
-is_reversed records slot = is_payment (intent_at records slot) && reversed_in slot (history records)
+is_reversed records slot = is_reversible_intent (intent_at records slot) && reversed_in slot (history records)

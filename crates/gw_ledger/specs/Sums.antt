@@ -11,7 +11,7 @@ use Rattle.gw_ledger.specs.declared.totals.Tally.{Tally}
 use Rattle.gw_ledger.specs.declared.account.Sums.{Sums}
 use Rattle.gw_ledger.specs.declared.totals.Totals.{Totals}
 use Rattle.gw_ledger.specs.History.{Placed, history, same_text}
-use Rattle.gw_ledger.specs.Slots.{intent_at, asks_payment}
+use Rattle.gw_ledger.specs.Slots.{intent_at}
 
 -- a figure of each record, which may depend on those before it, added up
 abbrev pub sum_over : (List Record → Record → ℕ) → List Placed → ℕ
@@ -50,23 +50,30 @@ ordinal Czk = 8
 abbrev pub same_currency : Currency → Currency → Bool
 same_currency a b = ordinal a == ordinal b
 
--- payments are asked for, or reversals
-abbrev pub same_deal : Deal → Deal → Bool
-same_deal Payment what = asks_payment what
-same_deal Reversal what = not (asks_payment what)
+-- the totals of a terminal, by nexo's types of transactions
+pub data TotalType : Type 0 where
+  Debit : TotalType
+  ReverseDebit : TotalType
 
--- the Intent is of this terminal and currency, and asks this
-abbrev pub is_of : List ℕ → Currency → Deal → Option TheIntent → Bool
-is_of poi currency what None = false
-is_of poi currency what (Some intent) =
-    same_text poi intent.poi && same_currency currency intent.currency && same_deal what intent.what
+-- what is asked counts in this total, once it is approved
+abbrev pub counts_in : TotalType → Deal → Bool
+counts_in Debit Payment = true
+counts_in Debit Reversal = false
+counts_in ReverseDebit Payment = false
+counts_in ReverseDebit Reversal = true
+
+-- the Intent is of this terminal and currency, and counts in this total
+abbrev pub is_of : List ℕ → Currency → TotalType → Option TheIntent → Bool
+is_of poi currency total None = false
+is_of poi currency total (Some intent) =
+    same_text poi intent.poi && same_currency currency intent.currency && counts_in total intent.what
 
 -- the record is the approved Outcome of such an Intent
-abbrev pub approves : List ℕ → Currency → Deal → List Record → Record → Bool
-approves poi currency what before (Intent intent) = false
-approves poi currency what before (Outcome outcome) =
-    outcome.approved && is_of poi currency what (intent_at before outcome.slot)
-approves poi currency what before (Settled settled) = false
+abbrev pub approves : List ℕ → Currency → TotalType → List Record → Record → Bool
+approves poi currency total before (Intent intent) = false
+approves poi currency total before (Outcome outcome) =
+    outcome.approved && is_of poi currency total (intent_at before outcome.slot)
+approves poi currency total before (Settled settled) = false
 
 -- the minor units of an Outcome
 abbrev pub units_in : Record → ℕ
@@ -75,21 +82,21 @@ units_in (Outcome outcome) = outcome.amount
 units_in (Settled settled) = 0
 
 -- how many were approved since the terminal's last Settled, in this currency
-abbrev pub count_of : List Record → List ℕ → Currency → Deal → ℕ
-count_of records poi currency what =
-    sum_over (λ before the_record. one_if (approves poi currency what before the_record)) (unsettled poi (history records))
+abbrev pub count_of : List Record → List ℕ → Currency → TotalType → ℕ
+count_of records poi currency total =
+    sum_over (λ before the_record. one_if (approves poi currency total before the_record)) (unsettled poi (history records))
 
 -- and their minor units
-abbrev pub units_sum_of : List Record → List ℕ → Currency → Deal → ℕ
-units_sum_of records poi currency what =
-    sum_over (λ before the_record. if approves poi currency what before the_record then units_in the_record else 0)
+abbrev pub units_sum_of : List Record → List ℕ → Currency → TotalType → ℕ
+units_sum_of records poi currency total =
+    sum_over (λ before the_record. if approves poi currency total before the_record then units_in the_record else 0)
     (unsettled poi (history records))
 
 -- the counts and sums of payments and of reversals
 abbrev pub sums_of : List Record → List ℕ → Currency → Sums
 sums_of records poi currency = record {
-  debit = (count_of records poi currency Payment, units_sum_of records poi currency Payment);
-  reversed = (count_of records poi currency Reversal, units_sum_of records poi currency Reversal);
+  debit = (count_of records poi currency Debit, units_sum_of records poi currency Debit);
+  reversed = (count_of records poi currency ReverseDebit, units_sum_of records poi currency ReverseDebit);
 }
 
 -- in this currency

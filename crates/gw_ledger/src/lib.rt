@@ -23,4 +23,5 @@ pub use laws::{
     law_settled, law_settling, law_within,
 };
 pub use ledger::Ledger;
+pub use tables::is_reversible;
 pub use totals::{Tally, Totals};

@@ -9,7 +9,7 @@ ghost use Rattle.gw_ledger.specs.History.{same_text};
 ghost use Rattle.gw_ledger.specs.Keys.{intent_key, key_at, last_slot, settled_key};
 ghost use Rattle.gw_ledger.specs.Table.{IsTable, value_at};
 ghost use Rattle.gw_ledger.specs.KeyTable.{compare_record};
-ghost use Rattle.gw_ledger.specs.Slots.{asks_payment, entry_at, intent_at, is_reversed, outcome_at, settled_at};
+ghost use Rattle.gw_ledger.specs.Slots.{is_reversible, entry_at, intent_at, is_reversed, outcome_at, settled_at};
 ghost use Rattle.gw_ledger.specs.Transaction.{is_named, named_of};
 ghost use Rattle.gw_ledger.specs.Sums.{open_count_of, tally_of, totals_of};
 ghost use Rattle.gw_ledger.specs.Tables.{pair_cmp};
@@ -471,7 +471,7 @@ impl Tables {
         ensures { result ≡ is_reversed self.now.records slot }
     {
         match self.records.intent_at(slot) {
-            Some(intent) => is_payment(intent.what) && self.marks[slot as usize].reversed,
+            Some(intent) => is_reversible(intent.what) && self.marks[slot as usize].reversed,
             None => false,
         }
     }
@@ -484,7 +484,7 @@ impl Tables {
             return false;
         };
         match self.marks[slot as usize].ended.get() {
-            Some(at) => is_payment(intent.what)
+            Some(at) => is_reversible(intent.what)
                 && at < desk_in(&self.desks, &intent.poi).account.settled,
             None => false,
         }
@@ -505,9 +505,9 @@ fn room_for(more: usize, unresolved: u32) -> Option<usize>
     more.checked_mul(2)?.checked_add(unresolved as usize)
 }
 
-/// Whether a payment is asked for.
-fn is_payment(what: Deal) -> bool
-    ensures { result ≡ asks_payment what }
+/// Whether what is asked may be reversed, once it is approved.
+pub fn is_reversible(what: Deal) -> bool
+    ensures { result ≡ is_reversible what }
 {
     match what {
         Deal::Payment => true,
@@ -598,7 +598,7 @@ fn counted(tally: Tally, outcome: &Outcome) -> Tally
 fn is_approved_payment(entry: &Entry, intent: &Intent) -> bool
     ensures { result ≡ is_approved_payment intent.now.poi intent.now.currency intent.now.amount (Some entry.now) }
 {
-    is_payment(entry.intent.what)
+    is_reversible(entry.intent.what)
         && same_poi(&intent.poi, &entry.intent.poi)
         && ordinal_of(intent.currency) == ordinal_of(entry.intent.currency)
         && is_approved_with(intent.amount, &entry.result)

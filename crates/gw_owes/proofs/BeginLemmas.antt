@@ -43,7 +43,7 @@ use Rattle.gw_ledger.specs.Fold.{fits, found_of, open_entry}
 use Rattle.gw_ledger.specs.History.{same_text}
 use Rattle.gw_ledger.specs.Keys.{intent_key, is_key, settled_key}
 use Rattle.gw_ledger.specs.Laws.{HasApproval, IsEntryWithin}
-use Rattle.gw_ledger.specs.Slots.{asks_payment, is_reversed}
+use Rattle.gw_ledger.specs.Slots.{is_reversible, is_reversed}
 use Rattle.gw_ledger.specs.Sums.{open_count_of}
 use Rattle.gw_ledger.specs.Transaction.{is_text, text_of}
 use Rattle.xlate.specs.Ask.{HasItsOriginal, IsApproval, IsOriginalWithinLimits, ask}
@@ -101,7 +101,7 @@ pub record IsAskedAnew (known : Known) (header : Header) (terminal : Terminal) (
   pub its_original : HasItsOriginal asking.intent.what asking.intent.original asking.original
   pub original_within : IsOriginalWithinLimits asking.original
 
-is-payment : (what : Deal) → asks_payment what ≡ true → what ≡ deals.Payment
+is-payment : (what : Deal) → is_reversible what ≡ true → what ≡ deals.Payment
 is-payment deals.Payment is = refl
 is-payment deals.Reversal is = absurd cc
 
@@ -142,8 +142,8 @@ module _ (laws : LedgerLaws) (known : Known) (order : IsInOrder known) (header :
   reversal-anew reversal original named may =
       let entry = laws.named known.kept header.poi reversal.transaction original named in
       let at_poi = (and_parts (same_text header.poi original.intent.poi) (is_text reversal.transaction (text_of original)) entry.1).0 in
-      let parts = and_parts (asks_payment original.intent.what && is_whole_of reversal.amount original.result) (not (is_reversed known.kept original.slot) && not (is_settled known.kept original.slot)) may in
-      let paid = and_parts (asks_payment original.intent.what) (is_whole_of reversal.amount original.result) parts.0 in
+      let parts = and_parts (is_reversible original.intent.what && is_whole_of reversal.amount original.result) (not (is_reversed known.kept original.slot) && not (is_settled known.kept original.slot)) may in
+      let paid = and_parts (is_reversible original.intent.what) (is_whole_of reversal.amount original.result) parts.0 in
       let still = and_parts (not (is_reversed known.kept original.slot)) (not (is_settled known.kept original.slot)) parts.1 in
       let approved = whole-approved reversal.amount original.result paid.1 in
       let within : IsEntryWithin original = (laws.within known.kept order.folded).0 original.slot original entry.0 in

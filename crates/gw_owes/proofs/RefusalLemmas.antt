@@ -15,7 +15,7 @@ use Rattle.jrn_record.specs.declared.records.Record.{Record}
 use Rattle.gw_ledger.specs.declared.entry.Entry.{Entry as TheEntry}
 use Rattle.gw_ledger.specs.declared.entry.Found.{Found}
 use Rattle.gw_ledger.specs.Accounts.{is_settled}
-use Rattle.gw_ledger.specs.Slots.{asks_payment, is_reversed}
+use Rattle.gw_ledger.specs.Slots.{is_reversible, is_reversed}
 use Rattle.xlate.specs.Reply.{result_body_of}
 use Rattle.gw_owes.specs.declared.terminal.Standing.{Standing}
 use Rattle.gw_owes.specs.declared.terminal.Standing.TheVariants.{Unlinked, Registering, Enquiring, Ready, Serving, Aside}
@@ -42,8 +42,8 @@ same-amount (Some amount) approved whole = eq-eqb amount approved (whole amount 
 
 may-reverse : (kept : List Record) (reversal : ReversalAsk) (original : TheEntry) (approval : TheOutcome) → IsReversible kept reversal original approval → may_be_reversed kept reversal original ≡ true
 may-reverse kept reversal original approval reversible =
-    and_from (asks_payment original.intent.what && is_whole_of reversal.amount original.result) (not (is_reversed kept original.slot) && not (is_settled kept original.slot))
-    (and_from (asks_payment original.intent.what) (is_whole_of reversal.amount original.result) (ap asks_payment reversible.what)
+    and_from (is_reversible original.intent.what && is_whole_of reversal.amount original.result) (not (is_reversed kept original.slot) && not (is_settled kept original.slot))
+    (and_from (is_reversible original.intent.what) (is_whole_of reversal.amount original.result) (ap is_reversible reversible.what)
     (ap (is_whole_of reversal.amount) reversible.result ∙ and_from approval.approved (is_same_amount reversal.amount approval.amount) reversible.approved (same-amount reversal.amount approval.amount reversible.whole)))
     (and_from (not (is_reversed kept original.slot)) (not (is_settled kept original.slot)) (not_from_false (is_reversed kept original.slot) reversible.not_reversed) (not_from_false (is_settled kept original.slot) reversible.not_settled))
 

@@ -9,12 +9,12 @@ use Rattle.jrn_record.specs.declared.records.Outcome.{Outcome as TheOutcome}
 use Rattle.jrn_record.specs.declared.records.Record.{Record}
 use Rattle.gw_ledger.specs.declared.entry.Entry.{Entry as TheEntry}
 use Rattle.gw_ledger.specs.Accounts.{is_settled}
-use Rattle.gw_ledger.specs.Slots.{asks_payment, is_reversed}
+use Rattle.gw_ledger.specs.Slots.{is_reversible, is_reversed}
 use Rattle.gw_owes.specs.Content.{is_same_amount}
 use Rattle.gw_owes.specs.PaymentLaws.{IsReversible}
 use Rattle.gw_owes.specs.Reversals.{original_of, is_whole_of, may_be_reversed, is_irreversible}
 
-payment-is : (what : Deal) → asks_payment what ≡ true → what ≡ deals.Payment
+payment-is : (what : Deal) → is_reversible what ≡ true → what ≡ deals.Payment
 payment-is deals.Payment asks = refl
 payment-is deals.Reversal asks = absurd cc
 
@@ -32,17 +32,17 @@ pub record HasApproval (kept : List Record) (reversal : ReversalAsk) (entry : Th
 
 -- the same, by its Outcome
 has-approval : (kept : List Record) (reversal : ReversalAsk) (entry : TheEntry) (result : Option TheOutcome) → entry.result ≡ result
-    → ((asks_payment entry.intent.what && is_whole_of reversal.amount result) && (not (is_reversed kept entry.slot) && not (is_settled kept entry.slot))) ≡ true → HasApproval kept reversal entry
+    → ((is_reversible entry.intent.what && is_whole_of reversal.amount result) && (not (is_reversed kept entry.slot) && not (is_settled kept entry.slot))) ≡ true → HasApproval kept reversal entry
 has-approval kept reversal entry None is may =
-    let parts = and_parts (asks_payment entry.intent.what && false) (not (is_reversed kept entry.slot) && not (is_settled kept entry.slot)) may in
-    let whole = and_parts (asks_payment entry.intent.what) false parts.0 in
+    let parts = and_parts (is_reversible entry.intent.what && false) (not (is_reversed kept entry.slot) && not (is_settled kept entry.slot)) may in
+    let whole = and_parts (is_reversible entry.intent.what) false parts.0 in
     absurd (apart whole.1)
   where
     apart : false ≡ true → ⊥
     apart e = cc
 has-approval kept reversal entry (Some approval) is may =
-    let parts = and_parts (asks_payment entry.intent.what && is_whole_of reversal.amount (Some approval)) (not (is_reversed kept entry.slot) && not (is_settled kept entry.slot)) may in
-    let payment = and_parts (asks_payment entry.intent.what) (is_whole_of reversal.amount (Some approval)) parts.0 in
+    let parts = and_parts (is_reversible entry.intent.what && is_whole_of reversal.amount (Some approval)) (not (is_reversed kept entry.slot) && not (is_settled kept entry.slot)) may in
+    let payment = and_parts (is_reversible entry.intent.what) (is_whole_of reversal.amount (Some approval)) parts.0 in
     let whole = and_parts approval.approved (is_same_amount reversal.amount approval.amount) payment.1 in
     let left = and_parts (not (is_reversed kept entry.slot)) (not (is_settled kept entry.slot)) parts.1 in
     record {

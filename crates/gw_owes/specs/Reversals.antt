@@ -10,7 +10,7 @@ use Rattle.jrn_record.specs.declared.records.Outcome.{Outcome as TheOutcome}
 use Rattle.jrn_record.specs.declared.records.Record.{Record}
 use Rattle.gw_ledger.specs.declared.entry.Entry.{Entry as TheEntry}
 use Rattle.gw_ledger.specs.Accounts.{is_settled}
-use Rattle.gw_ledger.specs.Slots.{asks_payment, is_reversed}
+use Rattle.gw_ledger.specs.Slots.{is_reversible, is_reversed}
 use Rattle.gw_ledger.specs.Transaction.{named_of}
 use Rattle.gw_owes.specs.Content.{is_same_amount}
 
@@ -28,7 +28,7 @@ is_whole_of amount (Some outcome) = outcome.approved && is_same_amount amount ou
 -- the entry may be reversed: it is an approved payment that is neither reversed nor settled, and the whole of its amount is to be reversed
 abbrev pub may_be_reversed : List Record → ReversalAsk → TheEntry → Bool
 may_be_reversed kept reversal entry =
-    (asks_payment entry.intent.what && is_whole_of reversal.amount entry.result) && (not (is_reversed kept entry.slot) && not (is_settled kept entry.slot))
+    (is_reversible entry.intent.what && is_whole_of reversal.amount entry.result) && (not (is_reversed kept entry.slot) && not (is_settled kept entry.slot))
 
 -- the original, where there is one, may not be reversed
 abbrev pub is_irreversible : List Record → ReversalAsk → Option TheEntry → Bool
