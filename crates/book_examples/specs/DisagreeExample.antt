@@ -18,12 +18,12 @@ use Rattle.gw_owes.specs.TerminalExample.{ack, abort, completion, enquiry_sent}
 use Rattle.gw_rules.specs.RowExample.{register_bytes, terminal_setup}
 use Rattle.gw_rules.specs.TerminalLogExample.{items_begin}
 use Rattle.gw_rules.specs.View.{Move, Begin, Read, Make}
-use Rattle.gw_books.specs.Kinds.{OfReversal}
+use Rattle.gw_books.specs.Kinds.{BookedReversal}
 use Rattle.gw_books.specs.Agrees.{are_distinct_keys, entry_key, EachSaid, success_agrees, unaccepted_agrees, in_progress_agrees, report_resolves}
 use Rattle.gw_books.specs.Books.{BookedEntry, Honest}
 use Rattle.gw_books.specs.BrokenLaws.{BreaksAgreement}
-use Rattle.gw_books.specs.Example.{opened_moves, payment_key, payment_occasion, refused_past, asked_past, paying_header, payment_ask, authorise, asked_course, approved_mark, paid_result_body, paid_course, paid_reply, refusal_reply, paid_past, paid_entry, entry_in_time, older_entry, paid_figures, first_numbering}
-use Rattle.gw_books.specs.Past.{Ending, Declined, Reported, SentReply, MadePoll, Past, past_of, Numbering}
+use Rattle.gw_books.specs.Example.{opened_moves, payment_key, payment_occasion, refused_past, asked_past, paying_header, payment_ask, authorise, asked_course, first_numbering, approved_mark, paid_result_body, paid_course, paid_reply, refusal_reply, paid_past, paid_entry, entry_in_time, older_entry, paid_figures}
+use Rattle.gw_books.specs.Past.{Numbering, Ending, Declined, Reported, SentReply, MadePoll, Past, past_of}
 use Rattle.gw_books.specs.SaidLaws.{said_by_reply}
 use Rattle.book_examples.specs.Example.{progress_reply, later_entry}
 
@@ -158,7 +158,7 @@ pub record LinksEnd : Type 0 where
 pub record UncausedBooks : Type 0 where
   -- an entry whose command was not sent, or was a payment where it is a reversal
   pub unsent : ¬ Honest asked_past (record paid_entry { cause = Some 21 } ∷ [])
-  pub reversal : ¬ Honest asked_past (record paid_entry { kind = OfReversal } ∷ [])
+  pub reversal : ¬ Honest asked_past (record paid_entry { kind = BookedReversal } ∷ [])
   -- one whose command was sent in part
   pub in_part : ¬ Honest (past_of (opened_moves ++ Make (SentPt 0 (take 5 authorise) false) ∷ [])) (record paid_entry { cause = Some 16 } ∷ [])
   -- one that is at its command or before it, or without a command and not older than the log

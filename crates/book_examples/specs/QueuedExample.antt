@@ -29,7 +29,7 @@ use Rattle.gw_rules.specs.View.{Move, Begin, Read, Make}
 use Rattle.gw_books.specs.Agrees.{in_progress_agrees}
 use Rattle.gw_books.specs.Books.{BookedEntry}
 use Rattle.gw_books.specs.BrokenLaws.{BreaksAgreement}
-use Rattle.gw_books.specs.Example.{payment_text, paying_header, payment_read, payment_key, paying_intent, authorise, keeping_moves, payment_command, payment_occasion, asked_past, polled_linked, kept_approval, paid_entry, IsHonestAndAgrees, first_numbering}
+use Rattle.gw_books.specs.Example.{payment_text, paying_header, payment_read, payment_key, paying_intent, authorise, keeping_moves, first_numbering, payment_command, payment_occasion, asked_past, polled_linked, kept_approval, paid_entry, IsHonestAndAgrees}
 use Rattle.gw_books.specs.Headline.{HasPast}
 use Rattle.gw_books.specs.Past.{OfRequest, OfMessage, SentCommand, Approved, SentReply, Past}
 use Rattle.gw_books.specs.ReversalExample.{aborting_header}

@@ -1,5 +1,5 @@
 -- What holds at the end gives agreement.
-use Rattle.std.proofs.Common.{◌≡◌, ◌∙◌, ℕ, Bool, true, false, List, [], ◌∷◌, refl, sym, ap, subst, inl, inr, arith, le-leb, eqb-true, eq-eqb, leb-true, zero, suc}
+use Rattle.std.proofs.Common.{◌≡◌, ◌∙◌, ℕ, zero, suc, Bool, true, false, List, [], ◌∷◌, refl, sym, ap, subst, inl, inr, arith, le-leb, eqb-true, eq-eqb, leb-true}
 use Rattle.std.proofs.lemmas.Bool.{and_from, and_parts, false_from_ne_true, not_from_false}
 use Rattle.std.proofs.lemmas.List.Elements.{All-from_recursion}
 use Rattle.std.proofs.lemmas.Option.{same_Some}
@@ -18,8 +18,8 @@ use Rattle.gw_ledger.specs.Keys.{intent_key, is_key, slot_of}
 use Rattle.gw_ledger.specs.Slots.{intent_at}
 use Rattle.xlate.specs.Reply.{deal_category}
 use Rattle.gw_owes.proofs.RecordLemmas.{LedgerLaws, intent-stays}
-use Rattle.gw_books.specs.Kinds.{BookedKind, OfCompletion, OfPayment, OfRefund, OfReservation, OfReversal, is_kind, kind_number, booked_kind_of}
-use Rattle.gw_books.specs.Past.{SentCommand, SentReply, Past, Numbering, is_numbering}
+use Rattle.gw_books.specs.Kinds.{BookedKind, BookedCompletion, BookedPayment, BookedRefund, BookedReservation, BookedReversal, is_kind, kind_number, booked_kind_of}
+use Rattle.gw_books.specs.Past.{Numbering, is_numbering, SentCommand, SentReply, Past}
 use Rattle.gw_books.specs.Books.{BookedEntry, is_cause, is_caused, is_caused_by, have_one_cause, comes_before, is_ordered}
 use Rattle.gw_books.specs.Said.{Said, all_said, IsFramed}
 use Rattle.gw_books.specs.Agrees.{EachSaid, entry_key, key_at_place, is_transaction, is_success, is_approved_entry, is_entry_said, is_of_category, names_entry, success_agrees, refusal_agrees, unaccepted_agrees, not_found_agrees, in_progress_agrees}
@@ -46,19 +46,19 @@ sent-apart place (command ∷ commands) falling once = (
 
 -- kinds that pass for equal are
 kind-of-number : ℕ → BookedKind
-kind-of-number zero = OfPayment
-kind-of-number (suc zero) = OfReversal
-kind-of-number (suc (suc zero)) = OfRefund
-kind-of-number (suc (suc (suc zero))) = OfReservation
-kind-of-number (suc (suc (suc (suc n)))) = OfCompletion
+kind-of-number zero = BookedPayment
+kind-of-number (suc zero) = BookedReversal
+kind-of-number (suc (suc zero)) = BookedRefund
+kind-of-number (suc (suc (suc zero))) = BookedReservation
+kind-of-number (suc (suc (suc (suc n)))) = BookedCompletion
 
 kind-numbered : (kind : BookedKind) → kind-of-number (kind_number kind) ≡ kind
 unfolding kind-of-number
-kind-numbered OfPayment = refl
-kind-numbered OfReversal = refl
-kind-numbered OfRefund = refl
-kind-numbered OfReservation = refl
-kind-numbered OfCompletion = refl
+kind-numbered BookedPayment = refl
+kind-numbered BookedReversal = refl
+kind-numbered BookedRefund = refl
+kind-numbered BookedReservation = refl
+kind-numbered BookedCompletion = refl
 
 one-kind : (one other : BookedKind) → is_kind one other ≡ true → one ≡ other
 one-kind one other e = sym (kind-numbered one) ∙ ap kind-of-number (eqb-true (kind_number one) (kind_number other) e) ∙ kind-numbered other
@@ -67,7 +67,7 @@ one-kind one other e = sym (kind-numbered one) ∙ ap kind-of-number (eqb-true (
 pub same-kind : (one other : BookedKind) → one ≡ other → is_kind one other ≡ true
 same-kind one other same = eq-eqb (kind_number one) (kind_number other) (ap kind_number same)
 
--- an entry whose cause was sent is of the command's terminal, and a reversal where the command is one
+-- an entry whose cause was sent is of the command's numbering and of its kind
 caused-as : (past : Past) (entry : BookedEntry) (command : SentCommand) → AreFalling past.place past.commands → In command past.commands → entry.cause ≡ Some command.place
     → is_caused past entry entry.cause ≡ true → (command.numbering ≡ entry.numbering) × (entry.kind ≡ command.kind)
 caused-as past entry command falling within e caused =
@@ -91,7 +91,7 @@ pub caused-numbering : (past : Past) (entry : BookedEntry) (command : SentComman
     → is_caused past entry entry.cause ≡ true → command.numbering ≡ entry.numbering
 caused-numbering past entry command falling within e caused = (caused-as past entry command falling within e caused).0
 
--- a command that was sent for the key of an Intent is a reversal where that asks for one
+-- a command that was sent for the key of an Intent is of the kind that the Intent asks for
 pub command-kind : LedgerLaws → (kept : List Record) → AreFolded kept → (place : ℕ) (commands : List SentCommand) → AreKeyed kept place commands → (command : SentCommand) → In command commands
     → (slot : ℕ) (intent : TheIntent) → intent_at kept slot ≡ Some intent → command.key ≡ Some (intent_key intent) → command.kind ≡ booked_kind_of intent.what
 command-kind laws kept folded place commands keyed command within slot intent intent_is key_is =
@@ -182,7 +182,7 @@ approved-for past falling command sent key key_is entry caused approved =
     and_from entry.approved (is_key key (entry_key past entry)) approved (is-key-itself key (entry_key past entry) own)
 
 -- what is booked as it was asked is of the category that is said
-of-category : (what : Deal) (kind : BookedKind) (category : List ℕ) → category ≡ deal_category what → kind ≡ booked_kind_of what → is_kind (if bytes_eq category (codes "Reversal") then OfReversal else OfPayment) kind ≡ true
+of-category : (what : Deal) (kind : BookedKind) (category : List ℕ) → category ≡ deal_category what → kind ≡ booked_kind_of what → is_kind (if bytes_eq category (codes "Reversal") then BookedReversal else BookedPayment) kind ≡ true
 of-category Payment kind category c r = rw (c, r) refl
 of-category Reversal kind category c r = rw (c, r) refl
 

@@ -9,7 +9,7 @@ use Rattle.jrn_record.specs.declared.records.Intent.{Intent as TheIntent}
 use Rattle.jrn_record.specs.declared.records.Record.{Record}
 use Rattle.gw_ledger.specs.Accounts.{last_number_of}
 use Rattle.gw_books.specs.Past.{Numbering, is_numbering, numbering_of, SentCommand, Reported, HeardEnd, Past}
-use Rattle.gw_books.specs.Books.{BookedEntry, Honest, comes_before, has_figures, have_one_cause, is_cause, is_caused, is_caused_by, is_entry_number, is_last_entry, is_of_its_link, is_ordered, is_true, leaves_entry, was_booked, was_numbered}
+use Rattle.gw_books.specs.Books.{BookedEntry, Honest, comes_before, has_figures, have_one_cause, is_cause, is_caused, is_caused_by, is_entry_number, is_last_entry, is_of_its_link, is_ordered, is_true, leaves_entry, was_booked, was_booked_in_numbering}
 use Rattle.gw_books.proofs.ListLemmas.{In, all-in, all-from, any-in, bytes-are, bytes-itself, filter-in}
 use Rattle.gw_books.proofs.Numbering.{WasSentAt, IsOfSent, HasNumberedEntry, IsBookedNumber, IsQuiet, IsReadyNumber, HasEntryBeforeAll, IsIntentNumbered, AreRecordsNumbered, IsLinkedSince}
 
@@ -49,12 +49,12 @@ pub numbering-itself : (one : Numbering) → is_numbering one one ≡ true
 numbering-itself one = bytes-itself one.poi
 
 -- an entry of the numbering by this place was in it at the hearing
-pub was-numbered : (end : HeardEnd) (entry : BookedEntry) → entry.numbering ≡ end.numbering → entry.place ≤ end.place → was_numbered end entry ≡ true
-was-numbered end entry numbering_is placed =
+pub was-booked-in-numbering : (end : HeardEnd) (entry : BookedEntry) → entry.numbering ≡ end.numbering → entry.place ≤ end.place → was_booked_in_numbering end entry ≡ true
+was-booked-in-numbering end entry numbering_is placed =
     and_from (is_numbering end.numbering entry.numbering) (nat_le entry.place end.place) (ap (is_numbering end.numbering) numbering_is ∙ numbering-itself end.numbering) (le-leb entry.place end.place placed)
 
 -- and each that was is one
-pub numbered-is : (end : HeardEnd) (entry : BookedEntry) → was_numbered end entry ≡ true → (entry.numbering ≡ end.numbering) × (entry.place ≤ end.place)
+pub numbered-is : (end : HeardEnd) (entry : BookedEntry) → was_booked_in_numbering end entry ≡ true → (entry.numbering ≡ end.numbering) × (entry.place ≤ end.place)
 numbered-is end entry e =
     let parts = and_parts (is_numbering end.numbering entry.numbering) (nat_le entry.place end.place) e in
     (sym (numbering-are end.numbering entry.numbering parts.0), leb-true entry.place end.place parts.1)
@@ -291,21 +291,21 @@ reported-approved trace figures entry e = (and_parts (entry.number == trace) (ha
 
 pub report-true : (past : Past) (book : List BookedEntry) (end : HeardEnd) (trace : ℕ) (figures : Option Figures) → Honest past book → is_true book end (Reported trace figures) ≡ true
     → HasLastEntry book end.numbering end.place trace figures ⊎ HasNoEntry book end.numbering end.place trace
-report-true past book end trace figures honest e = by (filter (was_numbered end) book) refl e
+report-true past book end trace figures honest e = by (filter (was_booked_in_numbering end) book) refl e
   where
     -- what was booked at the hearing is left
-    left : (other : BookedEntry) → In other book → other.numbering ≡ end.numbering → other.place ≤ end.place → In other (filter (was_numbered end) book)
-    left other within numbering_is placed = in-filter (was_numbered end) book other within (was-numbered end other numbering_is placed)
+    left : (other : BookedEntry) → In other book → other.numbering ≡ end.numbering → other.place ≤ end.place → In other (filter (was_booked_in_numbering end) book)
+    left other within numbering_is placed = in-filter (was_booked_in_numbering end) book other within (was-booked-in-numbering end other numbering_is placed)
 
-    later : filter (was_numbered end) book ≡ [] → (other : BookedEntry) → In other book → other.numbering ≡ end.numbering → (end.place < other.place) ⊎ (other.place ≤ end.place) → end.place < other.place
+    later : filter (was_booked_in_numbering end) book ≡ [] → (other : BookedEntry) → In other book → other.numbering ≡ end.numbering → (end.place < other.place) ⊎ (other.place ≤ end.place) → end.place < other.place
     later none other within numbering_is (inl after) = after
     later none other within numbering_is (inr placed) = absurd (subst (In other) none (left other within numbering_is placed))
 
-    there : (first : BookedEntry) (rest : List BookedEntry) → filter (was_numbered end) book ≡ first ∷ rest → is_last_entry trace figures (last_or (Some first) rest) ≡ true → HasLastEntry book end.numbering end.place trace figures
+    there : (first : BookedEntry) (rest : List BookedEntry) → filter (was_booked_in_numbering end) book ≡ first ∷ rest → is_last_entry trace figures (last_or (Some first) rest) ≡ true → HasLastEntry book end.numbering end.place trace figures
     there first rest some f =
-        let found = last-there first rest (subst (λ (list : List BookedEntry). is_ordered list ≡ true) some (ordered-filter (was_numbered end) book honest.ordered)) in
+        let found = last-there first rest (subst (λ (list : List BookedEntry). is_ordered list ≡ true) some (ordered-filter (was_booked_in_numbering end) book honest.ordered)) in
         let says = subst (λ (entry : Option BookedEntry). is_last_entry trace figures entry ≡ true) found.is f in
-        let in_book = filter-in (was_numbered end) book found.last (subst (In found.last) (sym some) found.within) in
+        let in_book = filter-in (was_booked_in_numbering end) book found.last (subst (In found.last) (sym some) found.within) in
         let booked = numbered-is end found.last in_book.1 in
         record {
           entry = found.last;
@@ -318,7 +318,7 @@ report-true past book end trace figures honest e = by (filter (was_numbered end)
           last = λ other within numbering_is placed. found.others other (subst (In other) some (left other within numbering_is placed));
         }
 
-    by : (list : List BookedEntry) → filter (was_numbered end) book ≡ list → is_last_entry trace figures (last_or None list) ≡ true → HasLastEntry book end.numbering end.place trace figures ⊎ HasNoEntry book end.numbering end.place trace
+    by : (list : List BookedEntry) → filter (was_booked_in_numbering end) book ≡ list → is_last_entry trace figures (last_or None list) ≡ true → HasLastEntry book end.numbering end.place trace figures ⊎ HasNoEntry book end.numbering end.place trace
     by [] none f = inr (record { trace_is = eqb-true trace 0 f; none = λ other within numbering_is. later none other within numbering_is (cases_lt end.place other.place) })
     by (first ∷ rest) some f = inl (there first rest some f)
 
@@ -350,11 +350,11 @@ pub booked-trace : (past : Past) (book : List BookedEntry) (end : HeardEnd) (tra
 booked-trace past book end trace e = by (trace == 0) refl e
   where
     numbered : BookedEntry → Bool
-    numbered entry = was_numbered end entry && entry.number == trace
+    numbered entry = was_booked_in_numbering end entry && entry.number == trace
 
     found : (entry : BookedEntry) → In entry book → numbered entry ≡ true → HasNumberedEntry book end.numbering end.place trace
     found entry within f =
-        let parts = and_parts (was_numbered end entry) (entry.number == trace) f in
+        let parts = and_parts (was_booked_in_numbering end entry) (entry.number == trace) f in
         let booked = numbered-is end entry parts.0 in
         record { entry = entry; within = within; numbering_is = booked.0; placed = booked.1; number_is = eqb-true entry.number trace parts.1 }
 

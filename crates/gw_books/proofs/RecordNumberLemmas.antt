@@ -4,6 +4,7 @@ use Rattle.std.specs.Prelude.{if◌then◌else◌, option_map}
 use Rattle.std.proofs.lemmas.Bool.{cases_lt}
 use Rattle.std.proofs.lemmas.List.{length-append}
 use Rattle.std.proofs.lemmas.Option.{same_Some}
+use Rattle.gw_base.specs.declared.setup.Pt.{Pt}
 use Rattle.jrn_record.specs.Limits.{IsRecord}
 use Rattle.jrn_record.specs.declared.records.Intent.{Intent as TheIntent}
 use Rattle.jrn_record.specs.declared.records.Outcome.{Outcome as TheOutcome}
@@ -24,12 +25,11 @@ use Rattle.gw_ledger.proofs.RecordLemmas.{folded_beside, get_push, intent_push}
 use Rattle.gw_ledger.proofs.TieLemmas.{eqb_above, eqb_same}
 use Rattle.gw_owes.proofs.RecordLemmas.{LedgerLaws, intent-stays, intent-within, open-unended, same-text-is, same-text-itself, settled-leaves}
 use Rattle.gw_books.specs.Books.{BookedEntry}
-use Rattle.gw_books.specs.Past.{SentCommand, Numbering, numbering_at, numbering_of}
+use Rattle.gw_books.specs.Past.{Numbering, numbering_at, numbering_of, SentCommand}
 use Rattle.gw_books.proofs.Holding.{IsUnsent}
 use Rattle.gw_books.proofs.ListLemmas.{In}
 use Rattle.gw_books.proofs.Numbering.{AreIntentsNumbered, AreLastBooked, AreRecordsNumbered, HasEntryBefore, HasEntryBeforeAll, IsBookedNumber, IsEntryFrom, IsForKey, IsIntentNumbered, IsOfSent, IsOpenNumbered, IsReadyNumber, IsSentFrom}
 use Rattle.gw_books.proofs.RecordMoreLemmas.{own-slot}
-use Rattle.gw_base.specs.declared.setup.Pt.{Pt}
 
 -- ---- the first of the records
 

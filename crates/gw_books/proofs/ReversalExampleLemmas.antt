@@ -27,7 +27,7 @@ use Rattle.gw_rules.specs.TerminalLogExample.{items_begin}
 use Rattle.gw_rules.specs.View.{Make, view_from, at_first}
 use Rattle.gw_rules.proofs.CourseLemmas.{course-append}
 use Rattle.gw_rules.proofs.TextLemmas.{bytes-tested, ident-tested}
-use Rattle.gw_books.specs.Kinds.{OfReversal}
+use Rattle.gw_books.specs.Kinds.{BookedReversal}
 use Rattle.gw_books.specs.Past.{Past, SentReply, past_of}
 use Rattle.gw_books.specs.Books.{Honest}
 use Rattle.gw_books.specs.Said.{IsFramed, all_said}
@@ -203,7 +203,7 @@ abbrev misasked_past : Past
 misasked_past = record asked_past {
   place = 24;
   occasion = payment_occasion;
-  commands = record payment_command { kind = OfReversal } ∷ [];
+  commands = record payment_command { kind = BookedReversal } ∷ [];
   replies = misasked_sent ∷ [];
 }
 
@@ -211,12 +211,12 @@ misasked-past : past_of (misasked_course ++ Make (SentTill 1 (reply_value_bytes 
 unfolding decode_apdus decode_apdus_within decode_pt_message history payment_text
 misasked-past = refl
 
-misasked-booked : list_all (success_agrees misasked_past (record entry_in_time { kind = OfReversal } ∷ []) misasked_sent) (all_said (reply_value_tree paid_reply)) ≡ false
+misasked-booked : list_all (success_agrees misasked_past (record entry_in_time { kind = BookedReversal } ∷ []) misasked_sent) (all_said (reply_value_tree paid_reply)) ≡ false
 unfolding history message_tree header_tree result_tree sale_data poi_data payment_result approved_body result_body transaction_text money_text digits tree_at
 misasked-booked = refl
 
 pub reversal-is-no-payment : ReversalIsNoPayment
 reversal-is-no-payment =
-    breaks-by (misasked_course ++ Make (SentTill 1 (reply_value_bytes paid_reply) true) ∷ []) misasked_past (record entry_in_time { kind = OfReversal } ∷ []) misasked-past
+    breaks-by (misasked_course ++ Make (SentTill 1 (reply_value_bytes paid_reply) true) ∷ []) misasked_past (record entry_in_time { kind = BookedReversal } ∷ []) misasked-past
     (record { caused = refl; linked = refl; ordered = refl; numbered = refl; true_ends = refl })
-    (λ agrees. last-refused success_agrees misasked_past (record entry_in_time { kind = OfReversal } ∷ []) misasked_sent [] (reply_value_tree paid_reply) refl success-framed misasked-booked agrees.success)
+    (λ agrees. last-refused success_agrees misasked_past (record entry_in_time { kind = BookedReversal } ∷ []) misasked_sent [] (reply_value_tree paid_reply) refl success-framed misasked-booked agrees.success)

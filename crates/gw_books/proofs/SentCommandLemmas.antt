@@ -7,7 +7,7 @@ use Rattle.zvt_msg.specs.declared.command.Command.{Command}
 use Rattle.zvt_msg.specs.declared.command.Command.TheVariants as command
 use Rattle.gw_owes.specs.Calls.{Sending, Ask, Acknowledge, Refuse, sending_bytes}
 use Rattle.gw_rules.proofs.StageLemmas.{no-true}
-use Rattle.gw_books.specs.Kinds.{BookedKind, OfPayment, OfReversal, kind_of_command, may_charge}
+use Rattle.gw_books.specs.Kinds.{BookedKind, BookedPayment, BookedReversal, kind_of_command, may_charge}
 use Rattle.gw_books.proofs.Holding.{charges, sending_charges}
 
 -- ---- kinds
@@ -15,8 +15,8 @@ use Rattle.gw_books.proofs.Holding.{charges, sending_charges}
 -- what a command asks for, where it may charge a card
 abbrev pub kind_asked : Command → Option BookedKind
 kind_asked (command.Register password config_byte currency) = None
-kind_asked (command.Authorise amount currency) = Some OfPayment
-kind_asked (command.Reverse password receipt) = Some OfReversal
+kind_asked (command.Authorise amount currency) = Some BookedPayment
+kind_asked (command.Reverse password receipt) = Some BookedReversal
 kind_asked (command.EndOfDay password) = None
 kind_asked (command.Enquire password) = None
 kind_asked command.Stop = None
@@ -60,7 +60,7 @@ sending-charges Refuse = refl
 -- ---- beginnings
 
 -- one byte is no beginning of two
-no-one : {A : Type 0} (one other : Bool) (kind : BookedKind) → (if one && false then Some OfPayment else (if other && false then Some OfReversal else None)) ≡ Some kind → A
+no-one : {A : Type 0} (one other : Bool) (kind : BookedKind) → (if one && false then Some BookedPayment else (if other && false then Some BookedReversal else None)) ≡ Some kind → A
 no-one true true kind e = absurd cc
 no-one true false kind e = absurd cc
 no-one false true kind e = absurd cc

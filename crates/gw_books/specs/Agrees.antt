@@ -18,7 +18,7 @@ use Rattle.gw_ledger.specs.Fold.{found_of, last_entry}
 use Rattle.gw_ledger.specs.Keys.{is_key, intent_key, same_key, slot_of}
 use Rattle.gw_ledger.specs.Slots.{intent_at, is_open}
 use Rattle.gw_owes.specs.Content.{has_same_content}
-use Rattle.gw_books.specs.Kinds.{OfPayment, OfReversal, is_kind}
+use Rattle.gw_books.specs.Kinds.{BookedPayment, BookedReversal, is_kind}
 use Rattle.gw_books.specs.Past.{Occasion, OfRequest, OfMessage, OfNothing, SentCommand, MadeLink, Ending, Approved, Declined, Reported, HeardEnd, SentReply, MadePoll, Past}
 use Rattle.gw_books.specs.Books.{BookedEntry}
 use Rattle.gw_books.specs.Said.{Said, all_said, IsFramed}
@@ -66,9 +66,9 @@ is_approved_entry past key entry = entry.approved && is_key key (entry_key past 
 abbrev pub names_entry : List Record → Key → List ℕ → BookedEntry → Bool
 names_entry kept key text entry = list_any (λ slot. bytes_eq text (transaction_text entry.number entry.receipt slot)) (option_to_list (slot_of kept key))
 
--- the entry is a reversal where it is said of one, and a payment where it is said of anything else
+-- the entry is of the kind that is said: a reversal's for the category `Reversal`, and a payment's for any other
 abbrev pub is_of_category : Said → BookedEntry → Bool
-is_of_category said entry = is_kind (if bytes_eq said.category (codes "Reversal") then OfReversal else OfPayment) entry.kind
+is_of_category said entry = is_kind (if bytes_eq said.category (codes "Reversal") then BookedReversal else BookedPayment) entry.kind
 
 -- the entry is the approved one of what is said, is of its category, is placed before the reply, and has the numbers and the amount that are said
 abbrev pub is_entry_said : Past → SentReply → Said → BookedEntry → Bool

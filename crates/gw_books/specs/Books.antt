@@ -69,9 +69,9 @@ is_ordered (entry ∷ book) = list_all (comes_before entry) book && is_ordered b
 abbrev pub was_booked : HeardEnd → BookedEntry → Bool
 was_booked end entry = bytes_eq end.numbering.poi entry.numbering.poi && nat_le entry.place end.place
 
--- and it is of the end's numbering
-abbrev pub was_numbered : HeardEnd → BookedEntry → Bool
-was_numbered end entry = is_numbering end.numbering entry.numbering && nat_le entry.place end.place
+-- an entry of the end's numbering was in the terminal's book at the hearing
+abbrev pub was_booked_in_numbering : HeardEnd → BookedEntry → Bool
+was_booked_in_numbering end entry = is_numbering end.numbering entry.numbering && nat_le entry.place end.place
 
 -- the entry is approved, with these figures
 abbrev pub has_figures : Figures → BookedEntry → Bool
@@ -81,9 +81,9 @@ has_figures figures entry = entry.approved && (entry.number == figures.number &&
 abbrev pub is_over : List BookedEntry → HeardEnd → ℕ → Bool
 is_over book end place = list_all (λ (entry : BookedEntry). not (is_caused_by place entry) || was_booked end entry) book
 
--- a trace number, but 0, is that of an entry at the hearing
+-- a trace number, but 0, is that of an entry of the end's numbering at the hearing
 abbrev pub is_entry_number : List BookedEntry → HeardEnd → ℕ → Bool
-is_entry_number book end trace = trace == 0 || list_any (λ (entry : BookedEntry). was_numbered end entry && entry.number == trace) book
+is_entry_number book end trace = trace == 0 || list_any (λ (entry : BookedEntry). was_booked_in_numbering end entry && entry.number == trace) book
 
 -- the last entry has this trace number, is approved where figures are reported, and has them; with 0 there is no entry
 abbrev pub is_last_entry : ℕ → Option Figures → Option BookedEntry → Bool
@@ -96,7 +96,7 @@ abbrev pub is_true : List BookedEntry → HeardEnd → Ending → Bool
 is_true book end (Approved place figures) = is_over book end place && list_any (λ (entry : BookedEntry). is_caused_by place entry && has_figures figures entry) book
 is_true book end (Declined place trace) =
     is_over book end place && (list_all (λ (entry : BookedEntry). not (is_caused_by place entry && entry.approved)) book && list_all (is_entry_number book end) (option_to_list trace))
-is_true book end (Reported trace figures) = is_last_entry trace figures (last_or None (filter (was_numbered end) book))
+is_true book end (Reported trace figures) = is_last_entry trace figures (last_or None (filter (was_booked_in_numbering end) book))
 
 -- ---- honest
 
@@ -106,7 +106,7 @@ pub record Honest (past : Past) (book : List BookedEntry) : Type 0 where
   pub caused : list_all (λ (entry : BookedEntry). is_caused past entry entry.cause) book ≡ true
   -- none comes after its link was replaced: a new link drops the command of the one before
   pub linked : list_all (is_of_its_link past) book ≡ true
-  -- places and trace numbers rise, and a command has one entry at most
+  -- a terminal's places don't fall, trace numbers rise within each numbering, and a command has one entry at most
   pub ordered : is_ordered book ≡ true
   -- trace numbers are from 1 to 999,999, and receipt numbers have at most four digits
   pub numbered : list_all (λ (entry : BookedEntry). nat_le 1 entry.number && (nat_le entry.number 999999 && nat_le entry.receipt 9999)) book ≡ true

@@ -40,7 +40,7 @@ use Rattle.gw_rules.specs.RowExample.{terminal_setup}
 use Rattle.gw_rules.specs.Scene.{known_in}
 use Rattle.gw_rules.specs.TerminalLogExample.{items_begin, enquired_course}
 use Rattle.gw_rules.specs.View.{Move, Begin, Read, Make, view_from, at_first}
-use Rattle.gw_books.specs.Kinds.{OfPayment}
+use Rattle.gw_books.specs.Kinds.{BookedPayment}
 use Rattle.gw_books.specs.Past.{Numbering, Occasion, OfRequest, OfMessage, OfNothing, Approved, Declined, Reported, SentCommand, MadeLink, SentReply, MadePoll, Past}
 use Rattle.gw_books.specs.Books.{BookedEntry, Honest}
 use Rattle.gw_books.specs.Agrees.{Agrees}
@@ -127,7 +127,7 @@ first_numbering = record { poi = codes "T1" }
 
 -- the command, at place 22
 abbrev pub payment_command : SentCommand
-payment_command = record { place = 22; numbering = first_numbering; kind = OfPayment; whole = true; key = Some payment_key }
+payment_command = record { place = 22; numbering = first_numbering; kind = BookedPayment; whole = true; key = Some payment_key }
 
 -- the till's request, for which the calls are made
 abbrev pub payment_occasion : Occasion
@@ -196,7 +196,7 @@ paid_past = record asked_past {
 
 -- its entry, which is in the book before the approval is heard
 abbrev pub paid_entry : BookedEntry
-paid_entry = record { numbering = first_numbering; place = 24; cause = Some 22; kind = OfPayment; number = 123; receipt = 17; amount = 1099; approved = true }
+paid_entry = record { numbering = first_numbering; place = 24; cause = Some 22; kind = BookedPayment; number = 123; receipt = 17; amount = 1099; approved = true }
 
 -- the same, just after the command
 abbrev pub entry_in_time : BookedEntry

@@ -34,8 +34,8 @@ use Rattle.gw_owes.specs.ReadAs.{ReadAs, Request, Silent, NoMessage, NoJson}
 use Rattle.gw_owes.specs.Waits.{waiting_with, queue_of, first_waiting}
 use Rattle.gw_rules.specs.Scene.{Scene}
 use Rattle.gw_rules.specs.Stage.{is_round}
-use Rattle.gw_books.specs.Kinds.{BookedKind, kind_of_command}
 use Rattle.gw_rules.specs.View.{View, Move, Begin, Read, Make, after, at_first}
+use Rattle.gw_books.specs.Kinds.{BookedKind, kind_of_command}
 
 -- ---- what is remembered
 
@@ -48,11 +48,11 @@ pub data Occasion : Type 0 where
   -- nothing that was said within the grammars
   OfNothing : Occasion
 
--- within what the trace numbers of a terminal rise
+-- trace numbers rise along the entries of one numbering; each POIID has one
 pub record Numbering : Type 0 where
   pub poi : List ℕ
 
--- both are the same
+-- both are the same numbering
 abbrev pub is_numbering : Numbering → Numbering → Bool
 is_numbering one other = bytes_eq one.poi other.poi
 

@@ -38,11 +38,11 @@ use Rattle.gw_rules.specs.RowExample.{terminal_setup}
 use Rattle.gw_rules.specs.Scene.{known_in}
 use Rattle.gw_rules.specs.TerminalLogExample.{items_begin}
 use Rattle.gw_rules.specs.View.{Move, Begin, Read, Make, view_from, at_first}
-use Rattle.gw_books.specs.Kinds.{OfReversal}
+use Rattle.gw_books.specs.Kinds.{BookedReversal}
 use Rattle.gw_books.specs.Past.{Occasion, OfRequest, OfMessage, Approved, SentCommand, SentReply, Past}
 use Rattle.gw_books.specs.Books.{BookedEntry}
 use Rattle.gw_books.specs.BrokenLaws.{BreaksAgreement}
-use Rattle.gw_books.specs.Example.{first_numbering, IsHonestAndAgrees, asked_course, entry_in_time, kept_approval, keeping_moves, opened_moves, paid_course, paid_entry, paid_past, paying_header, paying_intent, payment_read, payment_text, polled_linked, paid_reply}
+use Rattle.gw_books.specs.Example.{IsHonestAndAgrees, asked_course, entry_in_time, first_numbering, kept_approval, keeping_moves, opened_moves, paid_course, paid_entry, paid_past, paying_header, paying_intent, payment_read, payment_text, polled_linked, paid_reply}
 use Rattle.gw_books.specs.Headline.{HasPast}
 use Rattle.gw_books.specs.ReversalLaws.{IsBookedReversal, IsOfPaid, kept_after}
 use Rattle.gw_books.specs.RoundLaws.{ComesNext, EndsRound}
@@ -157,7 +157,7 @@ reversed_kept = paid_kept ++ Intent reversing_intent ∷ Outcome kept_reversal �
 
 -- the command, at place 38
 abbrev pub reversal_command : SentCommand
-reversal_command = record { place = 38; numbering = first_numbering; kind = OfReversal; whole = true; key = Some reversal_key }
+reversal_command = record { place = 38; numbering = first_numbering; kind = BookedReversal; whole = true; key = Some reversal_key }
 
 -- the reply, at place 47
 abbrev pub sent_reversal : SentReply
@@ -185,7 +185,7 @@ ReversedHasPast = HasPast (turns_of reversed_course) reversed_past
 
 -- its entry, which is in the book before the approval is heard
 abbrev pub reversed_entry : BookedEntry
-reversed_entry = record { numbering = first_numbering; place = 40; cause = Some 38; kind = OfReversal; number = 124; receipt = 18; amount = 1099; approved = true }
+reversed_entry = record { numbering = first_numbering; place = 40; cause = Some 38; kind = BookedReversal; number = 124; receipt = 18; amount = 1099; approved = true }
 
 -- the entries of both
 abbrev pub reversed_book : List BookedEntry
@@ -214,7 +214,7 @@ misasked_course = opened_moves ++ Make (Polled (pos 4)) ∷ Make (HeardTill 1 (f
 
 -- a success of the payment doesn't agree with the approved entry of that command, which is a reversal
 abbrev pub ReversalIsNoPayment : Type 0
-ReversalIsNoPayment = BreaksAgreement (misasked_course ++ Make (SentTill 1 (reply_value_bytes paid_reply) true) ∷ []) (record entry_in_time { kind = OfReversal } ∷ [])
+ReversalIsNoPayment = BreaksAgreement (misasked_course ++ Make (SentTill 1 (reply_value_bytes paid_reply) true) ∷ []) (record entry_in_time { kind = BookedReversal } ∷ [])
 
 -- ---- a stop
 

@@ -32,7 +32,7 @@ use Rattle.gw_rules.specs.Laws.{IsLeanCourse}
 use Rattle.gw_rules.specs.Lawful.{turns_of}
 use Rattle.gw_rules.specs.Scene.{known_in}
 use Rattle.gw_rules.specs.View.{View, Move, at_first, view_from}
-use Rattle.gw_books.specs.Kinds.{OfPayment, booked_kind_of}
+use Rattle.gw_books.specs.Kinds.{BookedPayment, booked_kind_of}
 use Rattle.gw_books.specs.Past.{Past, past_of}
 use Rattle.gw_books.specs.Books.{BookedEntry, Honest}
 use Rattle.gw_books.specs.Agrees.{entry_key}
@@ -97,7 +97,7 @@ pub record IsOfPaid (kept : List Record) (past : Past) (book : List BookedEntry)
   pub found : slice_get book at ≡ Some paid
   pub key_is : entry_key past paid ≡ Some (intent_key original.intent)
   pub approved : paid.approved ≡ true
-  pub is_payment : paid.kind ≡ OfPayment
+  pub is_payment : paid.kind ≡ BookedPayment
   pub whole : paid.amount ≡ reversal.intent.amount
 
 -- so is each that was accepted

@@ -21,13 +21,13 @@ use Rattle.gw_rules.specs.Scene.{Scene}
 use Rattle.gw_rules.specs.Stage.{is_round}
 use Rattle.gw_rules.specs.View.{View, Move, Begin, Read, Make}
 use Rattle.gw_books.proofs.AgreeLemmas.{same-kind}
-use Rattle.gw_books.specs.Kinds.{BookedKind, OfReversal, is_kind, kind_of_command}
+use Rattle.gw_books.specs.Kinds.{BookedKind, BookedReversal, is_kind, kind_of_command}
 use Rattle.gw_books.specs.Past.{SentCommand, MadeLink, Ending, Approved, Declined, Reported, HeardEnd, Past, past_after, poi_of_number, with_turn, Numbering, is_numbering, numbering_of_number, with_sent_bytes}
 use Rattle.gw_books.specs.Books.{BookedEntry, comes_before, has_figures, have_one_cause, is_cause, is_caused, is_caused_by, is_entry_number, is_last_entry, is_of_its_link, is_ordered, is_over, is_true, leaves_entry, was_booked}
 use Rattle.gw_books.proofs.Holding.{AreFalling}
 use Rattle.gw_books.proofs.KeyedLemmas.{sent-below}
 use Rattle.gw_books.proofs.ListLemmas.{In, all-in, all-from, any-in, any-from, bytes-itself, in-either, in-first, in-second}
-use Rattle.gw_played.specs.Played.{PlacedExchange, exchanges_in, exchanges_after, booked_by, placed_entry, book_along, done_by, kind_booked}
+use Rattle.gw_played.specs.Played.{PlacedExchange, exchanges_in, exchanges_after, booked_by, placed_entry, book_along, done_by, kind_played}
 use Rattle.gw_played.proofs.Playing.{is_numbered, HasCommand, IsHonestFor, IsOfCommand, PeerLaws, WasLinked, met_in}
 
 -- ---- what is known of a past
@@ -305,7 +305,7 @@ one-more past poi book entry next honest = record {
 
 -- an entry without its place
 abbrev pub plain_entry : BookedEntry → BookEntry
-plain_entry entry = record { number = entry.number; receipt = entry.receipt; amount = entry.amount; reversal = is_kind OfReversal entry.kind; approved = entry.approved }
+plain_entry entry = record { number = entry.number; receipt = entry.receipt; amount = entry.amount; reversal = is_kind BookedReversal entry.kind; approved = entry.approved }
 
 pub in-map : {A B : Type 0} (f : A → B) (list : List A) (x : A) → In x list → In (f x) (map f list)
 in-map f [] x within = absurd within
@@ -315,7 +315,7 @@ in-map f (y ∷ list) x (inr within) = inr (in-map f list x within)
 plain-one : (poi : List ℕ) (place : ℕ) (entry : BookEntry) → plain_entry (placed_entry poi place entry) ≡ entry
 plain-one poi place entry = ap (λ (reversal : Bool). record { number = entry.number; receipt = entry.receipt; amount = entry.amount; reversal = reversal; approved = entry.approved }) (by-kind entry.reversal)
   where
-    by-kind : (reversal : Bool) → is_kind OfReversal (kind_booked reversal) ≡ reversal
+    by-kind : (reversal : Bool) → is_kind BookedReversal (kind_played reversal) ≡ reversal
     by-kind true = refl
     by-kind false = refl
 
@@ -398,7 +398,7 @@ book-still setting poi one exchanges none =
 -- for a command a terminal books nothing, or one entry of its kind, where the command is whole
 abbrev pub BooksOne : SentCommand → List BookEntry → Type 0
 BooksOne command [] = Unit {0}
-BooksOne command (entry ∷ []) = (command.whole ≡ true) × (command.kind ≡ kind_booked entry.reversal)
+BooksOne command (entry ∷ []) = (command.whole ≡ true) × (command.kind ≡ kind_played entry.reversal)
 BooksOne command (entry ∷ other ∷ entries) = ⊥
 
 -- the sending of a command at the past's place
@@ -415,7 +415,7 @@ record Sending (past later : Past) (poi : List ℕ) (command : SentCommand) : Ty
   ends_are : later.ends ≡ past.ends
 
 -- the entry that is booked for it comes next
-next-entry : (past later : Past) (poi : List ℕ) (command : SentCommand) (book : List BookedEntry) (entry : BookEntry) → Sending past later poi command → (command.whole ≡ true) × (command.kind ≡ kind_booked entry.reversal)
+next-entry : (past later : Past) (poi : List ℕ) (command : SentCommand) (book : List BookedEntry) (entry : BookEntry) → Sending past later poi command → (command.whole ≡ true) × (command.kind ≡ kind_played entry.reversal)
     → ((one : BookedEntry) → In one book → one.number < entry.number) → (1 ≤ entry.number) × (entry.number ≤ 999999) × (entry.receipt ≤ 9999) → IsHonestFor past poi book → IsNext later poi book (placed_entry poi past.place entry)
 next-entry past later poi command book entry sending kind below within honest = record {
   commanded = record {
@@ -446,10 +446,10 @@ next-entry past later poi command book entry sending kind below within honest = 
 
     is-own : is_cause new past.place command ≡ true
     is-own =
-        and_from (command.place == past.place) (command.whole && (bytes_eq command.numbering.poi poi && is_kind command.kind (kind_booked entry.reversal))) (eq-eqb command.place past.place sending.command_place)
-        (and_from command.whole (bytes_eq command.numbering.poi poi && is_kind command.kind (kind_booked entry.reversal)) kind.0
-        (and_from (bytes_eq command.numbering.poi poi) (is_kind command.kind (kind_booked entry.reversal)) (ap (λ (p : List ℕ). bytes_eq p poi) sending.command_poi ∙ bytes-itself poi)
-        (same-kind command.kind (kind_booked entry.reversal) kind.1)))
+        and_from (command.place == past.place) (command.whole && (bytes_eq command.numbering.poi poi && is_kind command.kind (kind_played entry.reversal))) (eq-eqb command.place past.place sending.command_place)
+        (and_from command.whole (bytes_eq command.numbering.poi poi && is_kind command.kind (kind_played entry.reversal)) kind.0
+        (and_from (bytes_eq command.numbering.poi poi) (is_kind command.kind (kind_played entry.reversal)) (ap (λ (p : List ℕ). bytes_eq p poi) sending.command_poi ∙ bytes-itself poi)
+        (same-kind command.kind (kind_played entry.reversal) kind.1)))
 
     leaves : (link : MadeLink) → In link past.links → leaves_entry new past.place link ≡ true
     leaves link inside =
@@ -535,7 +535,7 @@ honest-command laws setting poi past later exchanges bytes command falling heard
         ap (λ (list : List BookEntry). list ++ entry ∷ []) (book-plain laws setting poi exchanges) ∙ ap (λ (list : List BookEntry). book_after setting (met_in exchanges) ++ list) (sym is)
         ∙ sym (book-grows laws setting (exchanges_in exchanges) bytes)
 
-    one : (entry : BookEntry) → booked_by setting (exchanges_in exchanges) (Sends bytes) ≡ entry ∷ [] → (command.whole ≡ true) × (command.kind ≡ kind_booked entry.reversal) → IsHonestFor later poi (book ++ placed_entry poi past.place entry ∷ [])
+    one : (entry : BookEntry) → booked_by setting (exchanges_in exchanges) (Sends bytes) ≡ entry ∷ [] → (command.whole ≡ true) × (command.kind ≡ kind_played entry.reversal) → IsHonestFor later poi (book ++ placed_entry poi past.place entry ∷ [])
     one entry is kind =
         let after = book_after setting (Chunk bytes ∷ met_in exchanges) in
         let numbered = all_numbered setting (all_handled setting (Chunk bytes ∷ met_in exchanges)) in

@@ -48,7 +48,7 @@ use Rattle.gw_rules.proofs.RecordOrderLemmas.{Ordered, configured}
 use Rattle.gw_rules.proofs.SetupLemmas.{HasSetup}
 use Rattle.gw_rules.proofs.StageLemmas.{no-true}
 use Rattle.gw_rules.proofs.TranscriptLogLemmas.{there-image, not-number}
-use Rattle.gw_books.specs.Kinds.{may_charge, BookedKind, OfPayment, OfReversal, kind_of_command}
+use Rattle.gw_books.specs.Kinds.{may_charge, BookedKind, BookedPayment, BookedReversal, kind_of_command}
 use Rattle.gw_books.specs.Books.{BookedEntry}
 use Rattle.gw_books.specs.Past.{Occasion, SentCommand, Ending, Approved, Declined, Reported, Past, poi_of_number, open_key, Numbering, numbering_of_number, with_sent_bytes}
 use Rattle.gw_books.proofs.Holding.{AreFalling, charges, sending_charges, charge_owed, is_handle}
@@ -56,7 +56,7 @@ use Rattle.gw_books.proofs.KeyedLemmas.{sent-below}
 use Rattle.gw_books.proofs.LastCallLemmas.{IsLast, is-last, last-cuts, past_then}
 use Rattle.gw_books.proofs.ListLemmas.{In, bytes-are, bytes-itself, in-either, in-second}
 use Rattle.gw_books.proofs.SentCommandLemmas.{charging, charged}
-use Rattle.gw_played.specs.Played.{PlacedExchange, exchanges_in, booked_by, placed_entry, book_along, where_poi, kind_booked}
+use Rattle.gw_played.specs.Played.{PlacedExchange, exchanges_in, booked_by, placed_entry, book_along, where_poi, kind_played}
 use Rattle.gw_played.proofs.HonestGrowLemmas.{honest-place, honest-other, honest-command, BooksOne}
 use Rattle.gw_played.proofs.PeerSendLemmas.{IsOneApdu, ChangesNothing, acknowledgement-is-one, acknowledgement-silent, asked-books, begins-transacting, begins-talking, book-stays, booked-none, command-is-one, command-spelled, one-decoded, part-books-none, part-of-one, peer-still, peer-waits, refusal-is-one, refusal-silent, sends, silent-changes-nothing, stop-is-one, stop-silent, IsSilentAt, acknowledgement, refusal}
 use Rattle.gw_played.proofs.Playing.{met_in, WaitsForNone, IsQuiet, IsTalking, IsLastServed, IsTransacting, IsPeerIn, BeginsStanding, begins_dialogue, ask_owed, link_owed, IsToBeAsked, IsPeer, HasCommand, IsHonestFor, IsOfCommand, Plays, PeerLaws, PlaysTurn}
@@ -185,8 +185,8 @@ no-entry book (entry ∷ other ∷ more) asked plain books = absurd books
 one-entry : (book entries : List BookEntry) (asked : Command) (sent : SentCommand) → charges asked ≡ true → sent.whole ≡ true → Some sent.kind ≡ kind_of_command (canonical_command asked) → Books book (Some asked) entries → BooksOne sent entries
 one-entry book [] asked sent charge whole kind books = tt
 one-entry book (entry ∷ []) (command.Register password config_byte currency) sent charge whole kind books = no-true charge
-one-entry book (entry ∷ []) (command.Authorise amount currency) sent charge whole kind books = (whole, same-some sent.kind OfPayment kind ∙ ap kind_booked (sym (books.0).0))
-one-entry book (entry ∷ []) (command.Reverse password receipt) sent charge whole kind books = (whole, same-some sent.kind OfReversal kind ∙ ap kind_booked (sym (books.0).0))
+one-entry book (entry ∷ []) (command.Authorise amount currency) sent charge whole kind books = (whole, same-some sent.kind BookedPayment kind ∙ ap kind_played (sym (books.0).0))
+one-entry book (entry ∷ []) (command.Reverse password receipt) sent charge whole kind books = (whole, same-some sent.kind BookedReversal kind ∙ ap kind_played (sym (books.0).0))
 one-entry book (entry ∷ []) (command.EndOfDay password) sent charge whole kind books = no-true charge
 one-entry book (entry ∷ []) (command.Enquire password) sent charge whole kind books = no-true charge
 one-entry book (entry ∷ []) command.Stop sent charge whole kind books = no-true charge

@@ -19,9 +19,9 @@ use Rattle.gw_rules.specs.Lawful.{turns_of}
 use Rattle.gw_rules.specs.RowExample.{terminal_setup, register_bytes}
 use Rattle.gw_rules.specs.TerminalLogExample.{items_begin}
 use Rattle.gw_rules.specs.View.{Move, Begin, Make}
-use Rattle.gw_books.specs.Kinds.{OfPayment}
+use Rattle.gw_books.specs.Kinds.{BookedPayment}
 use Rattle.gw_books.specs.Books.{BookedEntry}
-use Rattle.gw_books.specs.Example.{paying_header, paying_intent, keeping_moves, asked_course, refused_course, first_numbering}
+use Rattle.gw_books.specs.Example.{paying_header, paying_intent, keeping_moves, asked_course, first_numbering, refused_course}
 use Rattle.gw_books.specs.Past.{past_of}
 use Rattle.gw_played.specs.Played.{played_book, ArePlayed, HaveAllLinked}
 
@@ -38,7 +38,7 @@ plays_first first = record { none = 0x64; plays = first ∷ [] }
 
 -- its first entry, which it books as it hears the command, at place 22
 abbrev pub first_entry : BookedEntry
-first_entry = record { numbering = first_numbering; place = 23; cause = Some 22; kind = OfPayment; number = 1; receipt = 1; amount = 1099; approved = true }
+first_entry = record { numbering = first_numbering; place = 23; cause = Some 22; kind = BookedPayment; number = 1; receipt = 1; amount = 1099; approved = true }
 
 -- ---- a payment that is approved
 

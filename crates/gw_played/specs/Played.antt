@@ -1,5 +1,5 @@
 -- The books of played terminals: what each of them books along a course, with its places.
-use Rattle.std.specs.Prelude.{◌≡◌, ℕ, ◌+◌, true, false, bytes_eq, if◌then◌else◌, List, [], ◌∷◌, ◌++◌, map, length, drop, slice_get, Some, Bool}
+use Rattle.std.specs.Prelude.{◌≡◌, ℕ, ◌+◌, Bool, true, false, bytes_eq, if◌then◌else◌, List, [], ◌∷◌, ◌++◌, map, length, drop, slice_get, Some}
 use Rattle.std.specs.List.{flat_map, list_any}
 use Rattle.gw_site.specs.declared.turn.Turn.{Turn}
 use Rattle.gw_site.specs.declared.turn.Turn.TheVariants.{Start, OpenFailed, Polled, Opened, HeardTill, Closed, HeardPt, Lost, Stopped, Linked, LinkFailed, SentTill, SentPt, CutTill, CutPt, Wrote, Synced, DiskFailed, Crash}
@@ -9,10 +9,10 @@ use Rattle.pt_core.specs.History.{Setting, Chunk, book_after}
 use Rattle.gw_rules.specs.Laws.{IsLeanCourse}
 use Rattle.gw_rules.specs.Scene.{Scene}
 use Rattle.gw_rules.specs.View.{View, Move, Begin, Read, Make, after, at_first}
-use Rattle.gw_books.specs.Kinds.{BookedKind, OfPayment, OfReversal}
+use Rattle.gw_books.specs.Kinds.{BookedKind, BookedPayment, BookedReversal}
 use Rattle.gw_books.specs.Agrees.{Agrees}
 use Rattle.gw_books.specs.Books.{BookedEntry, Honest}
-use Rattle.gw_books.specs.Past.{MadeLink, Past, past_of, poi_of_number, Numbering}
+use Rattle.gw_books.specs.Past.{Numbering, MadeLink, Past, past_of, poi_of_number}
 
 -- ---- the connection of a terminal
 
@@ -85,9 +85,9 @@ abbrev pub played_numbering : List ℕ → Numbering
 played_numbering poi = record { poi = poi }
 
 -- the kind of what it books
-abbrev pub kind_booked : Bool → BookedKind
-kind_booked true = OfReversal
-kind_booked false = OfPayment
+abbrev pub kind_played : Bool → BookedKind
+kind_played true = BookedReversal
+kind_played false = BookedPayment
 
 -- an entry of the terminal with this POIID that the send at this place has caused: it is older than the next turn
 abbrev pub placed_entry : List ℕ → ℕ → BookEntry → BookedEntry
@@ -95,7 +95,7 @@ placed_entry poi place entry = record {
   numbering = played_numbering poi;
   place = place + 1;
   cause = Some place;
-  kind = kind_booked entry.reversal;
+  kind = kind_played entry.reversal;
   number = entry.number;
   receipt = entry.receipt;
   amount = entry.amount;

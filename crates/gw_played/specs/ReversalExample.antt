@@ -17,7 +17,7 @@ use Rattle.gw_owes.specs.Replies.{header_of_reply}
 use Rattle.gw_owes.specs.TerminalExample.{ack, abort}
 use Rattle.gw_rules.specs.TerminalLogExample.{items_begin}
 use Rattle.gw_rules.specs.View.{Move, Begin, Read, Make}
-use Rattle.gw_books.specs.Kinds.{OfReversal}
+use Rattle.gw_books.specs.Kinds.{BookedReversal}
 use Rattle.gw_books.specs.Books.{BookedEntry}
 use Rattle.gw_books.specs.Example.{asked_course, keeping_moves, first_numbering}
 use Rattle.gw_books.specs.ReversalExample.{abort_asked_course, abort_read, abort_text, reversing_header, reversing_intent, stop, stopping_moves}
@@ -47,7 +47,7 @@ reverse_first = 0x06 ∷ 0x30 ∷ 0x06 ∷ 0x12 ∷ 0x34 ∷ 0x56 ∷ 0x87 ∷ 0
 
 -- the entry of the reversal, which the terminal books as it hears the command, at place 38
 abbrev pub second_entry : BookedEntry
-second_entry = record { numbering = first_numbering; place = 39; cause = Some 38; kind = OfReversal; number = 2; receipt = 2; amount = 1099; approved = true }
+second_entry = record { numbering = first_numbering; place = 39; cause = Some 38; kind = BookedReversal; number = 2; receipt = 2; amount = 1099; approved = true }
 
 -- what the terminal sends for it after its acknowledgement: the status of that entry, and a completion
 abbrev pub reversal_approval : List ℕ
