@@ -1,16 +1,14 @@
 -- The courses of the examples are lawful, and lean.
-use Rattle.std.proofs.Common.{◌≡◌, true, List, [], ◌∷◌, ◌++◌, refl, sym}
+use Rattle.std.proofs.Common.{[], ◌∷◌, ◌++◌, refl, sym}
 use Rattle.std.specs.Prelude.{pos}
 use Rattle.gw_site.specs.declared.turn.Turn.TheVariants.{Polled}
 use Rattle.zvt_apdu.specs.DecodeStream.{decode_apdus, decode_apdus_within}
 use Rattle.zvt_msg.specs.MessageDecode.{decode_pt_message}
 use Rattle.gw_ledger.specs.History.{history}
-use Rattle.gw_rules.specs.Lawful.{IsCourse, turns_of}
-use Rattle.gw_rules.specs.Laws.{IsLeanCourse}
-use Rattle.gw_rules.specs.View.{Move, Make, view_from, at_first}
-use Rattle.gw_rules.proofs.CourseLemmas.{course-append}
-use Rattle.gw_books.specs.Example.{payment_text, asked_course, paid_moves, paid_course, refused_moves, refused_course}
-use Rattle.gw_books.proofs.CourseLemmas.{asked-lawful, declining-lawful, is_lean, lean-tested, paying-lawful, payment-chunk}
+use Rattle.gw_rules.specs.Lawful.{IsCourse}
+use Rattle.gw_rules.specs.View.{Make, view_from, at_first}
+use Rattle.gw_books.specs.Example.{payment_text, asked_course, paid_moves, paid_course, refused_course}
+use Rattle.gw_books.proofs.CourseLemmas.{lean-course, paying-lawful, payment-chunk, refused-lean}
 use Rattle.gw_books.proofs.ExampleLemmas.{refused-past}
 use Rattle.gw_books.proofs.PaymentTextLemmas.{payment-reads}
 use Rattle.book_examples.specs.Example.{progress_reply, lost_moves, lost_course, PaidHasPast, RefusedHasPast, LostHasPast}
@@ -20,15 +18,11 @@ losing-lawful : IsCourse (view_from at_first asked_course) (lost_moves ++ Make (
 unfolding decode_apdus decode_apdus_within decode_pt_message history payment_text
 losing-lawful = (record { running = refl; calls = refl; items = refl }, (record { polled = refl; connected_is = refl }, (record { idle = record { round = refl; calls = refl }; first = refl }, (record { idle = record { round = refl; calls = refl }; first = refl }, (record { idle = record { round = refl; calls = refl }; first = refl }, (record { running = refl; calls = refl; items = refl }, ((record { polled = refl; connected_is = refl }, payment-chunk), (record { idle = record { round = refl; calls = refl }; waits = refl; bytes = payment_text; message = refl; reads = payment-reads }, (record { idle = record { round = refl; calls = refl }; first = refl }, ((progress_reply, refl, refl), (record { idle = record { round = refl; calls = refl }; first = refl }, (record { idle = record { round = refl; calls = refl }; first = refl }, (record { running = refl; calls = refl; items = refl }, tt)))))))))))))
 
--- a course that goes on once the terminal was asked
-lean-course : (moves : List Move) → IsCourse (view_from at_first asked_course) moves → is_lean (asked_course ++ moves) ≡ true → IsLeanCourse (turns_of (asked_course ++ moves)) (asked_course ++ moves)
-lean-course moves lawful e = record { turns_are = refl; lawful = course-append at_first asked_course moves asked-lawful lawful; lean = lean-tested (asked_course ++ moves) e }
-
 pub paid-has-past : PaidHasPast
 paid-has-past = record { moves = paid_course; lean = lean-course (paid_moves ++ Make (Polled (pos 6)) ∷ []) paying-lawful refl; past_is = sym paid-past }
 
 pub refused-has-past : RefusedHasPast
-refused-has-past = record { moves = refused_course; lean = lean-course (refused_moves ++ Make (Polled (pos 6)) ∷ []) declining-lawful refl; past_is = sym refused-past }
+refused-has-past = record { moves = refused_course; lean = refused-lean; past_is = sym refused-past }
 
 pub lost-has-past : LostHasPast
 lost-has-past = record { moves = lost_course; lean = lean-course (lost_moves ++ Make (Polled (pos 7)) ∷ []) losing-lawful refl; past_is = sym lost-past }

@@ -12,7 +12,8 @@ use Rattle.jrn_record.specs.declared.records.Record.TheVariants.{Intent, Outcome
 use Rattle.gw_ledger.specs.History.{history}
 use Rattle.gw_owes.specs.Calls.{Ask, Acknowledge, WriteBody, WriteGate}
 use Rattle.gw_owes.specs.TerminalExample.{ack, completion, abort, approved_status}
-use Rattle.gw_rules.specs.Lawful.{IsCourse, IsChunk}
+use Rattle.gw_rules.specs.Lawful.{IsCourse, IsChunk, turns_of}
+use Rattle.gw_rules.specs.Laws.{IsLeanCourse}
 use Rattle.gw_rules.specs.Lean.{goes_on, IsLean}
 use Rattle.gw_rules.specs.RowExample.{terminal_setup}
 use Rattle.gw_rules.specs.TerminalLogExample.{items_begin}
@@ -21,7 +22,7 @@ use Rattle.gw_rules.proofs.CourseLemmas.{course-append}
 use Rattle.gw_rules.proofs.RowExampleLemmas.{formed}
 use Rattle.gw_rules.proofs.TestedLemmas.{passes_course, course-tested}
 use Rattle.gw_rules.proofs.TextLemmas.{bytes-tested}
-use Rattle.gw_books.specs.Example.{payment_text, paying_intent, ready_moves, opened_moves, asked_moves, asked_course, kept_approval, paid_reply, paid_moves, kept_decline, refusal_reply, refused_moves}
+use Rattle.gw_books.specs.Example.{payment_text, paying_intent, ready_moves, opened_moves, asked_moves, asked_course, kept_approval, paid_reply, paid_moves, kept_decline, refusal_reply, refused_moves, refused_course}
 use Rattle.gw_books.proofs.PaymentTextLemmas.{payment-reads}
 
 -- ---- lean
@@ -87,3 +88,10 @@ opened-lawful = course-append at_first ready_moves (Make (Polled (pos 3)) ∷ Ma
 
 pub asked-lawful : IsCourse at_first asked_course
 asked-lawful = course-append at_first opened_moves asked_moves opened-lawful asking-lawful
+
+-- a course that goes on once the terminal was asked
+pub lean-course : (moves : List Move) → IsCourse (view_from at_first asked_course) moves → is_lean (asked_course ++ moves) ≡ true → IsLeanCourse (turns_of (asked_course ++ moves)) (asked_course ++ moves)
+lean-course moves lawful e = record { turns_are = refl; lawful = course-append at_first asked_course moves asked-lawful lawful; lean = lean-tested (asked_course ++ moves) e }
+
+pub refused-lean : IsLeanCourse (turns_of refused_course) refused_course
+refused-lean = lean-course (refused_moves ++ Make (Polled (pos 6)) ∷ []) declining-lawful refl

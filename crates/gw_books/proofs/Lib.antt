@@ -54,4 +54,5 @@ pub mod TurnHoldsLemmas
 pub mod TurnNumberLemmas
 pub mod WaitingLemmas
 pub mod WaitingRowLemmas
+pub mod WindowExampleLemmas
 pub mod WindowLemmas

@@ -18,13 +18,11 @@ use Rattle.gw_rules.specs.Scene.{records_of}
 use Rattle.gw_rules.specs.View.{at_first, view_from}
 use Rattle.gw_rules.proofs.RecordRowLemmas.{OrderLaws}
 use Rattle.gw_books.specs.Kinds.{booked_kind_of}
-use Rattle.gw_books.specs.Past.{Past, past_of, Numbering, is_numbering, numbering_of}
+use Rattle.gw_books.specs.Past.{Numbering, is_numbering, numbering_of, Past, past_of}
 use Rattle.gw_books.specs.Books.{BookedEntry, Honest, comes_before, is_caused, is_ordered}
 use Rattle.gw_books.specs.Agrees.{entry_key, key_at_place}
-use Rattle.gw_books.specs.Example.{kept_decline, paying_intent}
-use Rattle.gw_books.specs.ReversalExample.{reversed_book, reversed_course, reversed_past}
 use Rattle.gw_books.specs.ReversalLaws.{kept_after}
-use Rattle.gw_books.specs.WindowLaws.{ComingDoesNotMatch, HonestMatches, ReversedMatches, coming_entry}
+use Rattle.gw_books.specs.WindowLaws.{HonestMatches, MatchesByKey}
 use Rattle.gw_books.specs.Windows.{HasItsEntry, IsApprovedInWindow, IsNextIntent, Matches, is_caused_before}
 use Rattle.gw_books.proofs.AgreeLemmas.{booked-apart, caused-numbering, entry-kind, same-kind}
 use Rattle.gw_books.proofs.BookLemmas.{after-cause, earlier-lower, numbered-within, numbering-are, numbering-itself, of-log, one-poi, precedes}
@@ -34,7 +32,6 @@ use Rattle.gw_books.proofs.KeyedLemmas.{key-sent, sent-same}
 use Rattle.gw_books.proofs.ListLemmas.{In, all-in}
 use Rattle.gw_books.proofs.Numbering.{AreIntentsNumbered, HasEntryBeforeAll, IsEntryFrom, IsForKey, IsOfSent}
 use Rattle.gw_books.proofs.RecordMoreLemmas.{outcomes-of-first, own-slot}
-use Rattle.gw_books.proofs.ReversalExampleLemmas.{reversed-honest, reversed-lean, reversed-past}
 use Rattle.gw_books.proofs.ReversedOnceLemmas.{apart-one}
 use Rattle.gw_books.proofs.TillLemmas.{at-in, in-at}
 
@@ -225,8 +222,8 @@ module _ (laws : LedgerLaws) (records : List Record) (folded : AreFolded records
       let clash : true ≡ false = sym is.approved ∙ none own.command own.sent own.key_is entry within own.caused in
       cc
 
-  matches : Matches records book
-  matches = record {
+  all-match : Matches records book
+  all-match = record {
     folded = folded;
     rises = rises-along book honest.ordered;
     once = once-in-window;
@@ -235,11 +232,14 @@ module _ (laws : LedgerLaws) (records : List Record) (folded : AreFolded records
         none-in-window outcome intent there (subst (λ (b : Bool). BearsOut b past.commands book past.place (intent_key intent) outcome) is (outcomes at outcome intent found there)) entry (at-in book to entry also) inside;
   }
 
+  match-by-key : MatchesByKey past records book
+  match-by-key = record { matches = all-match; owned = λ slot intent at entry there found inside. key-of slot intent there entry (at-in book at entry found) inside }
+
 -- ---- along a lawful log
 
 pub honest-matches : OrderLaws → LedgerLaws → HonestMatches
 honest-matches orders laws log moves book lean honest ends =
-    matches laws (kept_after moves) (lean-folds orders log moves lean) past book honest both.holds.commands both.numbers.kept.intents outcomes (λ entry within. of-log past book honest entry within (early entry within))
+    match-by-key laws (kept_after moves) (lean-folds orders log moves lean) past book honest both.holds.commands both.numbers.kept.intents outcomes (λ entry within. of-log past book honest entry within (early entry within))
   where
     past : Past
     past = past_of moves
@@ -257,31 +257,3 @@ honest-matches orders laws log moves book lean honest ends =
     early entry within place is =
         let all = subst (λ (cause : Option ℕ). list_all (λ (one : ℕ). nat_lt one past.place) (option_to_list cause) ≡ true) is (all-in (is_caused_before past.place) book ends entry within) in
         ltb-true place past.place (and_parts (nat_lt place past.place) true all).0
-
--- ---- examples
-
-pub reversed-matches : OrderLaws → LedgerLaws → ReversedMatches
-reversed-matches orders laws = record { ends = refl; matches = honest-matches orders laws (turns_of reversed_course) reversed_course reversed_book reversed-lean honest ends }
-  where
-    past_is : reversed_past ≡ past_of reversed_course
-    past_is = sym reversed-past
-
-    honest : Honest (past_of reversed_course) reversed_book
-    honest = subst (λ (past : Past). Honest past reversed_book) past_is reversed-honest
-
-    ends : list_all (is_caused_before (past_of reversed_course).place) reversed_book ≡ true
-    ends = subst (λ (past : Past). list_all (is_caused_before past.place) reversed_book ≡ true) past_is refl
-
-coming-in-window : IsApprovedInWindow (Intent paying_intent ∷ Outcome kept_decline ∷ []) 0 paying_intent coming_entry
-coming-in-window = record { numbering_is = refl; approved = refl; inside = record { above = omega arith; within = none } }
-  where
-    none : (next : ℕ) (other : TheIntent) → IsNextIntent (Intent paying_intent ∷ Outcome kept_decline ∷ []) 0 (numbering_of paying_intent) next other → 124 ≤ other.before
-    none zero other is = let follows = is.later in absurd (omega (arith, follows))
-    none (suc zero) other is = let clash : None ≡ Some other = is.intent_is in absurd cc
-    none (suc (suc next)) other is = let clash : None ≡ Some other = is.intent_is in absurd cc
-
-pub coming-does-not-match : ComingDoesNotMatch
-coming-does-not-match = record {
-  honest = record { caused = refl; linked = refl; ordered = refl; numbered = refl; true_ends = refl };
-  apart = λ matches. matches.declined 1 kept_decline paying_intent refl refl refl 0 coming_entry refl coming-in-window;
-}

@@ -16,5 +16,6 @@ pub mod RoundLaws
 pub mod Said
 pub mod SaidLaws
 pub mod TillLaws
+pub mod WindowExample
 pub mod WindowLaws
 pub mod Windows

@@ -1,4 +1,4 @@
--- The records of a journal beside the books of its terminals: each Intent has a window of trace numbers, in which an approved entry of its terminal is its own.
+-- The records of a journal beside the books of its terminals: each Intent has a window of trace numbers, and in an honest book an approved entry in it has the Intent's key.
 use Rattle.std.specs.Prelude.{◌≡◌, ◌<◌, ◌≤◌, ℕ, Bool, true, false, nat_lt, List, slice_get, Some}
 use Rattle.std.specs.List.{list_all}
 use Rattle.std.specs.Option.{option_to_list}
@@ -43,22 +43,22 @@ pub record HasItsEntry (records : List Record) (book : List BookedEntry) (intent
   pub receipt : entry.receipt ≡ outcome.receipt
   pub amount : entry.amount ≡ outcome.amount
 
--- the records and the book match
+-- the records and the book match; no place and no cause of an entry is read
 pub record Matches (records : List Record) (book : List BookedEntry) : Type 0 where
-  -- the records may come each after those before it
+  -- each record is within its limits, and may come after those before it
   pub folded : AreFolded records
-  -- the trace numbers of a numbering's entries rise
-  pub rises : (at to : ℕ) (one other : BookedEntry) → at < to → slice_get book at ≡ Some one → slice_get book to ≡ Some other → one.numbering ≡ other.numbering → one.number < other.number
+  -- trace numbers rise along the entries of one numbering
+  pub rises : (first second : ℕ) (one other : BookedEntry) → first < second → slice_get book first ≡ Some one → slice_get book second ≡ Some other → one.numbering ≡ other.numbering → one.number < other.number
   -- each window has at most one approved entry
-  pub once : (slot : ℕ) (intent : TheIntent) (at to : ℕ) (one other : BookedEntry) → intent_at records slot ≡ Some intent → slice_get book at ≡ Some one → slice_get book to ≡ Some other
-      → IsApprovedInWindow records slot intent one → IsApprovedInWindow records slot intent other → at ≡ to
+  pub once : (slot : ℕ) (intent : TheIntent) (first second : ℕ) (one other : BookedEntry) → intent_at records slot ≡ Some intent → slice_get book first ≡ Some one → slice_get book second ≡ Some other
+      → IsApprovedInWindow records slot intent one → IsApprovedInWindow records slot intent other → first ≡ second
   -- that of an approved key has its entry
   pub approved : (at : ℕ) (outcome : TheOutcome) (intent : TheIntent) → slice_get records at ≡ Some (Outcome outcome) → intent_at records outcome.slot ≡ Some intent → outcome.approved ≡ true → HasItsEntry records book intent outcome
   -- that of a declined key has none
   pub declined : (at : ℕ) (outcome : TheOutcome) (intent : TheIntent) → slice_get records at ≡ Some (Outcome outcome) → intent_at records outcome.slot ≡ Some intent → outcome.approved ≡ false
-      → (to : ℕ) (entry : BookedEntry) → slice_get book to ≡ Some entry → IsApprovedInWindow records outcome.slot intent entry → ⊥
+      → (booked : ℕ) (entry : BookedEntry) → slice_get book booked ≡ Some entry → IsApprovedInWindow records outcome.slot intent entry → ⊥
 
--- ---- a book that ends with the log
+-- ---- entries whose command is in the log
 
 -- the entry has no command, or one before this place
 abbrev pub is_caused_before : ℕ → BookedEntry → Bool

@@ -13,7 +13,8 @@ ghost use Rattle.gw_books.specs.ReversalLaws.{EntryIsAsAsked, OnlyPaidIsReversed
 ghost use Rattle.gw_books.specs.RoundLaws.{ApprovalIsSaid, DeclineIsSaid, OwedIsDone, PaymentIsAsked};
 ghost use Rattle.gw_books.specs.SaidLaws.{EachReplyIsFramed, EachReplySays, EachSentIsFramed, OneMessageIsFramed};
 ghost use Rattle.gw_books.specs.TillLaws.{PaidIsSaid, RefusedIsNeverCharged, RefusedIsSaid, SuccessIsBooked};
-ghost use Rattle.gw_books.specs.WindowLaws.{ComingDoesNotMatch, HonestMatches, ReversedMatches};
+ghost use Rattle.gw_books.specs.WindowExample.{ComingDoesNotMatch, RefusedMatches, ReversedMatches, UnmatchedBooks};
+ghost use Rattle.gw_books.specs.WindowLaws.{HonestMatches};
 
 /// What a till is sent says what its reply says: a reply its own category, key, result and condition, and that of a finished request its
 /// transaction and its amount; one that repeats says its own success, and then what it repeats; a device request and an event say nothing
@@ -90,8 +91,8 @@ pub fn law_reversal_rounds()
 /// A payment is reversed at most once, whatever tills ask and wherever the power fails: in a book that is honest for a lawful log no two
 /// approved entries are of commands that were sent in the log for reversals of one payment (an entry of a command that is sent after the
 /// log's end is judged along the longer log). A reversal is kept only of a payment that the book has as approved, and its Intent has the
-/// amount of that entry. An entry whose command was sent in the log is a reversal exactly where what was asked under its key is one; a
-/// success of a payment doesn't agree with a reversal. In the example a payment is approved and then reversed, and the book with both
+/// amount of that entry. An entry whose command was sent in the log is of the kind of what was asked under its key; a success of a
+/// payment doesn't agree with a reversal. In the example a payment is approved and then reversed, and the book with both
 /// entries is honest and agrees. Of which transaction the terminal has reversed, and of the amount that it has booked for that, nothing
 /// is said.
 pub fn law_reversed_once()
@@ -167,16 +168,20 @@ pub fn law_recovery()
     gw_ledger::law_fits();
 }
 
-/// What an auditor may rely on who has the journal and the books of the terminals. Whatever was asked and wherever the power failed,
-/// where the books are honest and no entry's command is still to come after the log's end: the kept records may come each after those
-/// before it, the trace numbers of each terminal rise, and each Intent, by the numbers above the one before it and up to the one before
-/// the next Intent of its terminal, has at most one approved entry; an approved key has one, of its kind, with its numbers and its amount,
-/// and a declined key has none. In the examples a payment is approved and then reversed, and the records match the book with both
-/// entries; and an honest book with an entry whose command is still to come doesn't match a declined payment.
+/// What an auditor with the journal and the books may rely on. Whatever was asked and wherever the power failed, the kept records match
+/// honest books in which no entry's command is still to come after the log's end. Each record is within its limits and may come after
+/// those before it, and trace numbers rise along the entries of one numbering. The window of an Intent has the trace numbers above its
+/// number before, up to the number before of the next Intent of its numbering. It has at most one approved entry, and that has the
+/// Intent's key. The window of an approved key has its entry, of its kind, with its numbers and its amount, and that of a declined key
+/// has none. In the examples a payment is approved and then reversed, and the records match the book with both entries; and those of a
+/// declined payment match the book with its declined entry. An honest book with an entry whose command is still to come doesn't match
+/// a declined payment. Each part of the match has records and a book that it alone refuses.
 pub fn law_windows()
     ensures matches { HonestMatches }
     ensures example { ReversedMatches }
+    ensures declined { RefusedMatches }
     ensures coming { ComingDoesNotMatch }
+    ensures unmatched { UnmatchedBooks }
 {
     gw_owes::law_records();
     gw_owes::law_waits();

@@ -1,7 +1,8 @@
 -- Proof of the contract of `law_windows`.
 use Rattle.gw_owes.proofs.RecordLemmas.{LedgerLaws}
 use Rattle.gw_rules.proofs.RecordRowLemmas.{OrderLaws}
-use Rattle.gw_books.proofs.WindowLemmas.{coming-does-not-match, honest-matches, reversed-matches}
+use Rattle.gw_books.proofs.WindowExampleLemmas.{coming-does-not-match, refused-matches, reversed-matches, unmatched-books}
+use Rattle.gw_books.proofs.WindowLemmas.{honest-matches}
 use Rattle.gw_books.proofs.law_windows.Goals as goal
 
 -- the laws of what a row keeps
@@ -30,3 +31,9 @@ returns-clause-example c = reversed-matches (order_laws c) (ledger_laws c)
 
 pub returns-clause-coming : goal.returns-clause-coming
 returns-clause-coming c = coming-does-not-match
+
+pub returns-clause-declined : goal.returns-clause-declined
+returns-clause-declined c = refused-matches (order_laws c) (ledger_laws c)
+
+pub returns-clause-unmatched : goal.returns-clause-unmatched
+returns-clause-unmatched c = unmatched-books
