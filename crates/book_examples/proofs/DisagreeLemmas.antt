@@ -35,6 +35,7 @@ use Rattle.gw_books.specs.Books.{BookedEntry, Honest, is_caused, is_of_its_link}
 use Rattle.gw_books.specs.BrokenLaws.{BreaksAgreement}
 use Rattle.gw_books.specs.Example.{polled_linked, asked_past, opened_moves, payment_text, paying_header, payment_ask, paying_intent, kept_approval, approved_mark, paid_result_body, paid_reply, sent_success, authorise, asked_course, paid_course, payment_command, paid_entry, refusal_reply, entry_in_time}
 use Rattle.gw_books.specs.Past.{OfRequest, OfNothing, SentReply, MadePoll, Past, past_of}
+use Rattle.gw_books.specs.ReversalExample.{misasked_course}
 use Rattle.gw_books.specs.Said.{all_said, IsFramed}
 use Rattle.gw_books.proofs.BrokenLemmas.{no-false, not-true, breaks-by, last-refused}
 use Rattle.gw_books.proofs.ExampleLemmas.{Agreement, each-agrees, header-within, approved-within, success-framed, refusal-framed}
@@ -353,6 +354,11 @@ in-part-false : list_all (λ (entry : BookedEntry). is_caused (past_of (opened_m
 unfolding decode_apdus decode_apdus_within decode_pt_message history
 in-part-false = refl
 
+-- the command of a reversal caused no payment
+payment-false : list_all (λ (entry : BookedEntry). is_caused (past_of misasked_course) entry entry.cause) (paid_entry ∷ []) ≡ false
+unfolding decode_apdus decode_apdus_within decode_pt_message history payment_text
+payment-false = refl
+
 replaced-false : list_all (is_of_its_link (past_of (asked_course ++ Make (Linked 0) ∷ []))) (later_entry ∷ []) ≡ false
 unfolding decode_apdus decode_apdus_within decode_pt_message history payment_text
 replaced-false = refl
@@ -360,7 +366,10 @@ replaced-false = refl
 pub uncaused-books : UncausedBooks
 uncaused-books = record {
   unsent = λ honest. no-false honest.caused;
+  elsewhere = λ honest. no-false honest.caused;
   reversal = λ honest. no-false honest.caused;
+  refund = λ honest. no-false honest.caused;
+  payment = λ honest. not-true _ payment-false honest.caused;
   in_part = λ honest. not-true _ in-part-false honest.caused;
   before = λ honest. no-false honest.caused;
   without = λ honest. no-false honest.caused;

@@ -4,4 +4,5 @@ pub mod DayExampleLemmas
 pub mod DayTextLemmas
 pub mod DisagreeLemmas
 pub mod ExampleLemmas
+pub mod KindExampleLemmas
 pub mod QueuedExampleLemmas

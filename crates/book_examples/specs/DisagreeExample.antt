@@ -18,12 +18,13 @@ use Rattle.gw_owes.specs.TerminalExample.{ack, abort, completion, enquiry_sent}
 use Rattle.gw_rules.specs.RowExample.{register_bytes, terminal_setup}
 use Rattle.gw_rules.specs.TerminalLogExample.{items_begin}
 use Rattle.gw_rules.specs.View.{Move, Begin, Read, Make}
-use Rattle.gw_books.specs.Kinds.{BookedReversal}
+use Rattle.gw_books.specs.Kinds.{BookedRefund, BookedReversal}
 use Rattle.gw_books.specs.Agrees.{are_distinct_keys, entry_key, EachSaid, success_agrees, unaccepted_agrees, in_progress_agrees, report_resolves}
 use Rattle.gw_books.specs.Books.{BookedEntry, Honest}
 use Rattle.gw_books.specs.BrokenLaws.{BreaksAgreement}
 use Rattle.gw_books.specs.Example.{opened_moves, payment_key, payment_occasion, refused_past, asked_past, paying_header, payment_ask, authorise, asked_course, first_numbering, approved_mark, paid_result_body, paid_course, paid_reply, refusal_reply, paid_past, paid_entry, entry_in_time, older_entry, paid_figures}
 use Rattle.gw_books.specs.Past.{Numbering, Ending, Declined, Reported, SentReply, MadePoll, Past, past_of}
+use Rattle.gw_books.specs.ReversalExample.{misasked_course}
 use Rattle.gw_books.specs.SaidLaws.{said_by_reply}
 use Rattle.book_examples.specs.Example.{progress_reply, later_entry}
 
@@ -156,9 +157,13 @@ pub record LinksEnd : Type 0 where
 
 -- what isn't honest for commands and links
 pub record UncausedBooks : Type 0 where
-  -- an entry whose command was not sent, or was a payment where it is a reversal
+  -- an entry whose command was not sent, or was sent to another terminal
   pub unsent : ¬ Honest asked_past (record paid_entry { cause = Some 21 } ∷ [])
+  pub elsewhere : ¬ Honest asked_past (record paid_entry { numbering = other_numbering } ∷ [])
+  -- one of another kind than its command: a reversal or a refund of a payment's, and a payment of a reversal's
   pub reversal : ¬ Honest asked_past (record paid_entry { kind = BookedReversal } ∷ [])
+  pub refund : ¬ Honest asked_past (record paid_entry { kind = BookedRefund } ∷ [])
+  pub payment : ¬ Honest (past_of misasked_course) (paid_entry ∷ [])
   -- one whose command was sent in part
   pub in_part : ¬ Honest (past_of (opened_moves ++ Make (SentPt 0 (take 5 authorise) false) ∷ [])) (record paid_entry { cause = Some 16 } ∷ [])
   -- one that is at its command or before it, or without a command and not older than the log
@@ -169,9 +174,9 @@ pub record UncausedBooks : Type 0 where
 
 -- what isn't honest for its order and its numbers
 pub record DisorderedBooks : Type 0 where
-  -- a trace number that falls, and a place that does
-  pub falling : ¬ Honest asked_past (older_entry 200 ∷ paid_entry ∷ [])
-  pub unplaced : ¬ Honest asked_past (paid_entry ∷ older_entry 200 ∷ [])
+  -- a trace number that falls within one numbering, and a place that does, of a terminal that has reported nothing
+  pub falling : ¬ Honest (record asked_past { ends = [] }) (older_entry 200 ∷ paid_entry ∷ [])
+  pub unplaced : ¬ Honest (record asked_past { ends = [] }) (paid_entry ∷ older_entry 200 ∷ [])
   -- two entries of one command
   pub double : ¬ Honest asked_past (paid_entry ∷ record paid_entry { number = 124 } ∷ [])
   -- a trace number of seven digits, and a receipt number of five

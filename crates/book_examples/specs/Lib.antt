@@ -2,4 +2,5 @@
 pub mod DayExample
 pub mod DisagreeExample
 pub mod Example
+pub mod KindExample
 pub mod QueuedExample

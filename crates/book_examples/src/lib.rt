@@ -4,6 +4,7 @@
 ghost use Rattle.book_examples.specs.DayExample.{SettledAgrees, SettledHasPast};
 ghost use Rattle.book_examples.specs.DisagreeExample.{DisorderedBooks, EntriesOfOneKey, KeylessDisagrees, LaterEntryDisagrees, LinksEnd, NotFoundDisagrees, OtherContentAgrees, OtherRepeatDisagrees, OutsideDisagrees, ProgressDisagrees, RepeatAgrees, ReportedBooks, SameContentDisagrees, TwiceDisagrees, UnacceptedDisagrees, UnbookedDisagrees, UncausedBooks, UnreportedMayBeOpen, UnresolvedDisagrees, UntrueBooks, WaitingIsInProgress};
 ghost use Rattle.book_examples.specs.Example.{AskedHasPast, LostAgrees, LostHasPast, PaidAgrees, PaidHasPast, RefusedAgrees, RefusedHasPast};
+ghost use Rattle.book_examples.specs.KindExample.{KindsOfCommands};
 ghost use Rattle.book_examples.specs.QueuedExample.{DayIsInProgress, QueuedAgrees, QueuedHasPast, TakenOutDisagrees};
 
 /// Examples of what the headline says, each along a course of a gateway with one terminal. The logs of a payment that is approved, of
@@ -16,8 +17,9 @@ ghost use Rattle.book_examples.specs.QueuedExample.{DayIsInProgress, QueuedAgree
 /// refusal whose command is approved later; a key that has its Outcome said to be in progress, not accepted, or not allowed with the
 /// content that was accepted; a payment that waits no longer, and an end of day that is over, said to be in progress; a payment that was
 /// accepted said not to be found; a write for bytes outside the grammars; a key that is open since before its link at a poll after an
-/// enquiry has reported, while the link lasts. What isn't honest: an entry without its command, or after its link was replaced; numbers
-/// and places that fall, and two entries of one command; an end of a dialogue that isn't true of the book.
+/// enquiry has reported, while the link lasts. What isn't honest: an entry without its command, of another kind or at another terminal
+/// than its command, or after its link was replaced; numbers and places that fall, and two entries of one command; an end of a dialogue
+/// that isn't true of the book. The first two bytes of a command say its kind: `06 01` a payment and `06 30` a reversal.
 pub fn law_examples()
     ensures asked { AskedHasPast }
     ensures paid { PaidHasPast }
@@ -53,4 +55,5 @@ pub fn law_examples()
     ensures disordered_books { DisorderedBooks }
     ensures untrue_books { UntrueBooks }
     ensures reported_books { ReportedBooks }
+    ensures kinds { KindsOfCommands }
 {}
