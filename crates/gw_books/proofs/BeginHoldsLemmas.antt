@@ -128,7 +128,7 @@ new-ends-now scene past OfNothing end within = absurd within
 
 -- an end after the poll is none before it
 after-poll : (poll : MadePoll) (link : MadeLink) (end : HeardEnd) → poll.place < end.place → is_report_on poll link end ≡ false
-after-poll poll link end late = by_tests (is_report end.ending) (bytes_eq end.numbering.poi link.poi) (nat_lt link.place end.place) (nat_lt end.place poll.place) refl
+after-poll poll link end late = by_tests (is_report end.ending) (bytes_eq end.numbering.poi link.numbering.poi) (nat_lt link.place end.place) (nat_lt end.place poll.place) refl
   where
     by_tests : (report own later before : Bool) → nat_lt end.place poll.place ≡ before → (report && (own && (later && before))) ≡ false
     by_tests false own later before e = refl

@@ -193,8 +193,8 @@ numbered-within past book honest entry within =
     leb-true 1 entry.number (and_parts (nat_le 1 entry.number) _ (all-in (λ (one : BookedEntry). nat_le 1 one.number && (nat_le one.number 999999 && nat_le one.receipt 9999)) book honest.numbered entry within)).0
 
 -- a terminal that was linked after each command to it has booked by then what it books for them
-pub quiet-since-link : (past : Past) (book : List BookedEntry) → Honest past book → (poi : List ℕ) → (since : IsLinkedSince past.links past.commands poi) → IsQuiet book past.commands poi since.link.place
-quiet-since-link past book honest poi since entry within poi_is sent = by entry.cause refl
+pub quiet-since-link : (past : Past) (book : List BookedEntry) → Honest past book → (numbering : Numbering) → (since : IsLinkedSince past.links past.commands numbering) → IsQuiet book past.commands numbering since.link.place
+quiet-since-link past book honest numbering since entry within same sent = by entry.cause refl
   where
     leaves : (place : ℕ) → entry.cause ≡ Some place → leaves_entry entry place since.link ≡ true
     leaves place is =
@@ -209,9 +209,9 @@ quiet-since-link past book honest poi since entry within poi_is sent = by entry.
     by None none = let first = uncaused-first past book honest entry within none in omega (arith, first)
     by (Some place) is =
         let was = sent place is in
-        let h = since.later was.command was.sent (ap (λ (numbering : Numbering). numbering.poi) was.numbering_is ∙ poi_is) in
+        let h = since.later was.command was.sent (was.numbering_is ∙ same) in
         let g = was.place_is in
-        let to_link = leads (bytes_eq since.link.poi entry.numbering.poi) (nat_lt since.link.place place || nat_le entry.place since.link.place) (leaves place is) (ap (bytes_eq since.link.poi) (poi_is ∙ sym since.poi_is) ∙ bytes-itself since.link.poi) in
+        let to_link = leads (is_numbering since.link.numbering entry.numbering) (nat_lt since.link.place place || nat_le entry.place since.link.place) (leaves place is) (ap (is_numbering since.link.numbering) (same ∙ sym since.numbering_is) ∙ numbering-itself since.link.numbering) in
         by-link place (omega (arith, g, h)) (nat_lt since.link.place place) refl to_link
 
 -- ---- reports
@@ -386,12 +386,12 @@ pub booked-later : (place later : ℕ) → place ≤ later → (book : List Book
 booked-later place later more book numbering trace (inl none) = inl none
 booked-later place later more book numbering trace (inr has) = inr (numbered-later place later more book numbering trace has)
 
-pub quiet-later : (place later : ℕ) → place ≤ later → (book : List BookedEntry) (commands : List SentCommand) (poi : List ℕ) → IsQuiet book commands poi place → IsQuiet book commands poi later
-quiet-later place later more book commands poi quiet entry within poi_is sent = let h = quiet entry within poi_is sent in omega (arith, h, more)
+pub quiet-later : (place later : ℕ) → place ≤ later → (book : List BookedEntry) (commands : List SentCommand) (numbering : Numbering) → IsQuiet book commands numbering place → IsQuiet book commands numbering later
+quiet-later place later more book commands numbering quiet entry within same sent = let h = quiet entry within same sent in omega (arith, h, more)
 
 -- a terminal that is ready is so later
 pub ready-later : (place later : ℕ) → place ≤ later → (book : List BookedEntry) (commands : List SentCommand) (numbering : Numbering) (last : ℕ) → IsReadyNumber book commands numbering place last → IsReadyNumber book commands numbering later last
-ready-later place later more book commands numbering last ready = record { booked = booked-later place later more book numbering last ready.booked; greatest = ready.greatest; quiet = quiet-later place later more book commands numbering.poi ready.quiet }
+ready-later place later more book commands numbering last ready = record { booked = booked-later place later more book numbering last ready.booked; greatest = ready.greatest; quiet = quiet-later place later more book commands numbering ready.quiet }
 
 -- so is what holds of an Intent
 pub intent-later : (place later : ℕ) → place ≤ later → (book : List BookedEntry) (commands : List SentCommand) (records : List Record) (slot : ℕ) (intent : TheIntent) → IsIntentNumbered book commands place records slot intent

@@ -678,7 +678,7 @@ cut-pt-holds pt log v past book o ok h =
     row = lost-row v past book (OwedCutPt pt) pt (call-setup v (OwedCutPt pt) o.agrees.run ok) last h cuts
 
     is_other : MadeLink → Bool
-    is_other = λ link. not (bytes_eq link.poi (poi_of_number v.scene pt))
+    is_other = λ link. not (bytes_eq link.numbering.poi (poi_of_number v.scene pt))
 
     lasting : List MadeLink
     lasting = filter is_other past.lasting
@@ -690,8 +690,8 @@ cut-pt-holds pt log v past book o ok h =
     own : (link : MadeLink) → (t : IsOfTerminal v.scene.core link) → t.number ≡ pt → is_other link ≡ true → ⊥
     own link t same others =
         let found : slice_get v.scene.core.terminals pt ≡ Some t.terminal = ap (slice_get v.scene.core.terminals) (sym same) ∙ t.found in
-        let poi_is : poi_of_number v.scene pt ≡ link.poi = ap (λ (numbering : Numbering). numbering.poi) (numbering-there v.scene pt t.terminal found) ∙ t.poi_is in
-        no-true (sym (ap not (ap (bytes_eq link.poi) poi_is ∙ bytes-itself link.poi)) ∙ others)
+        let poi_is : poi_of_number v.scene pt ≡ link.numbering.poi = ap (λ (numbering : Numbering). numbering.poi) (numbering-there v.scene pt t.terminal found) ∙ t.poi_is in
+        no-true (sym (ap not (ap (bytes_eq link.numbering.poi) poi_is ∙ bytes-itself link.numbering.poi)) ∙ others)
 
     sound : (link : MadeLink) → In link lasting → IsLinkSound (records_coming v) (link_lost_at v.scene pt).core ((link_lost_at v.scene pt).calls ++ later v.calls) next_past link
     sound link within =
@@ -719,8 +719,8 @@ none-after : (past : Past) (book : List BookedEntry) (v : View) (link : MadeLink
 none-after past book v link h now reports =
     let one = any-in (is_report_after link) past.ends reports in
     let end : HeardEnd = one.0 in
-    let parts = and_parts (is_report end.ending) (bytes_eq end.numbering.poi link.poi && nat_lt link.place end.place) one.2 in
-    let after_link : link.place < end.place = ltb-true link.place end.place (and_parts (bytes_eq end.numbering.poi link.poi) (nat_lt link.place end.place) parts.1).1 in
+    let parts = and_parts (is_report end.ending) (bytes_eq end.numbering.poi link.numbering.poi && nat_lt link.place end.place) one.2 in
+    let after_link : link.place < end.place = ltb-true link.place end.place (and_parts (bytes_eq end.numbering.poi link.numbering.poi) (nat_lt link.place end.place) parts.1).1 in
     let before : end.place ≤ past.heard = h.ended end one.1 in
     let heard : past.heard ≤ past.place = h.heard in
     absurd (omega (arith, after_link, before, heard, now))
@@ -736,7 +736,7 @@ linked-holds pt log v past book o ok h =
     row = made-row v past book (LinkPt pt) pt (call-setup v (LinkPt pt) o.agrees.run ok) last h (λ number differs. refl)
 
     new : MadeLink
-    new = record { place = past.place; poi = poi_of_number v.scene pt; records = length v.scene.kept }
+    new = record { place = past.place; numbering = numbering_of_number v.scene pt; records = length v.scene.kept }
 
     next_past : Past
     next_past = past_then past past.commands (new ∷ past.links) (new ∷ past.lasting) past.replies past.deeds

@@ -40,7 +40,7 @@ use Rattle.gw_rules.proofs.StageLemmas.{no-true}
 use Rattle.gw_rules.proofs.TranscriptLogLemmas.{lost-at, made-at}
 use Rattle.gw_books.specs.Kinds.{BookedKind, kind_of_command}
 use Rattle.gw_books.specs.Books.{BookedEntry}
-use Rattle.gw_books.specs.Past.{MadeLink, SentCommand, Past, past_after, poi_of_number, with_sent_command, open_key, Numbering, numbering_at, numbering_of, numbering_of_number, with_sent_bytes}
+use Rattle.gw_books.specs.Past.{MadeLink, SentCommand, Past, past_after, with_sent_command, open_key, Numbering, numbering_at, numbering_of, numbering_of_number, with_sent_bytes}
 use Rattle.gw_books.proofs.BookLemmas.{of-sent-less, ready-later, records-later, booked-later}
 use Rattle.gw_books.proofs.CallHoldsLemmas.{apart-pois, command_sent, forgotten, numbering-there, served-key, to-be-asked, called_with}
 use Rattle.gw_books.proofs.Holding.{Holds, charge_owed, is_handle, sending_charges, AreCallsSound, IsToBeAsked}
@@ -177,8 +177,8 @@ cut-pt-numbers pt log v past book o ok h n =
 standing-linked : (past : Past) (book : List BookedEntry) (link : MadeLink) (numbering : Numbering) (standing : Standing) → IsStandingNumbered past.links past.commands past.place book numbering standing
     → IsStandingNumbered (link ∷ past.links) past.commands past.place book numbering standing
 standing-linked past book link numbering (Unlinked due) is = tt
-standing-linked past book link numbering Registering is = record { link = is.link; made = inr is.made; poi_is = is.poi_is; later = is.later }
-standing-linked past book link numbering Enquiring is = record { link = is.link; made = inr is.made; poi_is = is.poi_is; later = is.later }
+standing-linked past book link numbering Registering is = record { link = is.link; made = inr is.made; numbering_is = is.numbering_is; later = is.later }
+standing-linked past book link numbering Enquiring is = record { link = is.link; made = inr is.made; numbering_is = is.numbering_is; later = is.later }
 standing-linked past book link numbering (Ready last) is = is
 standing-linked past book link numbering (Serving service last) is = is
 standing-linked past book link numbering (Aside before reported) is = is
@@ -228,7 +228,7 @@ linked-numbers pt log v past book o ok h n = record {
     owes = subst OwesNoLink (sym row_is) (made-owes (known_in v.scene k.setup) pt)
 
     new : MadeLink
-    new = record { place = past.place; poi = poi_of_number v.scene pt; records = length v.scene.kept }
+    new = record { place = past.place; numbering = numbering_of_number v.scene pt; records = length v.scene.kept }
 
     linked_past : Past
     linked_past = record past { links = new ∷ past.links; lasting = new ∷ past.lasting }
@@ -251,7 +251,7 @@ linked-numbers pt log v past book o ok h n = record {
         by_found (Some terminal) is = standings-set linked_past book v.scene.core pt terminal _ is (λ other one apart found. others other one found) (record {
           link = new;
           made = inl refl;
-          poi_is = ap (λ (n : Numbering). n.poi) (numbering-there v.scene pt terminal is);
+          numbering_is = numbering-there v.scene pt terminal is;
           later = λ command sent same. sent-below past.place past.commands h.commands.falling command sent;
         })
 
@@ -276,11 +276,11 @@ sent-splits sent commands entry of = by_cause entry.cause refl
         by_sent was = by_where was was.sent
 
 -- the link of a terminal with another POIID was made after each command to it
-linked-apart : (past : Past) (sent : SentCommand) (poi : List ℕ) → (sent.numbering.poi ≡ poi → ⊥) → IsLinkedSince past.links past.commands poi → IsLinkedSince past.links (sent ∷ past.commands) poi
-linked-apart past sent poi apart is = record { link = is.link; made = is.made; poi_is = is.poi_is; later = later_than }
+linked-apart : (past : Past) (sent : SentCommand) (numbering : Numbering) → (sent.numbering.poi ≡ numbering.poi → ⊥) → IsLinkedSince past.links past.commands numbering → IsLinkedSince past.links (sent ∷ past.commands) numbering
+linked-apart past sent numbering apart is = record { link = is.link; made = is.made; numbering_is = is.numbering_is; later = later_than }
   where
-    later_than : (command : SentCommand) → In command (sent ∷ past.commands) → command.numbering.poi ≡ poi → command.place < is.link.place
-    later_than command (inl same) here = absurd (apart (ap (λ (one : SentCommand). one.numbering.poi) (sym same) ∙ here))
+    later_than : (command : SentCommand) → In command (sent ∷ past.commands) → command.numbering ≡ numbering → command.place < is.link.place
+    later_than command (inl same) here = absurd (apart (ap (λ (one : SentCommand). one.numbering.poi) (sym same) ∙ ap (λ (n : Numbering). n.poi) here))
     later_than command (inr within) here = is.later command within here
 
 -- the number of a terminal with another POIID that is ready
@@ -289,7 +289,7 @@ ready-sent : (past now : Past) (book : List BookedEntry) (sent : SentCommand) (n
 ready-sent past now book sent numbering last commands places apart is = subst (λ (all : List SentCommand). IsReadyNumber book all numbering now.place last) (sym commands) (ready-later past.place now.place places book (sent ∷ past.commands) numbering last (record {
   booked = is.booked;
   greatest = λ entry within same of. is.greatest entry within same (of-sent-less sent past.commands entry (λ here. apart (ap (λ (n : Numbering). n.poi) (here ∙ same))) of);
-  quiet = λ entry within same of. is.quiet entry within same (of-sent-less sent past.commands entry (λ here. apart (ap (λ (n : Numbering). n.poi) here ∙ same)) of);
+  quiet = λ entry within same of. is.quiet entry within same (of-sent-less sent past.commands entry (λ here. apart (ap (λ (n : Numbering). n.poi) (here ∙ same))) of);
 }))
 
 -- the standing of a terminal with another POIID
@@ -297,9 +297,9 @@ standing-sent : (past now : Past) (book : List BookedEntry) (sent : SentCommand)
     → IsStandingNumbered past.links past.commands past.place book numbering standing → IsStandingNumbered now.links now.commands now.place book numbering standing
 standing-sent past now book sent numbering (Unlinked due) commands links places apart is = tt
 standing-sent past now book sent numbering Registering commands links places apart is =
-    subst (λ (all : List MadeLink). IsLinkedSince all now.commands numbering.poi) (sym links) (subst (λ (all : List SentCommand). IsLinkedSince past.links all numbering.poi) (sym commands) (linked-apart past sent numbering.poi apart is))
+    subst (λ (all : List MadeLink). IsLinkedSince all now.commands numbering) (sym links) (subst (λ (all : List SentCommand). IsLinkedSince past.links all numbering) (sym commands) (linked-apart past sent numbering apart is))
 standing-sent past now book sent numbering Enquiring commands links places apart is =
-    subst (λ (all : List MadeLink). IsLinkedSince all now.commands numbering.poi) (sym links) (subst (λ (all : List SentCommand). IsLinkedSince past.links all numbering.poi) (sym commands) (linked-apart past sent numbering.poi apart is))
+    subst (λ (all : List MadeLink). IsLinkedSince all now.commands numbering) (sym links) (subst (λ (all : List SentCommand). IsLinkedSince past.links all numbering) (sym commands) (linked-apart past sent numbering apart is))
 standing-sent past now book sent numbering (Ready last) commands links places apart is = ready-sent past now book sent numbering last commands places apart is
 standing-sent past now book sent numbering (Serving (Transaction slot) last) commands links places apart is = tt
 standing-sent past now book sent numbering (Serving (EndOfDay header period) last) commands links places apart is = ready-sent past now book sent numbering last commands places apart is
@@ -308,7 +308,7 @@ standing-sent past now book sent numbering (Aside before reported) commands link
 
 -- an Intent, once a command was sent for the key that is open at its POIID, which was quiet: one of the Intent's terminal is for its key, or for that of a later one
 intent-sent : (book : List BookedEntry) (sent : SentCommand) (commands : List SentCommand) (records : List Record) (slot : ℕ) (intent : TheIntent)
-    → (sent.numbering.poi ≡ intent.poi → IsSentFrom records intent.poi slot sent) → (sent.key ≡ Some (intent_key intent) → sent.numbering ≡ numbering_of intent) → IsQuiet book commands sent.numbering.poi sent.place
+    → (sent.numbering.poi ≡ intent.poi → IsSentFrom records intent.poi slot sent) → (sent.key ≡ Some (intent_key intent) → sent.numbering ≡ numbering_of intent) → IsQuiet book commands sent.numbering sent.place
     → IsIntentNumbered book commands sent.place records slot intent → IsIntentNumbered book (sent ∷ commands) (sent.place + 1) records slot intent
 intent-sent book sent commands records slot intent own back quiet is = record { sent_to = sent-to; base = base is.base; lower = lower; others = others }
   where
@@ -331,8 +331,8 @@ intent-sent book sent commands records slot intent own back quiet is = record { 
     base (inr e) = inr (earlier e)
 
     -- the entry of the command just sent
-    of-this : (entry : BookedEntry) → entry.numbering.poi ≡ intent.poi → entry.cause ≡ Some sent.place → sent.numbering ≡ entry.numbering → IsEntryFrom (sent ∷ commands) records intent.poi slot entry
-    of-this entry same cause here = record { command = sent; sent = inl refl; since = own (ap (λ (n : Numbering). n.poi) here ∙ same); caused = cause }
+    of-this : (entry : BookedEntry) → entry.numbering ≡ numbering_of intent → entry.cause ≡ Some sent.place → sent.numbering ≡ entry.numbering → IsEntryFrom (sent ∷ commands) records intent.poi slot entry
+    of-this entry same cause here = record { command = sent; sent = inl refl; since = own (ap (λ (n : Numbering). n.poi) (here ∙ same)); caused = cause }
 
     -- and one of a command before
     of-those : (entry : BookedEntry) → IsEntryFrom commands records intent.poi slot entry → IsEntryFrom (sent ∷ commands) records intent.poi slot entry
@@ -340,14 +340,14 @@ intent-sent book sent commands records slot intent own back quiet is = record { 
 
     lower : (entry : BookedEntry) → In entry book → entry.numbering ≡ numbering_of intent → IsOfSent (sent ∷ commands) entry → entry.approved ≡ true → (entry.number ≤ intent.before) ⊎ IsEntryFrom (sent ∷ commands) records intent.poi slot entry
     lower entry within same of approved = elim (sent-splits sent commands entry of) [
-      | inl here ↦ inr (of-this entry (ap (λ (n : Numbering). n.poi) same) here.0 here.1)
+      | inl here ↦ inr (of-this entry same here.0 here.1)
       | inr there ↦ elim (is.lower entry within same there approved) [
         | inl low ↦ inl low
         | inr from ↦ inr (of-those entry from)
       ]
     ]
 
-    others : (entry : BookedEntry) → In entry book → entry.numbering.poi ≡ intent.poi → IsOfSent (sent ∷ commands) entry → (command : SentCommand) → In command (sent ∷ commands) → command.key ≡ Some (intent_key intent)
+    others : (entry : BookedEntry) → In entry book → entry.numbering ≡ numbering_of intent → IsOfSent (sent ∷ commands) entry → (command : SentCommand) → In command (sent ∷ commands) → command.key ≡ Some (intent_key intent)
         → (entry.place ≤ command.place) ⊎ IsEntryFrom (sent ∷ commands) records intent.poi slot entry
     others entry within same of command sent_one for_key = elim (sent-splits sent commands entry of) [
       | inl here ↦ inr (of-this entry same here.0 here.1)
@@ -356,7 +356,7 @@ intent-sent book sent commands records slot intent own back quiet is = record { 
       where
         by_command : In command (sent ∷ commands) → IsOfSent commands entry → (entry.place ≤ command.place) ⊎ IsEntryFrom (sent ∷ commands) records intent.poi slot entry
         by_command (inl is_sent) there =
-            let here : sent.numbering.poi ≡ intent.poi = ap (λ (n : Numbering). n.poi) (back (ap (λ (one : SentCommand). one.key) (sym is_sent) ∙ for_key)) in
+            let here : sent.numbering ≡ numbering_of intent = back (ap (λ (one : SentCommand). one.key) (sym is_sent) ∙ for_key) in
             inl (subst (λ (one : SentCommand). entry.place ≤ one.place) (sym is_sent) (quiet entry within (same ∙ sym here) there))
         by_command (inr was) there = elim (is.others entry within same there command was for_key) [
           | inl early ↦ inl early
@@ -413,8 +413,8 @@ module _ (laws : LedgerLaws) (log : List Turn) (v : View) (past : Past) (book : 
           by_own true is charged = ap (λ (b : Bool). b || false) charged
           by_own false is charged = no-true is
 
-      quiet : IsQuiet book past.commands (numbering_of_number v.scene pt).poi past.place
-      quiet = subst (λ (poi : List ℕ). IsQuiet book past.commands poi past.place) (sym poi_is) (n.asked pt asked.terminal asked.found owed)
+      quiet : IsQuiet book past.commands (numbering_of_number v.scene pt) past.place
+      quiet = subst (λ (numbering : Numbering). IsQuiet book past.commands numbering past.place) (sym numbering_is) (n.asked pt asked.terminal asked.found owed)
 
       served : IsServedOpen v.scene.kept asked.terminal.pt.poi asked.last asked.slot
       served =

@@ -43,7 +43,7 @@ module _ (core : Core) (number : ℕ) (old new : Terminal) (here : slice_get cor
   still-found true is = ap (slice_get (set core.terminals number new)) (eqb-true owner.number number is) ∙ new-is-there core.terminals number old new here
   still-found false is = others-stay core.terminals number owner.number new (eqb-false owner.number number is) ∙ owner.found
 
-  still-poi : (b : Bool) → eqb owner.number number ≡ b → (in-its-place b).pt.poi ≡ link.poi
+  still-poi : (b : Bool) → eqb owner.number number ≡ b → (in-its-place b).pt.poi ≡ link.numbering.poi
   still-poi true is =
       let it : old ≡ owner.terminal = same_Some old owner.terminal (sym here ∙ ap (slice_get core.terminals) (sym (eqb-true owner.number number is)) ∙ owner.found) in
       ap (λ pt. pt.poi) same ∙ ap (λ (t : Terminal). t.pt.poi) it ∙ owner.poi_is

@@ -91,7 +91,7 @@ own-cut number = rw (own-number number) refl
 -- ---- the terminal of a link
 
 -- two terminals with one POIID have one number
-one-number : (known : Known) (number : ℕ) (old : Terminal) (link : MadeLink) (it : IsOfTerminal known.core link) → IsInOrder known → terminal_at known number ≡ Some old → old.pt.poi ≡ link.poi → IsOfTerminal.number it ≡ number
+one-number : (known : Known) (number : ℕ) (old : Terminal) (link : MadeLink) (it : IsOfTerminal known.core link) → IsInOrder known → terminal_at known number ≡ Some old → old.pt.poi ≡ link.numbering.poi → IsOfTerminal.number it ≡ number
 one-number known number old link it order here poi = by-test (eqb it.number number) refl
   where
     by-test : (b : Bool) → eqb it.number number ≡ b → it.number ≡ number
@@ -127,9 +127,9 @@ module _ (laws : LedgerLaws) (known : Known) (past : Past) (book : List BookedEn
       → (cut_owed (IsOfTerminal.number it) calls ≡ true) ⊎ IsResolvedOn records link
   link-reported calls records resolving link it any =
       let end = end-here past message old (is_report_after link) any in
-      let parts = and_parts (is_report end.ending) (bytes_eq old.pt.poi link.poi && nat_lt link.place past.heard) end.passes in
+      let parts = and_parts (is_report end.ending) (bytes_eq old.pt.poi link.numbering.poi && nat_lt link.place past.heard) end.passes in
       let as_report : IsReport (meaning_at old message) = report-meant (option_and_then (command_served past old.pt.poi) (served_in old.standing)) (meaning_at old message) end.ending end.ending_is parts.0 in
-      let poi : old.pt.poi ≡ link.poi = bytes-are old.pt.poi link.poi (and_parts (bytes_eq old.pt.poi link.poi) (nat_lt link.place past.heard) parts.1).0 in
+      let poi : old.pt.poi ≡ link.numbering.poi = bytes-are old.pt.poi link.numbering.poi (and_parts (bytes_eq old.pt.poi link.numbering.poi) (nat_lt link.place past.heard) parts.1).0 in
       elim (resolving as_report) [
         | inl cut ↦ inl (subst (λ (n : ℕ). cut_owed n calls ≡ true) (sym (one-number known number old link it holds.in_order here poi)) cut)
         | inr none ↦ inr (resolved-none records link (subst (λ (p : List ℕ). open_slot records p ≡ None) poi none))

@@ -225,7 +225,7 @@ module _ (laws : LedgerLaws) (known : Known) (past : Past) (book : List BookedEn
           own.caused ∙ ap (λ (command : SentCommand). Some command.place) (between.commands.once own.command sent.command (intent_key intent) own.sent found.0 own.key_is sent.key_is)
 
       -- once the command is over, all is booked
-      over-quiet : (end : HeardEnd) → end.place ≤ past.place → is_over book end sent.command.place ≡ true → IsQuiet book past.commands old.pt.poi past.place
+      over-quiet : (end : HeardEnd) → end.place ≤ past.place → is_over book end sent.command.place ≡ true → IsQuiet book past.commands (numbering_at old.pt) past.place
       over-quiet end until over entry within same of = elim (key-open.others entry within same of sent.command found.0 sent.key_is) [
         | inl early ↦ (let before = sent-below past.place past.commands between.commands.falling sent.command found.0 in omega (arith, early, before))
         | inr own ↦

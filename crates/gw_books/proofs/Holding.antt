@@ -329,18 +329,18 @@ AreRepliable core = (number : ℕ) (terminal : Terminal) → slice_get core.term
 
 -- the end is the report of an enquiry on this link
 abbrev pub is_report_after : MadeLink → HeardEnd → Bool
-is_report_after link end = is_report end.ending && (bytes_eq end.numbering.poi link.poi && nat_lt link.place end.place)
+is_report_after link end = is_report end.ending && (bytes_eq end.numbering.poi link.numbering.poi && nat_lt link.place end.place)
 
 -- what was open as the link was made is resolved
 abbrev pub IsResolvedOn : List Record → MadeLink → Type 0
-IsResolvedOn records link = (slot : ℕ) → open_slot records link.poi ≡ Some slot → link.records ≤ slot
+IsResolvedOn records link = (slot : ℕ) → open_slot records link.numbering.poi ≡ Some slot → link.records ≤ slot
 
 -- the link is that of a terminal
 pub record IsOfTerminal (core : Core) (link : MadeLink) : Type 0 where
   pub number : ℕ
   pub terminal : Terminal
   pub found : slice_get core.terminals number ≡ Some terminal
-  pub poi_is : terminal.pt.poi ≡ link.poi
+  pub poi_is : terminal.pt.poi ≡ link.numbering.poi
 
 -- the link is a terminal's, and after a report on it what was open as it was made is resolved, or its cut is owed
 pub record IsLinkSound (records : List Record) (core : Core) (calls : List OwedCall) (past : Past) (link : MadeLink) : Type 0 where

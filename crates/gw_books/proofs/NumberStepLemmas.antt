@@ -142,7 +142,7 @@ pub record Stays (v w : View) (past now : Past) (book : List BookedEntry) : Type
   pub kept : AreRecordsNumbered book past.commands past.place w.scene.kept
   pub coming : AreRecordsNumbered book past.commands past.place (records_coming w)
   pub standings : AreStandingsNumbered past book w.scene.core
-  pub asked : (number : ℕ) (terminal : Terminal) → slice_get w.scene.core.terminals number ≡ Some terminal → charge_owed number w.calls ≡ true → IsQuiet book past.commands terminal.pt.poi past.place
+  pub asked : (number : ℕ) (terminal : Terminal) → slice_get w.scene.core.terminals number ≡ Some terminal → charge_owed number w.calls ≡ true → IsQuiet book past.commands (numbering_at terminal.pt) past.place
   pub ordered : handles_after_due w.items ≡ false
   pub linking : link_owed w.calls ≡ true → list_any is_handle w.items ≡ false
   pub linked : list_any is_handle w.items ≡ true → (link : MadeLink) → In link past.links → link.place ≤ now.heard
@@ -152,9 +152,9 @@ pub standing-stays : (past now : Past) (book : List BookedEntry) (numbering : Nu
     → IsStandingNumbered past.links past.commands past.place book numbering standing → IsStandingNumbered now.links now.commands now.place book numbering standing
 standing-stays past now book numbering (Unlinked due) commands links places is = tt
 standing-stays past now book numbering Registering commands links places is =
-    subst (λ (all : List MadeLink). IsLinkedSince all now.commands numbering.poi) (sym links) (subst (λ (sent : List SentCommand). IsLinkedSince past.links sent numbering.poi) (sym commands) is)
+    subst (λ (all : List MadeLink). IsLinkedSince all now.commands numbering) (sym links) (subst (λ (sent : List SentCommand). IsLinkedSince past.links sent numbering) (sym commands) is)
 standing-stays past now book numbering Enquiring commands links places is =
-    subst (λ (all : List MadeLink). IsLinkedSince all now.commands numbering.poi) (sym links) (subst (λ (sent : List SentCommand). IsLinkedSince past.links sent numbering.poi) (sym commands) is)
+    subst (λ (all : List MadeLink). IsLinkedSince all now.commands numbering) (sym links) (subst (λ (sent : List SentCommand). IsLinkedSince past.links sent numbering) (sym commands) is)
 standing-stays past now book numbering (Ready last) commands links places is =
     subst (λ (sent : List SentCommand). IsReadyNumber book sent numbering now.place last) (sym commands) (ready-later past.place now.place places book past.commands numbering last is)
 standing-stays past now book numbering (Serving (Transaction slot) last) commands links places is = tt
@@ -182,7 +182,7 @@ stays-numbered v w past now book n s = record {
   coming = records-stay (records_coming w) s.coming;
   standings = λ number terminal found. standing-stays past now book (numbering_at terminal.pt) terminal.standing s.commands s.links places (s.standings number terminal found);
   asked = λ number terminal found owed.
-      subst (λ (sent : List SentCommand). IsQuiet book sent terminal.pt.poi now.place) (sym s.commands) (quiet-later past.place now.place places book past.commands terminal.pt.poi (s.asked number terminal found owed));
+      subst (λ (sent : List SentCommand). IsQuiet book sent (numbering_at terminal.pt) now.place) (sym s.commands) (quiet-later past.place now.place places book past.commands (numbering_at terminal.pt) (s.asked number terminal found owed));
   made = λ link within. let before = n.made link (subst (λ (all : List MadeLink). In link all) s.links within) in let place = s.place in omega (arith, before, place);
   ordered = s.ordered;
   linking = s.linking;

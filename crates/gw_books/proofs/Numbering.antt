@@ -66,9 +66,9 @@ pub record HasNumberedEntry (book : List BookedEntry) (numbering : Numbering) (p
 abbrev pub IsBookedNumber : List BookedEntry → Numbering → ℕ → ℕ → Type 0
 IsBookedNumber book numbering place trace = (trace ≡ 0) ⊎ HasNumberedEntry book numbering place trace
 
--- by this place all entries of the terminal's commands that were sent are booked
-abbrev pub IsQuiet : List BookedEntry → List SentCommand → List ℕ → ℕ → Type 0
-IsQuiet book commands poi place = (entry : BookedEntry) → In entry book → entry.numbering.poi ≡ poi → IsOfSent commands entry → entry.place ≤ place
+-- by this place all entries of the numbering's commands that were sent are booked
+abbrev pub IsQuiet : List BookedEntry → List SentCommand → Numbering → ℕ → Type 0
+IsQuiet book commands numbering place = (entry : BookedEntry) → In entry book → entry.numbering ≡ numbering → IsOfSent commands entry → entry.place ≤ place
 
 -- no approved one of them has a greater number
 abbrev pub IsGreatest : List BookedEntry → List SentCommand → Numbering → ℕ → Type 0
@@ -78,7 +78,7 @@ IsGreatest book commands numbering trace = (entry : BookedEntry) → In entry bo
 pub record IsReadyNumber (book : List BookedEntry) (commands : List SentCommand) (numbering : Numbering) (place last : ℕ) : Type 0 where
   pub booked : IsBookedNumber book numbering place last
   pub greatest : IsGreatest book commands numbering last
-  pub quiet : IsQuiet book commands numbering.poi place
+  pub quiet : IsQuiet book commands numbering place
 
 -- ---- the key that is open
 
@@ -92,7 +92,7 @@ pub record IsOpenNumbered (book : List BookedEntry) (commands : List SentCommand
   pub sent_to : (command : SentCommand) → In command commands → command.key ≡ Some key → command.numbering ≡ numbering
   pub base : (before ≡ 0) ⊎ HasEntryBefore book commands numbering place key before
   pub lower : (entry : BookedEntry) → In entry book → entry.numbering ≡ numbering → IsOfSent commands entry → entry.approved ≡ true → (entry.number ≤ before) ⊎ IsForKey commands key entry
-  pub others : (entry : BookedEntry) → In entry book → entry.numbering.poi ≡ numbering.poi → IsOfSent commands entry → (command : SentCommand) → In command commands → command.key ≡ Some key → (entry.place ≤ command.place) ⊎ IsForKey commands key entry
+  pub others : (entry : BookedEntry) → In entry book → entry.numbering ≡ numbering → IsOfSent commands entry → (command : SentCommand) → In command commands → command.key ≡ Some key → (entry.place ≤ command.place) ⊎ IsForKey commands key entry
 
 -- ---- each key
 
@@ -122,7 +122,7 @@ pub record IsIntentNumbered (book : List BookedEntry) (commands : List SentComma
   pub sent_to : (command : SentCommand) → In command commands → command.key ≡ Some (intent_key intent) → command.numbering ≡ numbering_of intent
   pub base : (intent.before ≡ 0) ⊎ HasEntryBeforeAll book commands records (numbering_of intent) place slot intent.before
   pub lower : (entry : BookedEntry) → In entry book → entry.numbering ≡ numbering_of intent → IsOfSent commands entry → entry.approved ≡ true → (entry.number ≤ intent.before) ⊎ IsEntryFrom commands records intent.poi slot entry
-  pub others : (entry : BookedEntry) → In entry book → entry.numbering.poi ≡ intent.poi → IsOfSent commands entry → (command : SentCommand) → In command commands → command.key ≡ Some (intent_key intent)
+  pub others : (entry : BookedEntry) → In entry book → entry.numbering ≡ numbering_of intent → IsOfSent commands entry → (command : SentCommand) → In command commands → command.key ≡ Some (intent_key intent)
       → (entry.place ≤ command.place) ⊎ IsEntryFrom commands records intent.poi slot entry
 
 -- so it is of each Intent of the records
@@ -140,12 +140,12 @@ pub record AreRecordsNumbered (book : List BookedEntry) (commands : List SentCom
 
 -- ---- standings
 
--- the terminal was linked after each command to it
-pub record IsLinkedSince (links : List MadeLink) (commands : List SentCommand) (poi : List ℕ) : Type 0 where
+-- the terminal with this numbering was linked after each command to it
+pub record IsLinkedSince (links : List MadeLink) (commands : List SentCommand) (numbering : Numbering) : Type 0 where
   pub link : MadeLink
   pub made : In link links
-  pub poi_is : link.poi ≡ poi
-  pub later : (command : SentCommand) → In command commands → command.numbering.poi ≡ poi → command.place < link.place
+  pub numbering_is : link.numbering ≡ numbering
+  pub later : (command : SentCommand) → In command commands → command.numbering ≡ numbering → command.place < link.place
 
 -- a terminal that serves an end of day or a display is as it was ready: neither has a trace number
 abbrev pub IsServiceNumbered : List SentCommand → ℕ → List BookedEntry → Numbering → ℕ → Service → Type 0
@@ -156,8 +156,8 @@ IsServiceNumbered commands place book numbering last (Display header results) = 
 -- beside an honest book: no terminal is set aside
 abbrev pub IsStandingNumbered : List MadeLink → List SentCommand → ℕ → List BookedEntry → Numbering → Standing → Type 0
 IsStandingNumbered links commands place book numbering (Unlinked due) = Unit {0}
-IsStandingNumbered links commands place book numbering Registering = IsLinkedSince links commands numbering.poi
-IsStandingNumbered links commands place book numbering Enquiring = IsLinkedSince links commands numbering.poi
+IsStandingNumbered links commands place book numbering Registering = IsLinkedSince links commands numbering
+IsStandingNumbered links commands place book numbering Enquiring = IsLinkedSince links commands numbering
 IsStandingNumbered links commands place book numbering (Ready last) = IsReadyNumber book commands numbering place last
 IsStandingNumbered links commands place book numbering (Serving service last) = IsServiceNumbered commands place book numbering last service
 IsStandingNumbered links commands place book numbering (Aside before reported) = ⊥
@@ -216,7 +216,7 @@ pub record Numbered (v : View) (past : Past) (book : List BookedEntry) : Type 0 
   pub coming : AreRecordsNumbered book past.commands past.place (records_coming v)
   pub standings : AreStandingsNumbered past book v.scene.core
   -- a terminal whose command is still owed is quiet
-  pub asked : (number : ℕ) (terminal : Terminal) → slice_get v.scene.core.terminals number ≡ Some terminal → charge_owed number v.calls ≡ true → IsQuiet book past.commands terminal.pt.poi past.place
+  pub asked : (number : ℕ) (terminal : Terminal) → slice_get v.scene.core.terminals number ≡ Some terminal → charge_owed number v.calls ≡ true → IsQuiet book past.commands (numbering_at terminal.pt) past.place
   pub made : (link : MadeLink) → In link past.links → link.place < past.place
   pub ordered : handles_after_due v.items ≡ false
   pub linking : link_owed v.calls ≡ true → list_any is_handle v.items ≡ false
@@ -231,7 +231,7 @@ pub record NumberedBetween (known : Known) (past : Past) (book : List BookedEntr
 pub record NumberedAfterRow (known : Known) (past : Past) (book : List BookedEntry) (row : Row) : Type 0 where
   pub records : AreRecordsNumbered book past.commands past.place (records_after known row)
   pub standings : AreStandingsNumbered past book row.core
-  pub asked : (number : ℕ) (terminal : Terminal) → slice_get row.core.terminals number ≡ Some terminal → charge_owed number row.calls ≡ true → IsQuiet book past.commands terminal.pt.poi past.place
+  pub asked : (number : ℕ) (terminal : Terminal) → slice_get row.core.terminals number ≡ Some terminal → charge_owed number row.calls ≡ true → IsQuiet book past.commands (numbering_at terminal.pt) past.place
 
 -- ---- the steps
 

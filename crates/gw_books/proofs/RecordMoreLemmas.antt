@@ -330,13 +330,13 @@ open-more laws records next poi slot found = by-test (is_poi poi (poi_of records
 
 -- what is resolved on a link stays so
 pub resolved-more : (laws : LedgerLaws) (records : List Record) (next : Record) (link : MadeLink) → link.records ≤ length records → IsResolvedOn records link → IsResolvedOn (records ++ next ∷ []) link
-resolved-more laws records next link before resolved slot found = elim (open-more laws records next link.poi slot found) [
+resolved-more laws records next link before resolved slot found = elim (open-more laws records next link.numbering.poi slot found) [
   | inl was ↦ resolved slot was
   | inr last ↦ subst (λ (n : ℕ). link.records ≤ n) (sym last) before
 ]
 
 -- with none open all is resolved
-pub resolved-none : (records : List Record) (link : MadeLink) → open_slot records link.poi ≡ None → IsResolvedOn records link
+pub resolved-none : (records : List Record) (link : MadeLink) → open_slot records link.numbering.poi ≡ None → IsResolvedOn records link
 resolved-none records link none slot found = let clash : None ≡ Some slot = sym none ∙ found in absurd cc
 
 -- ---- what terminals serve

@@ -350,7 +350,7 @@ open-numbered laws records folded book commands place intents poi slot intent is
       | inr from ↦ inr (for-key entry from)
     ]
 
-    others : (entry : BookedEntry) → In entry book → entry.numbering.poi ≡ intent.poi → IsOfSent commands entry → (command : SentCommand) → In command commands → command.key ≡ Some (intent_key intent)
+    others : (entry : BookedEntry) → In entry book → entry.numbering ≡ numbering_of intent → IsOfSent commands entry → (command : SentCommand) → In command commands → command.key ≡ Some (intent_key intent)
         → (entry.place ≤ command.place) ⊎ IsForKey commands (intent_key intent) entry
     others entry within same of command sent key_is = elim (is.others entry within same of command sent key_is) [
       | inl early ↦ inl early

@@ -177,7 +177,7 @@ module _ (laws : LedgerLaws) (v : View) (past : Past) (book : List BookedEntry) 
   -- so that the Intent isn't open
   not-open : open_slot poll.kept intent.poi ≡ Some slot → ⊥
   not-open is_open =
-      let there : open_slot poll.kept link.poi ≡ Some slot = ap (open_slot poll.kept) (sym reported.poi_is) ∙ is_open in
+      let there : open_slot poll.kept link.numbering.poi ≡ Some slot = ap (open_slot poll.kept) (sym reported.poi_is) ∙ is_open in
       let all : list_all (λ (at : ℕ). nat_le link.records at) (slot ∷ []) ≡ true = subst (λ (found : Option ℕ). list_all (λ (at : ℕ). nat_le link.records at) (option_to_list found) ≡ true) there resolved in
       let late : link.records ≤ slot = leb-true link.records slot (and_parts (nat_le link.records slot) true all).0 in
       let early : slot < link.records = reported.before in

@@ -129,11 +129,11 @@ pub record ReportFacts (book : List BookedEntry) (commands : List SentCommand) (
   pub number : (entry : TheEntry) (moment : ℕ) → open_entry kept numbering.poi ≡ Some entry → IsBookedNumber book numbering place (outcome_reported entry report moment).number
 
 module _ (past : Past) (book : List BookedEntry) (honest : Honest past book) (kept : List Record) (keyed : AreKeyed kept past.place past.commands) (until : past.heard ≤ past.place) (numbering : Numbering) (linked : AreLinkedBeforeHearing past)
-    (since : IsLinkedSince past.links past.commands numbering.poi) (report : Report) (says : HasLastEntry book numbering past.heard report.trace report.approved ⊎ HasNoEntry book numbering past.heard report.trace) where
+    (since : IsLinkedSince past.links past.commands numbering) (report : Report) (says : HasLastEntry book numbering past.heard report.trace report.approved ⊎ HasNoEntry book numbering past.heard report.trace) where
   -- all entries of the terminal's commands that were sent were booked at the hearing
-  heard-quiet : IsQuiet book past.commands numbering.poi past.heard
-  heard-quiet entry within poi_is sent =
-      let before = quiet-since-link past book honest numbering.poi since entry within poi_is sent in
+  heard-quiet : IsQuiet book past.commands numbering past.heard
+  heard-quiet entry within same sent =
+      let before = quiet-since-link past book honest numbering since entry within same sent in
       let made = linked since.link since.made in
       omega (arith, before, made)
 
@@ -145,15 +145,15 @@ module _ (past : Past) (book : List BookedEntry) (honest : Honest past book) (ke
   booked-not-above : (number : ℕ) → IsBookedNumber book numbering past.place number → number ≤ report.trace
   booked-not-above number (inl none) = omega (arith, none)
   booked-not-above number (inr has) =
-      let highest = heard-highest has.entry has.within has.numbering_is (heard-quiet has.entry has.within (ap (λ (n : Numbering). n.poi) has.numbering_is) (of-sent past book honest has.entry has.within has.placed)) in
+      let highest = heard-highest has.entry has.within has.numbering_is (heard-quiet has.entry has.within has.numbering_is (of-sent past book honest has.entry has.within has.placed)) in
       let is = has.number_is in
       omega (arith, highest, is)
 
   reported-ready : IsReadyNumber book past.commands numbering past.place report.trace
   reported-ready = record {
     booked = booked-later past.heard past.place until book numbering report.trace (reported-booked book numbering past.heard report.trace report.approved says);
-    greatest = λ entry within same sent approved. heard-highest entry within same (heard-quiet entry within (ap (λ (n : Numbering). n.poi) same) sent);
-    quiet = quiet-later past.heard past.place until book past.commands numbering.poi heard-quiet;
+    greatest = λ entry within same sent approved. heard-highest entry within same (heard-quiet entry within same sent);
+    quiet = quiet-later past.heard past.place until book past.commands numbering heard-quiet;
   }
 
   -- an entry of a command that was sent
@@ -180,7 +180,7 @@ module _ (past : Past) (book : List BookedEntry) (honest : Honest past book) (ke
     own-numbering command sent key_is entry within caused = sym (cause-numbering command sent entry within caused) ∙ opened.sent_to command sent key_is
 
     own-placed : (command : SentCommand) → In command past.commands → command.key ≡ Some key → (entry : BookedEntry) → In entry book → entry.cause ≡ Some command.place → entry.place ≤ past.heard
-    own-placed command sent key_is entry within caused = heard-quiet entry within (ap (λ (n : Numbering). n.poi) (own-numbering command sent key_is entry within caused)) (cause-sent command sent entry within caused)
+    own-placed command sent key_is entry within caused = heard-quiet entry within (own-numbering command sent key_is entry within caused) (cause-sent command sent entry within caused)
 
     -- with a trace number above the one before, what is reported is what is open
     approved-as-last : (slot moment : ℕ) (figures : Figures) → report.approved ≡ Some figures → before < report.trace → IsApprovalTrue past.commands book past.place key (approved_outcome slot figures moment)
@@ -227,7 +227,7 @@ module _ (past : Past) (book : List BookedEntry) (honest : Honest past book) (ke
         by-other last first =
             let precedes_last = precedes entry last.entry (ap (λ (n : Numbering). n.poi) (here ∙ sym last.numbering_is)) first in
             let last_placed = last.placed in
-            elim (opened.others last.entry last.within (ap (λ (n : Numbering). n.poi) last.numbering_is) (of-sent past book honest last.entry last.within (omega (arith, last_placed, until))) command sent key_is) [
+            elim (opened.others last.entry last.within last.numbering_is (of-sent past book honest last.entry last.within (omega (arith, last_placed, until))) command sent key_is) [
               | inl early ↦
                   let after = after-cause past book honest entry within command.place caused in
                   let place = precedes_last.place in
@@ -318,7 +318,7 @@ pub report-borne : (laws : LedgerLaws) (known : Known) (past : Past) (book : Lis
 report-borne laws known past book holds numbered linked number old message here enquiring honest trace approved result_code means =
     facts-of (past_with past number message old) book honest known.kept holds.commands holds.heard (numbering_at old.pt) linked since (record { trace = trace; approved = approved; result_code = result_code }) says opened (numbered.records.last (numbering_at old.pt))
   where
-    since : IsLinkedSince past.links past.commands old.pt.poi
+    since : IsLinkedSince past.links past.commands (numbering_at old.pt)
     since = subst (λ (standing : Standing). IsStandingNumbered past.links past.commands past.place book (numbering_at old.pt) standing) enquiring (numbered.standings number old here)
 
     brings : ending_at past old message ≡ Some (Reported trace approved)

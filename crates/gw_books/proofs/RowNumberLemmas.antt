@@ -187,10 +187,10 @@ begun-numbers known past book number till header terminal last asking between n 
     before = subst (λ (numbering : Numbering). IsReadyNumber book past.commands numbering past.place intent.before) (ap (λ (poi : List ℕ). record { poi = poi }) (sym anew.poi_is)) (subst (IsReadyNumber book past.commands (numbering_at terminal.pt) past.place) (sym anew.before_is) ready)
 
     by-number : (other : ℕ) (one : Terminal) → slice_get (with_terminal known.core number new).terminals other ≡ Some one
-        → charge_owed other (keep_calls (length known.kept) (Intent intent) ++ SendPt number (Ask (ask intent asking.original terminal.pt)) ∷ []) ≡ true → (b : Bool) → eqb other number ≡ b → IsQuietAt book past.commands one.pt.poi past.place
+        → charge_owed other (keep_calls (length known.kept) (Intent intent) ++ SendPt number (Ask (ask intent asking.original terminal.pt)) ∷ []) ≡ true → (b : Bool) → eqb other number ≡ b → IsQuietAt book past.commands (numbering_at one.pt) past.place
     by-number other one found owed true is =
         let there : slice_get (with_terminal known.core number new).terminals number ≡ Some one = subst (λ (at : ℕ). slice_get (with_terminal known.core number new).terminals at ≡ Some one) (eqb-true other number is) found in
-        subst (λ (t : Terminal). IsQuietAt book past.commands t.pt.poi past.place) (same-some new one (sym (new-is-there known.core.terminals number terminal new there_is) ∙ there)) ready.quiet
+        subst (λ (t : Terminal). IsQuietAt book past.commands (numbering_at t.pt) past.place) (same-some new one (sym (new-is-there known.core.terminals number terminal new there_is) ∙ there)) ready.quiet
     by-number other one found owed false is =
         let apart : (number == other) ≡ false = ne_eqb number other (λ same. eqb-false other number is (sym same)) in
         no-true (sym (ap (λ (b : Bool). (b && sending_charges (Ask (ask intent asking.original terminal.pt))) || false) apart) ∙ owed)

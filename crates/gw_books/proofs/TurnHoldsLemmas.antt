@@ -77,7 +77,7 @@ any-by one other list implies e = let found = any-in one list e in any-from othe
 
 -- a report on a link before a poll is one after the link
 report-after : (poll : MadePoll) (link : MadeLink) (end : HeardEnd) → is_report_on poll link end ≡ true → is_report_after link end ≡ true
-report-after poll link end e = by_tests (is_report end.ending) (bytes_eq end.numbering.poi link.poi) (nat_lt link.place end.place) (nat_lt end.place poll.place) e
+report-after poll link end e = by_tests (is_report end.ending) (bytes_eq end.numbering.poi link.numbering.poi) (nat_lt link.place end.place) (nat_lt end.place poll.place) e
   where
     by_tests : (a b c d : Bool) → (a && (b && (c && d))) ≡ true → (a && (b && c)) ≡ true
     by_tests true true true d e = refl
@@ -86,7 +86,7 @@ report-after poll link end e = by_tests (is_report end.ending) (bytes_eq end.num
     by_tests false b c d e = e
 
 resolved-on : (poll : MadePoll) (link : MadeLink) → IsResolvedOn poll.kept link → is_resolved_on poll link ≡ true
-resolved-on poll link resolved = by_slot (open_slot poll.kept link.poi) resolved
+resolved-on poll link resolved = by_slot (open_slot poll.kept link.numbering.poi) resolved
   where
     by_slot : (unresolved : Option ℕ) → ((slot : ℕ) → unresolved ≡ Some slot → link.records ≤ slot) → list_all (λ slot. nat_le link.records slot) (option_to_list unresolved) ≡ true
     by_slot None each = refl
@@ -368,7 +368,7 @@ closed-holds till log v past book o ok h =
 -- the links of a terminal that is lost last no longer
 pub lost-holds : (pt : ℕ) → TurnHolds (Lost pt)
 lost-holds pt log v past book o ok h =
-    let stays : MadeLink → Bool = λ (link : MadeLink). not (bytes_eq link.poi (poi_of_number v.scene pt)) in
+    let stays : MadeLink → Bool = λ (link : MadeLink). not (bytes_eq link.numbering.poi (poi_of_number v.scene pt)) in
     event-holds log v (after_turn v (Lost pt)) past (filter stays past.lasting) book o ok.polled h refl refl refl refl (then-due (LinkLost pt ∷ []) v.scene.core refl) (λ link within. (filter-in stays past.lasting link within).0)
 
 pub stopped-holds : TurnHolds Stopped

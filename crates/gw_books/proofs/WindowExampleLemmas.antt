@@ -1,9 +1,7 @@
 -- Which records and books of the examples match, and which don't.
-use Rattle.std.proofs.Common.{◌≡◌, ◌≤◌, ◌<◌, ℕ, zero, suc, Bool, true, false, List, [], ◌∷◌, ◌++◌, Some, None, slice_get, refl, sym, ap, subst, arith}
+use Rattle.std.proofs.Common.{◌≡◌, ◌≤◌, ◌<◌, ℕ, zero, suc, true, List, [], ◌∷◌, Some, None, slice_get, refl, sym, ap, subst, arith}
 use Rattle.std.proofs.lemmas.Option.{same_Some}
-use Rattle.std.specs.Prelude.{pos}
 use Rattle.std.specs.List.{list_all}
-use Rattle.gw_site.specs.declared.turn.Turn.TheVariants.{Polled}
 use Rattle.zvt_apdu.specs.DecodeStream.{decode_apdus, decode_apdus_within}
 use Rattle.zvt_msg.specs.MessageDecode.{decode_pt_message}
 use Rattle.jrn_record.specs.declared.records.Intent.{Intent as TheIntent}
@@ -12,7 +10,6 @@ use Rattle.jrn_record.specs.declared.records.Record.{Record}
 use Rattle.jrn_record.specs.declared.records.Record.TheVariants.{Intent, Outcome}
 use Rattle.gw_ledger.specs.History.{history}
 use Rattle.gw_owes.proofs.RecordLemmas.{LedgerLaws}
-use Rattle.gw_rules.specs.Laws.{IsLeanCourse}
 use Rattle.gw_rules.specs.Lawful.{turns_of}
 use Rattle.gw_rules.proofs.RecordRowLemmas.{OrderLaws}
 use Rattle.gw_books.specs.Past.{Numbering, is_numbering, numbering_of, Past, past_of}

@@ -7,13 +7,11 @@ use Rattle.std.specs.List.{list_all}
 use Rattle.jrn_record.specs.declared.records.Intent.{Intent as TheIntent}
 use Rattle.jrn_record.specs.declared.records.Outcome.{Outcome as TheOutcome}
 use Rattle.jrn_record.specs.declared.records.Record.{Record}
-use Rattle.jrn_record.specs.declared.records.Record.TheVariants.{Intent, Outcome}
 use Rattle.gw_ledger.specs.Fold.{AreFolded}
 use Rattle.gw_ledger.specs.Keys.{intent_key, slot_of}
 use Rattle.gw_ledger.specs.Slots.{intent_at}
 use Rattle.gw_owes.specs.Calls.{records_kept}
 use Rattle.gw_owes.proofs.RecordLemmas.{LedgerLaws}
-use Rattle.gw_rules.specs.Lawful.{turns_of}
 use Rattle.gw_rules.specs.Scene.{records_of}
 use Rattle.gw_rules.specs.View.{at_first, view_from}
 use Rattle.gw_rules.proofs.RecordRowLemmas.{OrderLaws}

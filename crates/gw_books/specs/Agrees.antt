@@ -155,11 +155,11 @@ is_report (Reported trace figures) = true
 
 -- the end is the report of an enquiry on this link, before the poll
 abbrev pub is_report_on : MadePoll → MadeLink → HeardEnd → Bool
-is_report_on poll link end = is_report end.ending && (bytes_eq end.numbering.poi link.poi && (nat_lt link.place end.place && nat_lt end.place poll.place))
+is_report_on poll link end = is_report end.ending && (bytes_eq end.numbering.poi link.numbering.poi && (nat_lt link.place end.place && nat_lt end.place poll.place))
 
 -- no Intent of its POIID is open at the poll that was kept before the link was made
 abbrev pub is_resolved_on : MadePoll → MadeLink → Bool
-is_resolved_on poll link = list_all (λ slot. nat_le link.records slot) (option_to_list (open_slot poll.kept link.poi))
+is_resolved_on poll link = list_all (λ slot. nat_le link.records slot) (option_to_list (open_slot poll.kept link.numbering.poi))
 
 -- where an enquiry has reported on the link, which lasts at the poll, nothing is open that was open as it was made
 abbrev pub report_resolves : Past → MadePoll → MadeLink → Bool

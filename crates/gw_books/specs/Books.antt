@@ -34,11 +34,11 @@ is_caused past entry (Some place) = nat_lt place entry.place && (nat_le past.pla
 
 -- ---- no entry comes after its link was replaced
 
--- the link is not of the entry's terminal, or it was made before the command or after the entry
+-- the link is not of the entry's numbering, or it was made before the command or after the entry
 abbrev pub leaves_entry : BookedEntry → ℕ → MadeLink → Bool
-leaves_entry entry cause link = not (bytes_eq link.poi entry.numbering.poi) || (nat_lt link.place cause || nat_le entry.place link.place)
+leaves_entry entry cause link = not (is_numbering link.numbering entry.numbering) || (nat_lt link.place cause || nat_le entry.place link.place)
 
--- no link of its terminal was made between its command and the entry
+-- no link of its numbering was made between its command and the entry
 abbrev pub is_of_its_link : Past → BookedEntry → Bool
 is_of_its_link past entry = list_all (λ cause. list_all (leaves_entry entry cause) past.links) (option_to_list entry.cause)
 

@@ -117,13 +117,13 @@ pub record IsHonestAndAgrees (past : Past) (book : List BookedEntry) : Type 0 wh
 
 -- ---- a payment begins
 
--- the link, at place 5
-abbrev pub first_link : MadeLink
-first_link = record { place = 5; poi = codes "T1"; records = 0 }
-
--- the numbering of its terminal
+-- the numbering of the terminal
 abbrev pub first_numbering : Numbering
 first_numbering = record { poi = codes "T1" }
+
+-- its link, at place 5
+abbrev pub first_link : MadeLink
+first_link = record { place = 5; numbering = first_numbering; records = 0 }
 
 -- the command, at place 22
 abbrev pub payment_command : SentCommand

@@ -77,7 +77,7 @@ pub record SentCommand : Type 0 where
 -- a terminal was linked, with so many records kept
 pub record MadeLink : Type 0 where
   pub place : ℕ
-  pub poi : List ℕ
+  pub numbering : Numbering
   pub records : ℕ
 
 -- how a dialogue has ended
@@ -236,15 +236,15 @@ past_between_runs past = record past { lasting = []; occasion = OfNothing }
 abbrev pub with_poll : Scene → Past → Past
 with_poll scene past = record past { occasion = OfNothing; polls = record { place = past.place; links = past.lasting; kept = scene.kept } ∷ past.polls }
 
--- the terminal of this POIID is linked
-abbrev pub with_made_link : Scene → List ℕ → Past → Past
-with_made_link scene poi past =
-    let link : MadeLink = record { place = past.place; poi = poi; records = length scene.kept } in
+-- the terminal with this numbering is linked
+abbrev pub with_made_link : Scene → Numbering → Past → Past
+with_made_link scene numbering past =
+    let link : MadeLink = record { place = past.place; numbering = numbering; records = length scene.kept } in
     record past { links = link ∷ past.links; lasting = link ∷ past.lasting }
 
--- its link lasts no longer
+-- the link of the terminal with this POIID lasts no longer
 abbrev pub without_link : List ℕ → Past → Past
-without_link poi past = record past { lasting = filter (λ (link : MadeLink). not (bytes_eq link.poi poi)) past.lasting }
+without_link poi past = record past { lasting = filter (λ (link : MadeLink). not (bytes_eq link.numbering.poi poi)) past.lasting }
 
 -- the key of the Intent that is open at this POIID
 abbrev pub open_key : List Record → List ℕ → Option Key
@@ -290,7 +290,7 @@ with_turn scene past (Closed till) = past
 with_turn scene past (HeardPt pt bytes) = record past { heard = past.place }
 with_turn scene past (Lost pt) = without_link (poi_of_number scene pt) past
 with_turn scene past Stopped = past
-with_turn scene past (Linked pt) = with_made_link scene (poi_of_number scene pt) past
+with_turn scene past (Linked pt) = with_made_link scene (numbering_of_number scene pt) past
 with_turn scene past (LinkFailed pt) = past
 with_turn scene past (SentTill till bytes sent) = with_reply scene bytes past
 with_turn scene past (SentPt pt bytes sent) = with_sent_bytes scene (numbering_of_number scene pt) bytes past (kind_of_command bytes)

@@ -58,7 +58,7 @@ status_occasion service = OfRequest (till_header (codes "TransactionStatus") ser
 
 -- the link of the later run, at place 27: one record was kept by then
 abbrev pub later_link : MadeLink
-later_link = record { place = 27; poi = codes "T1"; records = 1 }
+later_link = record { place = 27; numbering = first_numbering; records = 1 }
 
 -- the site is polled in the later run while the terminal is linked, with these records kept
 abbrev pub polled_later : ℕ → List Record → MadePoll

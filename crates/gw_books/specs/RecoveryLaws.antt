@@ -43,7 +43,7 @@ pub record IsReportedAt (past : Past) (poll : MadePoll) (link : MadeLink) (slot 
   pub link_is : slice_get poll.links lasting ≡ Some link
   pub reported : list_any (is_report_on poll link) past.ends ≡ true
   pub intent_is : intent_at poll.kept slot ≡ Some intent
-  pub poi_is : intent.poi ≡ link.poi
+  pub poi_is : intent.poi ≡ link.numbering.poi
   pub before : slot < link.records
 
 -- the entry is of the kind that the Intent asks for

@@ -22,7 +22,7 @@ use Rattle.gw_rules.specs.Stage.{is_round}
 use Rattle.gw_rules.specs.View.{View, Move, Begin, Read, Make}
 use Rattle.gw_books.proofs.AgreeLemmas.{same-kind}
 use Rattle.gw_books.specs.Kinds.{BookedKind, BookedReversal, is_kind, kind_of_command}
-use Rattle.gw_books.specs.Past.{SentCommand, MadeLink, Ending, Approved, Declined, Reported, HeardEnd, Past, past_after, poi_of_number, with_turn, Numbering, is_numbering, numbering_of_number, with_sent_bytes}
+use Rattle.gw_books.specs.Past.{SentCommand, MadeLink, Ending, Approved, Declined, Reported, HeardEnd, Past, past_after, with_turn, Numbering, is_numbering, numbering_of_number, with_sent_bytes}
 use Rattle.gw_books.specs.Books.{BookedEntry, comes_before, has_figures, have_one_cause, is_cause, is_caused, is_caused_by, is_entry_number, is_last_entry, is_of_its_link, is_ordered, is_over, is_true, leaves_entry, was_booked}
 use Rattle.gw_books.proofs.Holding.{AreFalling}
 use Rattle.gw_books.proofs.KeyedLemmas.{sent-below}
@@ -174,7 +174,7 @@ linked-later past later poi entry falling follows has = each entry.cause
     of cause link all (inl within) = all-in (leaves_entry entry cause) past.links all link within
     of cause link all (inr h) =
         let g = entry-placed past poi entry falling has in
-        or_right (not (bytes_eq link.poi entry.numbering.poi)) (nat_lt link.place cause || nat_le entry.place link.place)
+        or_right (not (is_numbering link.numbering entry.numbering)) (nat_lt link.place cause || nat_le entry.place link.place)
         (or_right (nat_lt link.place cause) (nat_le entry.place link.place) (le-leb entry.place link.place (omega (arith, h, g))))
 
     each : (cause : Option ℕ) → list_all (λ (one : ℕ). list_all (leaves_entry entry one) past.links) (option_to_list cause) ≡ true → list_all (λ (one : ℕ). list_all (leaves_entry entry one) later.links) (option_to_list cause) ≡ true
@@ -453,7 +453,7 @@ next-entry past later poi command book entry sending kind below within honest = 
 
     leaves : (link : MadeLink) → In link past.links → leaves_entry new past.place link ≡ true
     leaves link inside =
-        or_right (not (bytes_eq link.poi poi)) (nat_lt link.place past.place || nat_le (past.place + 1) link.place)
+        or_right (not (is_numbering link.numbering new.numbering)) (nat_lt link.place past.place || nat_le (past.place + 1) link.place)
         (or_left (nat_lt link.place past.place) (nat_le (past.place + 1) link.place) (lt-ltb link.place past.place (sending.links_before link inside)))
 
     one-cause : (one : BookedEntry) → HasCommand past poi one → have_one_cause one new ≡ false
@@ -634,7 +634,7 @@ linked-before-after v past (Make turn) before = of turn
     of (HeardPt pt bytes) = same
     of (Lost pt) = same
     of Stopped = same
-    of (Linked pt) = λ link within. made link (record { place = past.place; poi = poi_of_number v.scene pt; records = length v.scene.kept }) refl within
+    of (Linked pt) = λ link within. made link (record { place = past.place; numbering = numbering_of_number v.scene pt; records = length v.scene.kept }) refl within
     of (LinkFailed pt) = same
     of (SentTill till bytes ok) = same
     of (SentPt pt bytes ok) = sent (kind_of_command bytes) v.scene (numbering_of_number v.scene pt) bytes

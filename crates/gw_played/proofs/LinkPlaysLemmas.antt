@@ -33,7 +33,7 @@ use Rattle.gw_rules.proofs.RecordOrderLemmas.{Ordered, configured}
 use Rattle.gw_rules.proofs.SetupLemmas.{HasSetup}
 use Rattle.gw_rules.proofs.StageLemmas.{no-true}
 use Rattle.gw_rules.proofs.TranscriptLogLemmas.{made-at, lost-at, not-number}
-use Rattle.gw_books.specs.Past.{MadeLink, Past, poi_of_number}
+use Rattle.gw_books.specs.Past.{MadeLink, Past, numbering_of_number, poi_of_number}
 use Rattle.gw_books.proofs.Holding.{is_handle}
 use Rattle.gw_books.proofs.LastCallLemmas.{IsLast, is-last, last-cuts, past_then}
 use Rattle.gw_books.proofs.ListLemmas.{In, bytes-itself}
@@ -209,7 +209,7 @@ cut-pt-plays laws pt settings log v past exchanges o ok hears p =
     let k = call-setup v (OwedCutPt pt) o.agrees.run ok in
     let r : IsLostRow v pt there.0 (link_lost_at v.scene pt) = lost-row v k pt there.0 there.1 in
     lost-plays settings v past exchanges pt (OwedCutPt pt) p last there.0 there.1 (called v.scene (CutPt pt)) refl refl still (λ number differs. not-number pt number (λ same. differs (sym same))) (λ number differs. refl)
-    (filter (λ (link : MadeLink). not (bytes_eq link.poi (poi_of_number v.scene pt))) past.lasting)
+    (filter (λ (link : MadeLink). not (bytes_eq link.numbering.poi (poi_of_number v.scene pt))) past.lasting)
     (link_lost_at v.scene pt) (later v.calls) r.core r.items (spare-calls v pt there.0 (link_lost_at v.scene pt) (later v.calls) r last.none_later)
   where
     still : StillThere v.scene.outside.links (without v.scene.outside.links pt)
@@ -250,7 +250,7 @@ module _ (laws : PeerLaws) (settings : List ℕ → Setting) (log : List Turn) (
   registering = after_command (record old { awaited = 0 }) (registration old.pt) Registering v.scene.outside.moment
 
   abbrev made_link : MadeLink
-  made_link = record { place = past.place; poi = poi_of_number v.scene pt; records = length v.scene.kept }
+  made_link = record { place = past.place; numbering = numbering_of_number v.scene pt; records = length v.scene.kept }
 
   abbrev linked_past : Past
   linked_past = past_then past past.commands (made_link ∷ past.links) (made_link ∷ past.lasting) past.replies past.deeds

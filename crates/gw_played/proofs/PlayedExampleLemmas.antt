@@ -32,7 +32,7 @@ use Rattle.gw_rules.proofs.RowExampleLemmas.{formed}
 use Rattle.gw_rules.proofs.TestedLemmas.{course-tested}
 use Rattle.gw_rules.proofs.TextLemmas.{bytes-tested}
 use Rattle.gw_books.specs.Books.{BookedEntry}
-use Rattle.gw_books.specs.Example.{payment_text, authorise, keeping_moves, asked_course, refused_moves, refused_course, first_link}
+use Rattle.gw_books.specs.Example.{payment_text, authorise, keeping_moves, asked_course, refused_moves, refused_course, first_numbering, first_link}
 use Rattle.gw_books.specs.Past.{MadeLink, Past, past_of}
 use Rattle.gw_books.proofs.CourseLemmas.{asked-lawful, declining-lawful}
 use Rattle.gw_books.proofs.ExampleLemmas.{refused-past}
@@ -222,11 +222,11 @@ unperformed-lean = lean-course (next_run_moves ++ reporting_none_later_moves)
 
 -- its second link, at this place, once the Intent was kept
 abbrev second_link : ℕ → MadeLink
-second_link place = record { place = place; poi = codes "T1"; records = 1 }
+second_link place = record { place = place; numbering = first_numbering; records = 1 }
 
 -- the link is of the terminal
 abbrev is_of_terminal : MadeLink → Bool
-is_of_terminal link = list_any (bytes_eq link.poi) (codes "T1" ∷ [])
+is_of_terminal link = list_any (bytes_eq link.numbering.poi) (codes "T1" ∷ [])
 
 -- where each link that was made is of the terminal, it is the one that was linked
 pub all-linked : (past : Past) (links : List MadeLink) → past.links ≡ links → list_all is_of_terminal links ≡ true → HaveAllLinked (codes "T1" ∷ []) past

@@ -244,7 +244,7 @@ IsOfCommand sent poi (Reported trace figures) = Unit {0}
 
 -- a terminal of this POIID was linked
 abbrev pub WasLinked : List MadeLink → List ℕ → Type 0
-WasLinked links poi = (link : MadeLink) × In link links × (link.poi ≡ poi)
+WasLinked links poi = (link : MadeLink) × In link links × (link.numbering.poi ≡ poi)
 
 -- ---- items
 

@@ -130,7 +130,7 @@ honest-together book pois past apart linked falling ends honest = record {
         let known = ends end within in
         let made = known.1 in
         let at = in-at past.links made.0 made.1 in
-        let among : list_any (bytes_eq end.numbering.poi) pois ≡ true = any-of end.numbering.poi made.0.poi made.2 (linked at.0 made.0 at.1) in
+        let among : list_any (bytes_eq end.numbering.poi) pois ≡ true = any-of end.numbering.poi made.0.numbering.poi made.2 (linked at.0 made.0 at.1) in
         let there = any-in (bytes_eq end.numbering.poi) pois among in
         let inside : In end.numbering.poi pois = subst (λ (p : List ℕ). In p pois) (sym (bytes-are end.numbering.poi there.0 there.2)) there.1 in
         true-within (book end.numbering.poi) (flat_map book pois) end end.ending (λ entry of. to-all book pois end.numbering.poi entry inside of) (own-ending end end.ending known.0) (only-own book own end pois apart among)

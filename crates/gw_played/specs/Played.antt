@@ -124,7 +124,7 @@ AreApart (poi ∷ pois) = (list_any (bytes_eq poi) pois ≡ false) × AreApart p
 
 -- those of all terminals that were linked are among these
 abbrev pub HaveAllLinked : List (List ℕ) → Past → Type 0
-HaveAllLinked pois past = (at : ℕ) (link : MadeLink) → slice_get past.links at ≡ Some link → list_any (bytes_eq link.poi) pois ≡ true
+HaveAllLinked pois past = (at : ℕ) (link : MadeLink) → slice_get past.links at ≡ Some link → list_any (bytes_eq link.numbering.poi) pois ≡ true
 
 -- along each lawful log whose terminals are played ones, with whatever settings, their book is honest
 abbrev pub PlayedIsHonest : Type 0
