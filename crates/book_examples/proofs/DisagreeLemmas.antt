@@ -40,7 +40,7 @@ use Rattle.gw_books.specs.Said.{all_said, IsFramed}
 use Rattle.gw_books.proofs.BrokenLemmas.{no-false, not-true, breaks-by, last-refused}
 use Rattle.gw_books.proofs.ExampleLemmas.{Agreement, each-agrees, header-within, approved-within, success-framed, refusal-framed}
 use Rattle.gw_books.proofs.MessageLemmas.{reply-framed}
-use Rattle.book_examples.specs.DisagreeExample.{twice_course, twice_booked, course_sent, status_asking_header, course_replied, unresolved_course, TwiceDisagrees, EntriesOfOneKey, KeylessDisagrees, UnbookedDisagrees, LaterEntryDisagrees, ProgressDisagrees, UnacceptedDisagrees, SameContentDisagrees, OtherContentAgrees, NotFoundDisagrees, RepeatAgrees, OtherRepeatDisagrees, OutsideDisagrees, UnresolvedDisagrees, WaitingIsInProgress, UnreportedMayBeOpen, LinksEnd, UncausedBooks, DisorderedBooks, UntrueBooks, ReportedBooks, other_numbering}
+use Rattle.book_examples.specs.DisagreeExample.{twice_course, twice_booked, course_sent, status_asking_header, course_replied, unresolved_course, TwiceDisagrees, EntriesOfOneKey, KeylessDisagrees, UnbookedDisagrees, LaterEntryDisagrees, ProgressDisagrees, UnacceptedDisagrees, SameContentDisagrees, OtherContentAgrees, NotFoundDisagrees, RepeatAgrees, OtherRepeatDisagrees, OutsideDisagrees, UnresolvedDisagrees, WaitingIsInProgress, UnreportedMayBeOpen, LinksEnd, UncausedBooks, DisorderedBooks, UntrueBooks, ReportedBooks, OtherTerminalBooks, other_numbering}
 use Rattle.book_examples.specs.Example.{later_entry}
 
 -- ---- commands
@@ -406,6 +406,12 @@ reported-books = record {
   approved = record { caused = refl; linked = refl; ordered = refl; numbered = refl; true_ends = refl };
   declined = record { caused = refl; linked = refl; ordered = refl; numbered = refl; true_ends = refl };
   refused = record { caused = refl; linked = refl; ordered = refl; numbered = refl; true_ends = refl };
+}
+
+pub other-terminal-books : OtherTerminalBooks
+other-terminal-books = record {
+  entry = record { caused = refl; linked = refl; ordered = refl; numbered = refl; true_ends = refl };
+  link = record { caused = refl; linked = refl; ordered = refl; numbered = refl; true_ends = refl };
 }
 
 pub waiting-is-in-progress : WaitingIsInProgress

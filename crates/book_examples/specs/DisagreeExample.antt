@@ -22,7 +22,7 @@ use Rattle.gw_books.specs.Kinds.{BookedRefund, BookedReversal}
 use Rattle.gw_books.specs.Agrees.{are_distinct_keys, entry_key, EachSaid, success_agrees, unaccepted_agrees, in_progress_agrees, report_resolves}
 use Rattle.gw_books.specs.Books.{BookedEntry, Honest}
 use Rattle.gw_books.specs.BrokenLaws.{BreaksAgreement}
-use Rattle.gw_books.specs.Example.{opened_moves, payment_key, payment_occasion, refused_past, asked_past, paying_header, payment_ask, authorise, asked_course, first_numbering, approved_mark, paid_result_body, paid_course, paid_reply, refusal_reply, paid_past, paid_entry, entry_in_time, older_entry, paid_figures}
+use Rattle.gw_books.specs.Example.{opened_moves, payment_key, payment_occasion, refused_past, asked_past, paying_header, payment_ask, authorise, asked_course, first_numbering, first_link, approved_mark, paid_result_body, paid_course, paid_reply, refusal_reply, paid_past, paid_entry, entry_in_time, older_entry, paid_figures}
 use Rattle.gw_books.specs.Past.{Numbering, Ending, Declined, Reported, SentReply, MadePoll, Past, past_of}
 use Rattle.gw_books.specs.ReversalExample.{misasked_course}
 use Rattle.gw_books.specs.SaidLaws.{said_by_reply}
@@ -212,3 +212,8 @@ pub record ReportedBooks : Type 0 where
   pub approved : Honest (past_with_end (Reported 123 (Some paid_figures))) (paid_entry ∷ [])
   pub declined : Honest (past_with_end (Reported 123 None)) (record paid_entry { approved = false } ∷ [])
   pub refused : Honest refused_past (record paid_entry { approved = false } ∷ [])
+
+-- what is honest whatever another terminal does: its entry with a greater number comes first, or it is linked between a command and its entry
+pub record OtherTerminalBooks : Type 0 where
+  pub entry : Honest asked_past (record paid_entry { numbering = other_numbering; place = 0; cause = None; number = 200 } ∷ paid_entry ∷ [])
+  pub link : Honest (record asked_past { links = record first_link { place = 23; numbering = other_numbering } ∷ asked_past.links }) (paid_entry ∷ [])

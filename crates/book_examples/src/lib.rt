@@ -2,7 +2,7 @@
 #![tactic(auto)]
 
 ghost use Rattle.book_examples.specs.DayExample.{SettledAgrees, SettledHasPast};
-ghost use Rattle.book_examples.specs.DisagreeExample.{DisorderedBooks, EntriesOfOneKey, KeylessDisagrees, LaterEntryDisagrees, LinksEnd, NotFoundDisagrees, OtherContentAgrees, OtherRepeatDisagrees, OutsideDisagrees, ProgressDisagrees, RepeatAgrees, ReportedBooks, SameContentDisagrees, TwiceDisagrees, UnacceptedDisagrees, UnbookedDisagrees, UncausedBooks, UnreportedMayBeOpen, UnresolvedDisagrees, UntrueBooks, WaitingIsInProgress};
+ghost use Rattle.book_examples.specs.DisagreeExample.{DisorderedBooks, EntriesOfOneKey, KeylessDisagrees, LaterEntryDisagrees, LinksEnd, NotFoundDisagrees, OtherContentAgrees, OtherRepeatDisagrees, OtherTerminalBooks, OutsideDisagrees, ProgressDisagrees, RepeatAgrees, ReportedBooks, SameContentDisagrees, TwiceDisagrees, UnacceptedDisagrees, UnbookedDisagrees, UncausedBooks, UnreportedMayBeOpen, UnresolvedDisagrees, UntrueBooks, WaitingIsInProgress};
 ghost use Rattle.book_examples.specs.Example.{AskedHasPast, LostAgrees, LostHasPast, PaidAgrees, PaidHasPast, RefusedAgrees, RefusedHasPast};
 ghost use Rattle.book_examples.specs.KindExample.{KindsOfCommands};
 ghost use Rattle.book_examples.specs.QueuedExample.{DayIsInProgress, QueuedAgrees, QueuedHasPast, TakenOutDisagrees};
@@ -19,7 +19,8 @@ ghost use Rattle.book_examples.specs.QueuedExample.{DayIsInProgress, QueuedAgree
 /// accepted said not to be found; a write for bytes outside the grammars; a key that is open since before its link at a poll after an
 /// enquiry has reported, while the link lasts. What isn't honest: an entry without its command, of another kind or at another terminal
 /// than its command, or after its link was replaced; numbers and places that fall, and two entries of one command; an end of a dialogue
-/// that isn't true of the book. The first two bytes of a command say its kind: `06 01` a payment and `06 30` a reversal.
+/// that isn't true of the book. What another terminal books, and that it is linked, breaks no honesty. The first two bytes of a command
+/// say its kind: `06 01` a payment and `06 30` a reversal.
 pub fn law_examples()
     ensures asked { AskedHasPast }
     ensures paid { PaidHasPast }
@@ -55,5 +56,6 @@ pub fn law_examples()
     ensures disordered_books { DisorderedBooks }
     ensures untrue_books { UntrueBooks }
     ensures reported_books { ReportedBooks }
+    ensures other_books { OtherTerminalBooks }
     ensures kinds { KindsOfCommands }
 {}

@@ -1,7 +1,7 @@
 -- The examples.
 use Rattle.book_examples.proofs.CourseLemmas.{lost-has-past, paid-has-past, refused-has-past}
 use Rattle.book_examples.proofs.DayExampleLemmas.{settled-agrees, settled-has-past}
-use Rattle.book_examples.proofs.DisagreeLemmas.{disordered-books, entries-of-one-key, keyless-disagrees, later-entry-disagrees, links-end, not-found-disagrees, other-content-agrees, other-repeat-disagrees, outside-disagrees, progress-disagrees, repeat-agrees, reported-books, same-content-disagrees, twice-disagrees, unaccepted-disagrees, unbooked-disagrees, uncaused-books, unreported-may-be-open, unresolved-disagrees, untrue-books, waiting-is-in-progress}
+use Rattle.book_examples.proofs.DisagreeLemmas.{disordered-books, entries-of-one-key, keyless-disagrees, later-entry-disagrees, links-end, not-found-disagrees, other-content-agrees, other-repeat-disagrees, other-terminal-books, outside-disagrees, progress-disagrees, repeat-agrees, reported-books, same-content-disagrees, twice-disagrees, unaccepted-disagrees, unbooked-disagrees, uncaused-books, unreported-may-be-open, unresolved-disagrees, untrue-books, waiting-is-in-progress}
 use Rattle.book_examples.proofs.ExampleLemmas.{asked-has-past, lost-agrees, paid-agrees, refused-agrees}
 use Rattle.book_examples.proofs.KindExampleLemmas.{kinds-of-commands}
 use Rattle.book_examples.proofs.QueuedExampleLemmas.{day-is-in-progress, queued-agrees, queued-has-past, taken-out-disagrees}
@@ -108,6 +108,9 @@ returns-clause-untrue_books c = untrue-books
 
 pub returns-clause-reported_books : goal.returns-clause-reported_books
 returns-clause-reported_books c = reported-books
+
+pub returns-clause-other_books : goal.returns-clause-other_books
+returns-clause-other_books c = other-terminal-books
 
 pub returns-clause-kinds : goal.returns-clause-kinds
 returns-clause-kinds c = kinds-of-commands
