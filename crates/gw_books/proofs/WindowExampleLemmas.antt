@@ -1,5 +1,5 @@
 -- Which records and books of the examples match, and which don't.
-use Rattle.std.proofs.Common.{◌≡◌, ◌≤◌, ◌<◌, ℕ, zero, suc, true, List, [], ◌∷◌, Some, None, slice_get, refl, sym, ap, subst, arith}
+use Rattle.std.proofs.Common.{◌≡◌, ◌≤◌, ◌<◌, ℕ, zero, suc, true, false, List, [], ◌∷◌, Some, None, slice_get, refl, sym, ap, subst, arith}
 use Rattle.std.proofs.lemmas.Option.{same_Some}
 use Rattle.std.specs.List.{list_all}
 use Rattle.zvt_apdu.specs.DecodeStream.{decode_apdus, decode_apdus_within}
@@ -9,6 +9,7 @@ use Rattle.jrn_record.specs.declared.records.Outcome.{Outcome as TheOutcome}
 use Rattle.jrn_record.specs.declared.records.Record.{Record}
 use Rattle.jrn_record.specs.declared.records.Record.TheVariants.{Intent, Outcome}
 use Rattle.gw_ledger.specs.History.{history}
+use Rattle.gw_ledger.specs.Slots.{intent_at}
 use Rattle.gw_owes.proofs.RecordLemmas.{LedgerLaws}
 use Rattle.gw_rules.specs.Lawful.{turns_of}
 use Rattle.gw_rules.proofs.RecordRowLemmas.{OrderLaws}
@@ -16,10 +17,10 @@ use Rattle.gw_books.specs.Past.{Numbering, is_numbering, numbering_of, Past, pas
 use Rattle.gw_books.specs.Books.{BookedEntry, Honest}
 use Rattle.gw_books.specs.Example.{kept_approval, kept_decline, paid_entry, payment_text, paying_intent, refused_course, refused_past}
 use Rattle.gw_books.specs.RecoveryLaws.{is_as_asked}
-use Rattle.gw_books.specs.ReversalExample.{paid_kept, reversed_book, reversed_course, reversed_entry, reversed_past}
+use Rattle.gw_books.specs.ReversalExample.{paid_kept, reversed_book, reversed_course, reversed_entry, reversed_kept, reversed_past, reversing_intent}
 use Rattle.gw_books.specs.ReversalLaws.{kept_after}
 use Rattle.gw_books.specs.TillLaws.{declined_entry}
-use Rattle.gw_books.specs.WindowExample.{ComingDoesNotMatch, RefusedMatches, ReversedMatches, UnmatchedBooks, coming_entry, refused_kept}
+use Rattle.gw_books.specs.WindowExample.{ComingDoesNotMatch, RefusedMatches, ReversedMatches, UnmatchedBooks, WindowEnds, coming_entry, refused_kept}
 use Rattle.gw_books.specs.Windows.{HasItsEntry, IsApprovedInWindow, IsNextIntent, Matches, is_caused_before}
 use Rattle.gw_books.proofs.BrokenLemmas.{no-false}
 use Rattle.gw_books.proofs.CourseLemmas.{refused-lean}
@@ -66,6 +67,41 @@ lone-window outcome entry same approved above = record { numbering_is = same; ap
     none (suc zero) other is = let clash : None ≡ Some other = is.intent_is in absurd cc
     none (suc (suc next)) other is = let clash : None ≡ Some other = is.intent_is in absurd cc
 
+-- ---- where windows end
+
+-- the reversal is the next Intent after the payment
+next-is : IsNextIntent reversed_kept 0 (numbering_of paying_intent) 2 reversing_intent
+next-is = record { intent_is = refl; numbering_is = refl; later = omega arith; first = none }
+  where
+    none : (between : ℕ) (other : TheIntent) → 0 < between → between < 2 → intent_at reversed_kept between ≡ Some other → numbering_of other ≡ numbering_of paying_intent → ⊥
+    none zero other follows until is same = absurd (omega (arith, follows))
+    none (suc zero) other follows until is same = let clash : None ≡ Some other = is in cc
+    none (suc (suc between)) other follows until is same = absurd (omega (arith, until))
+
+-- after the reversal there is none
+none-next : (next : ℕ) (other : TheIntent) → IsNextIntent reversed_kept 2 (numbering_of reversing_intent) next other → 124 ≤ other.before
+none-next zero other is = let follows = is.later in absurd (omega (arith, follows))
+none-next (suc zero) other is = let follows = is.later in absurd (omega (arith, follows))
+none-next (suc (suc zero)) other is = let follows = is.later in absurd (omega (arith, follows))
+none-next (suc (suc (suc zero))) other is = let clash : None ≡ Some other = is.intent_is in absurd cc
+none-next (suc (suc (suc (suc next)))) other is = let clash : None ≡ Some other = is.intent_is in absurd cc
+
+-- each Intent after the payment's is the reversal's
+until-next : (next : ℕ) (other : TheIntent) → IsNextIntent reversed_kept 0 (numbering_of paying_intent) next other → 123 ≤ other.before
+until-next zero other is = let follows = is.later in absurd (omega (arith, follows))
+until-next (suc zero) other is = let clash : None ≡ Some other = is.intent_is in absurd cc
+until-next (suc (suc zero)) other is = let before : 123 ≡ other.before = ap (λ (intent : TheIntent). intent.before) (same_Some reversing_intent other is.intent_is) in omega (arith, before)
+until-next (suc (suc (suc zero))) other is = let clash : None ≡ Some other = is.intent_is in absurd cc
+until-next (suc (suc (suc (suc next)))) other is = let clash : None ≡ Some other = is.intent_is in absurd cc
+
+pub window-ends : WindowEnds
+window-ends = record {
+  lower = λ is. let above : 123 < 123 = is.above in omega (arith, above);
+  first = record { above = omega arith; within = none-next };
+  last = record { above = omega arith; within = until-next };
+  upper = λ is. let below : 124 ≤ 123 = is.within 2 reversing_intent next-is in omega (arith, below);
+}
+
 -- ---- a command that is still to come
 
 coming-honest : Honest refused_past (coming_entry ∷ [])
@@ -78,6 +114,7 @@ pub coming-does-not-match : ComingDoesNotMatch
 coming-does-not-match = record {
   lean = refused-lean;
   honest = subst (λ (past : Past). Honest past (coming_entry ∷ [])) (sym refused-past) coming-honest;
+  no_premise = subst (λ (past : Past). list_all (is_caused_before past.place) (coming_entry ∷ []) ≡ false) (sym refused-past) refl;
   apart = λ matches. coming-apart (subst (λ (records : List Record). Matches records (coming_entry ∷ [])) kept-refused matches);
 }
 

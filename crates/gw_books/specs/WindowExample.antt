@@ -1,5 +1,5 @@
 -- Closed examples of records and books that match, and of those that don't.
-use Rattle.std.specs.Prelude.{◌≡◌, true, codes, List, [], ◌∷◌, Some}
+use Rattle.std.specs.Prelude.{◌≡◌, true, false, codes, List, [], ◌∷◌, Some}
 use Rattle.std.specs.List.{list_all}
 use Rattle.jrn_record.specs.declared.records.Record.{Record}
 use Rattle.jrn_record.specs.declared.records.Record.TheVariants.{Intent, Outcome}
@@ -9,10 +9,19 @@ use Rattle.gw_books.specs.Kinds.{BookedReversal}
 use Rattle.gw_books.specs.Past.{past_of}
 use Rattle.gw_books.specs.Books.{BookedEntry, Honest}
 use Rattle.gw_books.specs.Example.{kept_approval, kept_decline, paid_entry, paying_intent, refused_course}
-use Rattle.gw_books.specs.ReversalExample.{paid_kept, reversed_book, reversed_course, reversed_entry, reversed_kept}
+use Rattle.gw_books.specs.ReversalExample.{paid_kept, reversed_book, reversed_course, reversed_entry, reversed_kept, reversing_intent}
 use Rattle.gw_books.specs.ReversalLaws.{kept_after}
 use Rattle.gw_books.specs.TillLaws.{declined_entry}
-use Rattle.gw_books.specs.Windows.{Matches, is_caused_before}
+use Rattle.gw_books.specs.Windows.{IsInWindow, Matches, is_caused_before}
+
+-- ---- windows
+
+-- the window of the payment that is then reversed ends with the trace number before its reversal, above which the reversal's begins
+pub record WindowEnds : Type 0 where
+  pub lower : ¬ IsInWindow reversed_kept 2 reversing_intent 123
+  pub first : IsInWindow reversed_kept 2 reversing_intent 124
+  pub last : IsInWindow reversed_kept 0 paying_intent 123
+  pub upper : ¬ IsInWindow reversed_kept 0 paying_intent 124
 
 -- ---- what matches
 
@@ -39,6 +48,7 @@ coming_entry = record paid_entry { place = 101; cause = Some 100; number = 124 }
 pub record ComingDoesNotMatch : Type 0 where
   pub lean : IsLeanCourse (turns_of refused_course) refused_course
   pub honest : Honest (past_of refused_course) (coming_entry ∷ [])
+  pub no_premise : list_all (is_caused_before (past_of refused_course).place) (coming_entry ∷ []) ≡ false
   pub apart : ¬ Matches (kept_after refused_course) (coming_entry ∷ [])
 
 -- records and books of which each is refused for one thing alone

@@ -13,7 +13,7 @@ ghost use Rattle.gw_books.specs.ReversalLaws.{EntryIsAsAsked, OnlyPaidIsReversed
 ghost use Rattle.gw_books.specs.RoundLaws.{ApprovalIsSaid, DeclineIsSaid, OwedIsDone, PaymentIsAsked};
 ghost use Rattle.gw_books.specs.SaidLaws.{EachReplyIsFramed, EachReplySays, EachSentIsFramed, OneMessageIsFramed};
 ghost use Rattle.gw_books.specs.TillLaws.{PaidIsSaid, RefusedIsNeverCharged, RefusedIsSaid, SuccessIsBooked};
-ghost use Rattle.gw_books.specs.WindowExample.{ComingDoesNotMatch, RefusedMatches, ReversedMatches, UnmatchedBooks};
+ghost use Rattle.gw_books.specs.WindowExample.{ComingDoesNotMatch, RefusedMatches, ReversedMatches, UnmatchedBooks, WindowEnds};
 ghost use Rattle.gw_books.specs.WindowLaws.{HonestMatches};
 
 /// What a till is sent says what its reply says: a reply its own category, key, result and condition, and that of a finished request its
@@ -173,15 +173,17 @@ pub fn law_recovery()
 /// those before it, and trace numbers rise along the entries of one numbering. The window of an Intent has the trace numbers above its
 /// number before, up to the number before of the next Intent of its numbering. It has at most one approved entry, and that has the
 /// Intent's key. The window of an approved key has its entry, of its kind, with its numbers and its amount, and that of a declined key
-/// has none. In the examples a payment is approved and then reversed, and the records match the book with both entries; and those of a
-/// declined payment match the book with its declined entry. An honest book with an entry whose command is still to come doesn't match
-/// a declined payment. Each part of the match has records and a book that it alone refuses.
+/// has none. In the examples a payment is approved and then reversed: the records match the book with both entries, and the window of the
+/// payment ends where that of the reversal begins. Those of a declined payment match the book with its declined entry. An honest book
+/// with an entry whose command is still to come doesn't match a declined payment. Each part of the match has records and a book that it
+/// alone refuses.
 pub fn law_windows()
     ensures matches { HonestMatches }
     ensures example { ReversedMatches }
     ensures declined { RefusedMatches }
     ensures coming { ComingDoesNotMatch }
     ensures unmatched { UnmatchedBooks }
+    ensures ends { WindowEnds }
 {
     gw_owes::law_records();
     gw_owes::law_waits();

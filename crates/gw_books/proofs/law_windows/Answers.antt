@@ -1,7 +1,7 @@
 -- Proof of the contract of `law_windows`.
 use Rattle.gw_owes.proofs.RecordLemmas.{LedgerLaws}
 use Rattle.gw_rules.proofs.RecordRowLemmas.{OrderLaws}
-use Rattle.gw_books.proofs.WindowExampleLemmas.{coming-does-not-match, refused-matches, reversed-matches, unmatched-books}
+use Rattle.gw_books.proofs.WindowExampleLemmas.{coming-does-not-match, refused-matches, reversed-matches, unmatched-books, window-ends}
 use Rattle.gw_books.proofs.WindowLemmas.{honest-matches}
 use Rattle.gw_books.proofs.law_windows.Goals as goal
 
@@ -37,3 +37,6 @@ returns-clause-declined c = refused-matches (order_laws c) (ledger_laws c)
 
 pub returns-clause-unmatched : goal.returns-clause-unmatched
 returns-clause-unmatched c = unmatched-books
+
+pub returns-clause-ends : goal.returns-clause-ends
+returns-clause-ends c = window-ends
