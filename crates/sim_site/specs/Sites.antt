@@ -2,6 +2,7 @@
 use Rattle.std.specs.Prelude.{◌≡◌, ℕ, Bool, false, not, ◌&&◌, if◌then◌else◌, List, [], ◌∷◌, ◌++◌, Option, Some, None, Ok, is_some, true, ◌||◌, Result, IsOk, IsErr}
 use Rattle.gw_bytes.specs.Bytes.{AreBytes}
 use Rattle.gw_base.specs.declared.setup.Setup.{Setup}
+use Rattle.gw_site.specs.Failures.{HasCause, faults_after}
 use Rattle.gw_site.specs.Image.{Image}
 use Rattle.gw_site.specs.Observed.{Observed}
 use Rattle.gw_site.specs.Outside.{Outside, outside_of}
@@ -86,6 +87,11 @@ IsReturned false result = IsOk result
 -- what a call returns on a site that wasn't dark: a failure exactly where it is to fail or the log could not grow; else Ok, also where the power fails with it
 abbrev pub IsResult : {T E : Type 0} → SimSite → SimSite → Bool → Result T E → Type 0
 IsResult old new fails result = (sim_observed old).dark ≡ false → IsReturned (fails || is_log_full new) result
+
+-- the count of failures has a cause, and is one more exactly where the call has failed
+pub record IsCounted {T E : Type 0} (before now : ℕ) (result : Result T E) : Type 0 where
+  pub cause : HasCause before now result
+  pub exact : now ≡ faults_after before result
 
 -- nothing was played, and nothing appended
 pub record IsStill (old new : SimSite) : Type 0 where

@@ -1,7 +1,7 @@
 //! The site in memory.
 ghost use Rattle.std.specs.Prelude.{◌≡◌, ◌≤◌, ◌<◌, ◌⊎◌, ◌↔◌, ◌∷◌, ◌||◌, ◌==◌, ℕ, [], length, Some, Ok, true, false, IfOk, IfErr, OnOk, OnErr, IsErr, IsErrOf};
 ghost use Rattle.gw_base.specs.Setup.{IsSetup};
-ghost use Rattle.gw_site.specs.Failures.{HasCause, Rose};
+ghost use Rattle.gw_site.specs.Failures.{one_more};
 ghost use Rattle.gw_site.specs.Observed.{Grows, GrowsWhole, IfObserved, IsStep};
 ghost use Rattle.gw_site.specs.Outside.{file_part, outside_of};
 ghost use Rattle.gw_site.specs.Turns.{DiskTurns, IsPromised, IsTurn, IsWithinBuf, LinkTurns, OpenTurns, PolledTurns, SentPtTurns, SentTillTurns, SyncedTurns, WroteTurns};
@@ -39,7 +39,7 @@ pub struct SimSite {
 
 /// A count of failures after one more; it stays at its last value.
 fn risen(faults: u64) -> u64
-    ensures rose { Rose faults result }
+    ensures exact { result ≡ one_more faults }
     ensures later { faults ≤ result }
 {
     faults.saturating_add(1)
@@ -47,7 +47,7 @@ fn risen(faults: u64) -> u64
 
 impl SimSite {
     ghost use Rattle.sim_site.specs.Made.{IsCallReported};
-    ghost use Rattle.sim_site.specs.Sites.{IsOriginPlayedTo, IsOriginSetup, IsRestarted, IsSame, PlaysOrigin, TakesStep, is_crashed, is_log_full, log_of, origin_beside, outside_there, place_of, played_script, sim_observed};
+    ghost use Rattle.sim_site.specs.Sites.{IsCounted, IsOriginPlayedTo, IsOriginSetup, IsRestarted, IsSame, PlaysOrigin, TakesStep, is_crashed, is_log_full, log_of, origin_beside, outside_there, place_of, played_script, sim_observed};
 
     /// A site that plays the script of these bytes, of which it keeps none.
     pub fn from_script(alloc: Global, bytes: &Bytes) -> Result<SimSite, ScriptFault>
@@ -189,7 +189,7 @@ impl SimSite {
 
     /// Counts a failure.
     fn fail(&mut self) -> Failed
-        ensures rose { Rose self.old.faults self.new.faults }
+        ensures exact { self.new.faults ≡ one_more self.old.faults }
         ensures later { self.old.faults ≤ self.new.faults }
         ensures played { self.new.played ≡ self.old.played }
     {
@@ -200,7 +200,7 @@ impl SimSite {
     /// What a call returns: it failed, or memory was refused for it, or it was made.
     fn report(&mut self, made: Result<bool, AllocError>) -> Result<(), Failed>
         ensures reported { IsCallReported made result }
-        ensures cause { HasCause self.old.faults self.new.faults result }
+        ensures counted { IsCounted self.old.faults self.new.faults result }
         ensures played { self.new.played ≡ self.old.played }
     {
         match made {
@@ -223,14 +223,14 @@ impl SimSite {
 impl Site for SimSite {
     ghost use Rattle.std.specs.Prelude.{is_some};
     ghost use Rattle.gw_script.specs.site.Hazards.{is_failing, takes_most};
-    ghost use Rattle.sim_site.specs.Sites.{IsCalled, IsResult, IsStill, place_of, played_script, sim_observed};
+    ghost use Rattle.sim_site.specs.Sites.{IsCalled, IsCounted, IsResult, IsStill, place_of, played_script, sim_observed};
 
     ghost observed = { sim_observed };
 
     fn open(&mut self, setup: &Setup) -> Result<(), Failed>
         ensures turns { GrowsWhole (sim_observed self.old) (sim_observed self.new) (OpenTurns setup.now result) }
         ensures step { IsStep (sim_observed self.old) (sim_observed self.new) (OpenCall setup.now) }
-        ensures cause { HasCause (sim_observed self.old).faults (sim_observed self.new).faults result }
+        ensures counted { IsCounted (sim_observed self.old).faults (sim_observed self.new).faults result }
         ensures dark { (sim_observed self.old).dark ≡ true → IsErr result }
         ensures call { IsCalled self.old self.new (OpenCall setup.now) }
         ensures result { IsResult self.old self.new ((place_of self.old).hazard.fail_open) result }
@@ -250,7 +250,7 @@ impl Site for SimSite {
         ensures promise { IfObserved (sim_observed self.old) (λ log. IsPromised (outside_of log) result.what) }
         ensures count { IsWithinBuf result.what }
         ensures buf { length buf.new ≡ 4096 }
-        ensures cause { (sim_observed self.old).faults ≤ (sim_observed self.new).faults }
+        ensures faults { (sim_observed self.new).faults ≡ (sim_observed self.old).faults }
         ensures dark { (sim_observed self.old).dark ≡ true → result.what ≡ What.Stopped }
         ensures call { IsCalled self.old self.new PollCall }
         ensures stops { (sim_observed self.new).dark ≡ true → result.what ≡ What.Stopped }
@@ -269,7 +269,7 @@ impl Site for SimSite {
     fn send_till(&mut self, till: u64, bytes: &[u8]) -> Result<(), Failed>
         ensures turns { Grows (sim_observed self.old) (sim_observed self.new) (SentTillTurns till bytes.now result) }
         ensures step { IsStep (sim_observed self.old) (sim_observed self.new) (SendTillCall till bytes.now) }
-        ensures cause { HasCause (sim_observed self.old).faults (sim_observed self.new).faults result }
+        ensures counted { IsCounted (sim_observed self.old).faults (sim_observed self.new).faults result }
         ensures dark { (sim_observed self.old).dark ≡ true → IsErr result }
         ensures call { IsCalled self.old self.new (SendTillCall till bytes.now) }
         ensures result { IsResult self.old self.new (is_some (takes_most (place_of self.old).hazard.fail_tills till)) result }
@@ -286,7 +286,7 @@ impl Site for SimSite {
     fn send_pt(&mut self, pt: u16, bytes: &[u8]) -> Result<(), Failed>
         ensures turns { Grows (sim_observed self.old) (sim_observed self.new) (SentPtTurns pt bytes.now result) }
         ensures step { IsStep (sim_observed self.old) (sim_observed self.new) (SendPtCall pt bytes.now) }
-        ensures cause { HasCause (sim_observed self.old).faults (sim_observed self.new).faults result }
+        ensures counted { IsCounted (sim_observed self.old).faults (sim_observed self.new).faults result }
         ensures dark { (sim_observed self.old).dark ≡ true → IsErr result }
         ensures call { IsCalled self.old self.new (SendPtCall pt bytes.now) }
         ensures result { IsResult self.old self.new (is_some (takes_most (place_of self.old).hazard.fail_pts pt)) result }
@@ -303,7 +303,7 @@ impl Site for SimSite {
     fn link_pt(&mut self, pt: u16) -> Result<(), Failed>
         ensures turns { Grows (sim_observed self.old) (sim_observed self.new) (LinkTurns pt result) }
         ensures step { IsStep (sim_observed self.old) (sim_observed self.new) (LinkCall pt) }
-        ensures cause { HasCause (sim_observed self.old).faults (sim_observed self.new).faults result }
+        ensures counted { IsCounted (sim_observed self.old).faults (sim_observed self.new).faults result }
         ensures dark { (sim_observed self.old).dark ≡ true → IsErr result }
         ensures call { IsCalled self.old self.new (LinkCall pt) }
         ensures result { IsResult self.old self.new (is_failing (place_of self.old).hazard.fail_links pt) result }
@@ -320,7 +320,7 @@ impl Site for SimSite {
     fn cut_till(&mut self, till: u64)
         ensures turns { Grows (sim_observed self.old) (sim_observed self.new) (IsTurn (CutTill till)) }
         ensures step { IsStep (sim_observed self.old) (sim_observed self.new) (CutTillCall till) }
-        ensures cause { (sim_observed self.old).faults ≤ (sim_observed self.new).faults }
+        ensures faults { (sim_observed self.new).faults ≡ (sim_observed self.old).faults }
         ensures call { IsCalled self.old self.new (CutTillCall till) }
         ensures still { (sim_observed self.old).dark ≡ true → IsStill self.old self.new }
         ensures script { played_script self.new ≡ played_script self.old }
@@ -334,7 +334,7 @@ impl Site for SimSite {
     fn cut_pt(&mut self, pt: u16)
         ensures turns { Grows (sim_observed self.old) (sim_observed self.new) (IsTurn (CutPt pt)) }
         ensures step { IsStep (sim_observed self.old) (sim_observed self.new) (CutPtCall pt) }
-        ensures cause { (sim_observed self.old).faults ≤ (sim_observed self.new).faults }
+        ensures faults { (sim_observed self.new).faults ≡ (sim_observed self.old).faults }
         ensures call { IsCalled self.old self.new (CutPtCall pt) }
         ensures still { (sim_observed self.old).dark ≡ true → IsStill self.old self.new }
         ensures script { played_script self.new ≡ played_script self.old }
@@ -349,7 +349,7 @@ impl Site for SimSite {
         ensures turns { Grows (sim_observed self.old) (sim_observed self.new) (DiskTurns result) }
         ensures step { IsStep (sim_observed self.old) (sim_observed self.new) LengthCall }
         ensures length { IfObserved (sim_observed self.old) (λ log. IfOk result (λ count. count ≡ length (outside_of log).file)) }
-        ensures cause { HasCause (sim_observed self.old).faults (sim_observed self.new).faults result }
+        ensures counted { IsCounted (sim_observed self.old).faults (sim_observed self.new).faults result }
         ensures dark { (sim_observed self.old).dark ≡ true → IsErr result }
         ensures call { IsCalled self.old self.new LengthCall }
         ensures result { IsResult self.old self.new ((place_of self.old).hazard.fail_length) result }
@@ -370,7 +370,7 @@ impl Site for SimSite {
         ensures turns { Grows (sim_observed self.old) (sim_observed self.new) (DiskTurns result) }
         ensures step { IsStep (sim_observed self.old) (sim_observed self.new) (ReadCall offset (length buf.old)) }
         ensures bytes { IfObserved (sim_observed self.old) (λ log. IfOk result (λ done. buf.new ≡ file_part (outside_of log).file offset (length buf.old))) }
-        ensures cause { HasCause (sim_observed self.old).faults (sim_observed self.new).faults result }
+        ensures counted { IsCounted (sim_observed self.old).faults (sim_observed self.new).faults result }
         ensures dark { (sim_observed self.old).dark ≡ true → IsErr result }
         ensures call { IsCalled self.old self.new (ReadCall offset (length buf.old)) }
         ensures result { IsResult self.old self.new ((place_of self.old).hazard.fail_read) result }
@@ -393,7 +393,7 @@ impl Site for SimSite {
     fn write_at(&mut self, offset: u64, bytes: &[u8]) -> Result<(), Failed>
         ensures turns { Grows (sim_observed self.old) (sim_observed self.new) (WroteTurns offset bytes.now result) }
         ensures step { IsStep (sim_observed self.old) (sim_observed self.new) (WriteCall offset bytes.now) }
-        ensures cause { HasCause (sim_observed self.old).faults (sim_observed self.new).faults result }
+        ensures counted { IsCounted (sim_observed self.old).faults (sim_observed self.new).faults result }
         ensures dark { (sim_observed self.old).dark ≡ true → IsErr result }
         ensures call { IsCalled self.old self.new (WriteCall offset bytes.now) }
         ensures result { IsResult self.old self.new ((place_of self.old).hazard.fail_write) result }
@@ -410,7 +410,7 @@ impl Site for SimSite {
     fn sync(&mut self) -> Result<(), Failed>
         ensures turns { Grows (sim_observed self.old) (sim_observed self.new) (SyncedTurns result) }
         ensures step { IsStep (sim_observed self.old) (sim_observed self.new) SyncCall }
-        ensures cause { HasCause (sim_observed self.old).faults (sim_observed self.new).faults result }
+        ensures counted { IsCounted (sim_observed self.old).faults (sim_observed self.new).faults result }
         ensures dark { (sim_observed self.old).dark ≡ true → IsErr result }
         ensures call { IsCalled self.old self.new SyncCall }
         ensures result { IsResult self.old self.new ((place_of self.old).hazard.fail_sync) result }
