@@ -1,5 +1,5 @@
 -- What calls and polls add to the log: those that aren't on the disk leave a journal standing, one part of a log follows another, and after which memory may be refused.
-use Rattle.std.proofs.Common.{◌≡◌, ◌≤◌, ◌<◌, ℕ, ◌+◌, ◌*◌, List, [], ◌∷◌, ◌++◌, length, get_or, refl, sym, ◌∙◌, ap, subst, arith, append-nil, inl, inr}
+use Rattle.std.proofs.Common.{◌≡◌, ◌⊎◌, ◌≤◌, ◌<◌, ℕ, ◌+◌, ◌*◌, List, [], ◌∷◌, ◌++◌, length, get_or, refl, sym, ◌∙◌, ap, subst, arith, append-nil, inl, inr}
 use Rattle.std.proofs.lemmas.List.{append_assoc}
 use Rattle.std.specs.Prelude.{ℤ, if◌then◌else◌, nat_le, take, Bool, true, false, Option, Some, None, Result, Ok, Err}
 use Rattle.gw_site.specs.Failures.{HasCause, Rose}
@@ -11,7 +11,7 @@ use Rattle.gw_site.specs.declared.site.Polled.{Polled}
 use Rattle.gw_site.specs.declared.site.What.{What}
 use Rattle.gw_site.specs.declared.site.What.TheVariants as whats
 use Rattle.gw_site.specs.declared.turn.Turn.{Turn}
-use Rattle.gw_site.specs.declared.turn.Turn.TheVariants.{CutPt, CutTill, HeardTill, Opened, SentPt, SentTill, Synced, Polled as PolledTurn}
+use Rattle.gw_site.specs.declared.turn.Turn.TheVariants.{CutPt, CutTill, HeardTill, Opened, SentPt, SentTill, Synced, Polled as PolledTurn, Stopped as StopTurn}
 use Rattle.gw_site.proofs.OutsideLemmas.{outside_of-append}
 use Rattle.jrn_log.specs.Journal.{IsAtRest, JournalValue, StandsFor}
 use Rattle.jrn_log.specs.JournalTurns.{AppendTurns, FailedTurns, OpeningTurns, first_gate_write}
@@ -19,8 +19,9 @@ use Rattle.jrn_log.specs.Slots.{AreSlots}
 use Rattle.jrn_log.specs.declared.fault.OpenFault.{OpenFault}
 use Rattle.jrn_log.specs.declared.fault.OpenFault.TheVariants.{Disk as JournalDisk, TooLong, Cut, Memory}
 use Rattle.jrn_log.proofs.SequenceLemmas.{added_whole}
-use Rattle.gw_dispatch.specs.Growth.{AddsPolls, AreOutcomes, EndsForMemory, EndsForMemorySince, EndsRoundForMemory, GoesOnByCalls, GoesOnByPolls, HasGoneOn, GoesOnBesideDisk, HasBroken, LastTakesMemory, polls_in, polls_of, takes_memory}
-use Rattle.gw_dispatch.specs.Rounds.{IsOfTill}
+use Rattle.gw_dispatch.specs.Growth.{AddsPolls, AreOutcomes, EndsForMemory, EndsForMemorySince, EndsRoundForMemory, GoesOnByCalls, GoesOnByPolls, HasGoneOn, GoesOnBesideDisk, HasBroken, LastTakesMemory, MakesPolls, EndsWithStop, PollsToEnd, polls_in, polls_of, takes_memory}
+use Rattle.gw_dispatch.specs.Rounds.{HasPolledOnce, IsOfTill}
+use Rattle.gw_dispatch.specs.declared.engine.RoundEnd.TheVariants.{Went, Stopped}
 
 -- ---- outcomes of calls
 
@@ -195,6 +196,26 @@ was-polled a b result buf grows later = record {
       (x.1, x.4, omega (arith, few, once));
 }
 
+-- one that brought this event was exactly one
+polled-exactly : (a b : Observed) (result : Polled) (buf : List ℕ) → Grows a b (PolledTurns result buf) → IfObserved a (λ before. MakesPolls 1 before b)
+polled-exactly a b result buf grows before e = let x = grows.observed before e in by_dark a.dark b.dark x.0 x.1 refl x.2 x.3 x.4
+  where
+    by_dark : (d n : Bool) (turns added : List Turn) → b.dark ≡ n → PolledTurns result buf turns → Added d n turns added → b.log ≡ Some (before ++ added) → MakesPolls 1 before b
+    by_dark true true turns added dark t a log = inl dark
+    by_dark true false turns added dark t a log = absurd a
+    by_dark false true turns added dark t a log = inl dark
+    by_dark false false turns added dark t a log = inr (added, log, ap polls_in (a ∙ t) ∙ polled-once result.now result.what buf)
+
+-- a poll that has brought the stop, after which nothing came
+pub stop-polled : (a b c : Observed) (result : Polled) (buf : List ℕ) → Grows a b (PolledTurns result buf) → result.what ≡ whats.Stopped → c ≡ b → IfObserved a (λ before. HasPolledOnce Stopped before c)
+stop-polled a b c result buf grows stops same before e = let x = grows.observed before e in subst (HasPolledOnce Stopped before) (sym same) (by_dark a.dark b.dark x.0 x.1 refl x.2 x.3 x.4)
+  where
+    by_dark : (d n : Bool) (turns added : List Turn) → b.dark ≡ n → PolledTurns result buf turns → Added d n turns added → b.log ≡ Some (before ++ added) → HasPolledOnce Stopped before b
+    by_dark true true turns added dark t a log = inl dark
+    by_dark true false turns added dark t a log = absurd a
+    by_dark false true turns added dark t a log = inl dark
+    by_dark false false turns added dark t a log = inr (result.now, log ∙ ap (λ more. Some (before ++ more)) (a ∙ t ∙ ap (λ what. PolledTurn result.now ∷ event_turns what buf) stops))
+
 -- ---- the calls of the journal
 
 failed-outcomes : (file : List ℕ) (turns : List Turn) → FailedTurns file turns → AreOutcomes turns
@@ -298,6 +319,64 @@ breaks-after most a b c one broken = record {
   rose = rises-then a.faults b.faults c.faults one.later broken.rose;
   ends = after-polls most a b one broken.ends;
 }
+
+-- ---- exactly so many polls
+
+-- calls make none more
+makes-then-calls : (count : ℕ) (before : List Turn) (b c : Observed) → MakesPolls count before b → HasGoneOn b c → (b.dark ≡ true → c.dark ≡ true) → MakesPolls count before c
+makes-then-calls count before b c (inl dark) goes stays = inl (stays dark)
+makes-then-calls count before b c (inr x) goes stays =
+    let y = goes.adds (before ++ x.0) x.1 in
+    let parts = polls-append x.0 y.0 in
+    let none = outcomes-polls y.0 y.2 in
+    inr (x.0 ++ y.0, y.1 ∙ ap Some (append_assoc before x.0 y.0), omega (arith, parts, none, x.2))
+
+-- a poll, and then calls
+pub once-then-calls : (a b c : Observed) (result : Polled) (buf : List ℕ) → Grows a b (PolledTurns result buf) → HasGoneOn b c → (b.dark ≡ true → c.dark ≡ true) → IfObserved a (λ before. HasPolledOnce Went before c)
+once-then-calls a b c result buf grows goes stays before e = makes-then-calls 1 before b c (polled-exactly a b result buf grows before e) goes stays
+
+-- nothing was polled yet
+pub makes-none : (a : Observed) → IfObserved a (λ before. MakesPolls 0 before a)
+makes-none a before e = inr ([], e ∙ ap Some (sym (append-nil before)), refl)
+
+-- one round more
+pub makes-one-more : (count : ℕ) (before : List Turn) (b c : Observed) → MakesPolls count before b → IfObserved b (λ log. HasPolledOnce Went log c) → (b.dark ≡ true → c.dark ≡ true) → MakesPolls (count + 1) before c
+makes-one-more count before b c (inl dark) once stays = inl (stays dark)
+makes-one-more count before b c (inr x) once stays = then_once (once (before ++ x.0) x.1)
+  where
+    then_once : HasPolledOnce Went (before ++ x.0) c → MakesPolls (count + 1) before c
+    then_once (inl dark) = inl dark
+    then_once (inr y) = let parts = polls-append x.0 y.0 in inr (x.0 ++ y.0, y.1 ∙ ap Some (append_assoc before x.0 y.0), omega (arith, parts, x.2, y.2))
+
+-- and the stop at last
+pub stops-at-last : (count most : ℕ) (before : List Turn) (b c : Observed) → MakesPolls count before b → IfObserved b (λ log. HasPolledOnce Stopped log c) → (b.dark ≡ true → c.dark ≡ true) → PollsToEnd most before c
+stops-at-last count most before b c (inl dark) once stays = inl (stays dark)
+stops-at-last count most before b c (inr x) once stays = then_stop (once (before ++ x.0) x.1)
+  where
+    then_stop : HasPolledOnce Stopped (before ++ x.0) c → PollsToEnd most before c
+    then_stop (inl dark) = inl dark
+    then_stop (inr y) = inr (x.0 ++ PolledTurn y.0 ∷ StopTurn ∷ [], y.1 ∙ ap Some (append_assoc before x.0 (PolledTurn y.0 ∷ StopTurn ∷ [])), inl (x.0, y.0, refl))
+
+-- all were made
+pub makes-all : (count most : ℕ) (before : List Turn) (b : Observed) → count ≡ most → MakesPolls count before b → PollsToEnd most before b
+makes-all count most before b all (inl dark) = inl dark
+makes-all count most before b all (inr x) = inr (x.0, x.1, inr (x.2 ∙ all))
+
+-- turns without a poll come first
+pub unpolled-then-end : (most : ℕ) (before first : List Turn) (b c : Observed) → b.log ≡ Some (before ++ first) → polls_in first ≡ 0 → IfObserved b (λ log. PollsToEnd most log c) → PollsToEnd most before c
+unpolled-then-end most before first b c log none ends = by_end (ends (before ++ first) log)
+  where
+    whole : (more : List Turn) → EndsWithStop more ⊎ (polls_in more ≡ most) → EndsWithStop (first ++ more) ⊎ (polls_in (first ++ more) ≡ most)
+    whole more (inl stop) = inl (first ++ stop.0, stop.1, ap (λ turns. first ++ turns) stop.2 ∙ sym (append_assoc first stop.0 (PolledTurn stop.1 ∷ StopTurn ∷ [])))
+    whole more (inr all) = let parts = polls-append first more in inr (omega (arith, parts, none, all))
+
+    by_end : PollsToEnd most (before ++ first) c → PollsToEnd most before c
+    by_end (inl dark) = inl dark
+    by_end (inr x) = inr (first ++ x.0, x.1 ∙ ap Some (append_assoc before first x.0), whole x.0 x.2)
+
+-- so do calls
+pub calls-then-end : (most : ℕ) (before : List Turn) (b c : Observed) → GoesOnByCalls before b → IfObserved b (λ log. PollsToEnd most log c) → PollsToEnd most before c
+calls-then-end most before b c x ends = unpolled-then-end most before x.0 b c x.1 (outcomes-polls x.0 x.2) ends
 
 -- ---- memory
 

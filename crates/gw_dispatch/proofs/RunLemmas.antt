@@ -14,14 +14,14 @@ use Rattle.gw_rules.specs.View.{View}
 use Rattle.gw_rules.proofs.ActLemmas.{join-due, owed-due}
 use Rattle.gw_rules.proofs.TripleLemmas.{triple-after, triple-due, triples-then}
 use Rattle.gw_dispatch.specs.RecordsOpening.{HasOpened, HoldsFile, IsExactlyBad, IsExactlyCut, IsExactlyRefused, OpenedBy, OpensBy, UnopenedBy}
-use Rattle.gw_dispatch.specs.Growth.{AddsPolls, EndsForMemory, EndsForMemorySince, GoesOnByCalls, polls_in}
+use Rattle.gw_dispatch.specs.Growth.{AddsPolls, EndsForMemory, EndsForMemorySince, GoesOnByCalls, PollsToEnd, polls_in}
 use Rattle.gw_dispatch.specs.RunEnd.{EndedBy, EndsByFound, HasBegun, EndsRounds, IsDueFrom, IsEndByFile, NoneBegan, end_by}
 use Rattle.gw_dispatch.specs.declared.engine.Ended.{Ended}
 use Rattle.gw_dispatch.specs.declared.engine.Ended.TheVariants.{Done, NotOpened, Disk, TooLong, Cut, BadRecord, NoMemory}
 use Rattle.gw_dispatch.specs.declared.records.Records.{Records}
 use Rattle.gw_dispatch.specs.declared.records.Unopened.{Unopened}
 use Rattle.gw_dispatch.specs.declared.records.Unopened.TheVariants.{Disk as DiskCause, TooLong as TooLongCause, Cut as CutCause, BadRecord as BadRecordCause, Memory as MemoryCause}
-use Rattle.gw_dispatch.proofs.GrowthLemmas.{adds-then, calls-for-memory}
+use Rattle.gw_dispatch.proofs.GrowthLemmas.{adds-then, calls-for-memory, unpolled-then-end}
 
 -- ---- the ends
 
@@ -60,6 +60,13 @@ disk-cause (TooLongCause count) e = absurd (cc)
 disk-cause (CutCause slot) e = absurd (cc)
 disk-cause (BadRecordCause slot) e = absurd (cc)
 disk-cause MemoryCause e = absurd (cc)
+
+pub cause-undone : (cause : Unopened) → end_by cause ≡ Done → ⊥
+cause-undone DiskCause e = cc
+cause-undone (TooLongCause count) e = cc
+cause-undone (CutCause slot) e = cc
+cause-undone (BadRecordCause slot) e = cc
+cause-undone MemoryCause e = cc
 
 -- what the cause says of the file, the end says
 pub cause-by-file : (slots : ℕ) (file : List ℕ) (cause : Unopened) → IsExactlyRefused {T = Records} slots file (Err cause) → IsExactlyCut {T = Records} slots file (Err cause) → IsExactlyBad {T = Records} slots file (Err cause)
@@ -120,20 +127,20 @@ found E slots most own old mid new ended grows ends adds before e =
     by_dark old.dark mid.dark x.0 x.1 x.2 x.3 x.4
   where
     still : mid.log ≡ Some (before ++ []) → EndsByFound slots before new ended
-    still log = record { file = (outside_of before).file; found = inl refl; ends = subst (λ l. IsEndByFile slots (outside_of l).file ended) (append-nil before) (ends (before ++ []) log); began = λ r. inl refl }
+    still log = record { file = (outside_of before).file; found = inl refl; ends = subst (λ l. IsEndByFile slots (outside_of l).file ended) (append-nil before) (ends (before ++ []) log); began = inl refl }
 
     begun : (turns : List Turn) → OpenTurns {E = E} own (Ok tt) before turns → mid.log ≡ Some (before ++ turns) → EndsByFound slots before new ended
     begun turns (inl t) log = record {
       file = (outside_of before).file;
       found = inl refl;
       ends = subst (λ (o : Outside). IsEndByFile slots o.file ended) (ap (λ l. outside_of (before ++ l)) t ∙ outside_of-append before (Start own ∷ [])) (ends (before ++ turns) log);
-      began = λ r. inl refl;
+      began = inl refl;
     }
     begun turns (inr t) log = record {
       file = t.0;
       found = inr t.1;
       ends = subst (λ (o : Outside). IsEndByFile slots o.file ended) (ap (λ l. outside_of (before ++ l)) t.3 ∙ outside_of-append before (Crash t.0 ∷ Start own ∷ [])) (ends (before ++ turns) log);
-      began = λ r. let a = adds (before ++ turns) log in inr (Start own ∷ a.0, a.1 ∙ ap Some (append_assoc before turns a.0 ∙ ap (λ l. before ++ (l ++ a.0)) t.3));
+      began = let a = adds (before ++ turns) log in inr (Start own ∷ a.0, a.1 ∙ ap Some (append_assoc before turns a.0 ∙ ap (λ l. before ++ (l ++ a.0)) t.3));
     }
 
     by_dark : (d n : Bool) (turns added : List Turn) → OpenTurns {E = E} own (Ok tt) before turns → AddedWhole d n turns added → mid.log ≡ Some (before ++ added) → EndsByFound slots before new ended
@@ -166,6 +173,13 @@ opened-polls E own result most old new grows before e =
 pub run-polls : (E : Type 0) (own : Setup) (most : ℕ) (old mid new : Observed) → GrowsWhole old mid (OpenTurns {E = E} own (Ok tt)) → IfObserved mid (λ log. AddsPolls most log new) → IfObserved old (λ before. AddsPolls most before new)
 run-polls E own most old mid new grows polls before e = adds-then 0 most most before mid new (omega arith) (opened-polls E own (Ok tt) 0 old mid grows before e) polls
 
+-- until all are made
+pub run-done : (E : Type 0) (own : Setup) (most : ℕ) (old mid new : Observed) → GrowsWhole old mid (OpenTurns {E = E} own (Ok tt)) → IfObserved mid (λ log. PollsToEnd most log new) → IfObserved old (λ before. PollsToEnd most before new)
+run-done E own most old mid new grows ends before e =
+    let x = grows.observed before e in
+    let none = whole-none old.dark mid.dark x.0 x.1 x.3 (opened-none E own (Ok tt) before x.0 x.2) in
+    unpolled-then-end most before x.1 mid new x.4 (omega (arith, none)) ends
+
 -- a run has begun, after which memory may be refused
 pub opened-for-memory : (E : Type 0) (own : Setup) (old mid new : Observed) → GrowsWhole old mid (OpenTurns {E = E} own (Ok tt)) → (mid.dark ≡ true → new.dark ≡ true) → IfObserved mid (λ log. EndsForMemorySince log new) → IfObserved old (λ before. EndsForMemory new)
 opened-for-memory E own old mid new grows stays ends before e =
@@ -188,4 +202,4 @@ opened-for-memory E own old mid new grows stays ends before e =
 
 -- where it wasn't, the end says nothing of a file
 pub not-found : (slots : ℕ) (before : List Turn) (new : Observed) → EndsByFound slots before new NotOpened
-not-found slots before new = record { file = (outside_of before).file; found = inl refl; ends = tt; began = λ r. inl refl }
+not-found slots before new = record { file = (outside_of before).file; found = inl refl; ends = tt; began = inl refl }

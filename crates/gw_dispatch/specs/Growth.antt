@@ -61,6 +61,18 @@ pub record GoesOnByPolls (most : ℕ) (old new : Observed) : Type 0 where
   pub later : old.faults ≤ new.faults
   pub adds : IfObserved old (λ log. AddsPolls most log new)
 
+-- exactly so many polls were made: the log is this one and turns with so many, or the site is dark
+abbrev pub MakesPolls : ℕ → List Turn → Observed → Type 0
+MakesPolls count before new = (new.dark ≡ true) ⊎ ((more : List Turn) × (new.log ≡ Some (before ++ more)) × (polls_in more ≡ count))
+
+-- the last of these turns is a poll that has brought the stop
+abbrev pub EndsWithStop : List Turn → Type 0
+EndsWithStop turns = (first : List Turn) × (now : ℤ) × (turns ≡ first ++ Polled now ∷ Stopped ∷ [])
+
+-- the stop was polled, or exactly so many polls were made: the log is this one and turns of which this is so, or the site is dark
+abbrev pub PollsToEnd : ℕ → List Turn → Observed → Type 0
+PollsToEnd most before new = (new.dark ≡ true) ⊎ ((more : List Turn) × (new.log ≡ Some (before ++ more)) × (EndsWithStop more ⊎ (polls_in more ≡ most)))
+
 -- ---- memory
 
 -- memory may be refused after this turn: a run begins, a till has opened, or bytes of one have come

@@ -1,10 +1,11 @@
 -- Closed examples of what is added to a log, and of logs after which memory may be refused.
-use Rattle.std.specs.Prelude.{◌≡◌, ℤ, pos, List, [], ◌∷◌, ◌++◌, true, false, Some, None, refl}
+use Rattle.std.proofs.Common.{◌∙◌, sym, ap, inl, inr}
+use Rattle.std.specs.Prelude.{◌≡◌, ◌⊎◌, ℕ, ℤ, pos, List, [], ◌∷◌, ◌++◌, true, false, Option, Some, None, refl}
 use Rattle.gw_site.specs.Observed.{Observed}
 use Rattle.gw_site.specs.Sorts.{Event, Poll, CallOutcome, sort_of}
 use Rattle.gw_site.specs.declared.turn.Turn.{Turn}
-use Rattle.gw_site.specs.declared.turn.Turn.TheVariants.{Polled, Opened, HeardTill, Lost, CutTill}
-use Rattle.gw_dispatch.specs.Growth.{AddsTakingEvent, AreOutcomes, LastTakesMemory, polls_in, takes_memory}
+use Rattle.gw_site.specs.declared.turn.Turn.TheVariants.{Polled, Opened, HeardTill, Lost, CutTill, Stopped}
+use Rattle.gw_dispatch.specs.Growth.{AddsTakingEvent, AreOutcomes, EndsWithStop, LastTakesMemory, PollsToEnd, polls_in, takes_memory}
 
 -- a till has opened, and was cut
 abbrev pub till_opened_log : List Turn
@@ -22,11 +23,15 @@ last_polled_log = HeardTill 1 (0 ∷ []) ∷ Polled (pos 4) ∷ []
 abbrev pub pt_lost_round : List Turn
 pt_lost_round = Polled (pos 3) ∷ Lost 0 ∷ []
 
+-- a poll has brought the stop
+abbrev pub stopped_log : List Turn
+stopped_log = Polled (pos 4) ∷ Stopped ∷ []
+
 -- a site that isn't dark, with this log
 abbrev pub lit_site : List Turn → Observed
 lit_site log = record { log = Some log; faults = 0; dark = false; origin = []; plan = None }
 
--- memory may be refused where a till has opened and only a call came after that, and not where a connection was lost since, or a poll came; so it is in a round; a cut is the outcome of a call, and an event is none; each poll counts, and nothing else
+-- memory may be refused where a till has opened and only a call came after that, and not where a connection was lost since, or a poll came; so it is in a round; a cut is the outcome of a call, and an event is none; each poll counts, and nothing else; a run is done where the stop was polled or all polls were made, and not where it wasn't polled at all
 pub record GrowsExample : Type 0 where
   pub opened : LastTakesMemory till_opened_log
   pub lost : LastTakesMemory pt_lost_log → ⊥
@@ -37,6 +42,9 @@ pub record GrowsExample : Type 0 where
   pub event : AreOutcomes till_opened_log → ⊥
   pub one_poll : polls_in till_opened_log ≡ 1
   pub two_polls : polls_in (till_opened_log ++ last_polled_log) ≡ 2
+  pub stopped : PollsToEnd 9 [] (lit_site stopped_log)
+  pub all_made : PollsToEnd 1 [] (lit_site till_opened_log)
+  pub unpolled : PollsToEnd 1 [] (lit_site []) → ⊥
 
 -- no list of which one is a part is empty
 not_empty : (before : List Turn) (turn : Turn) (calls : List Turn) → ◌≡◌ {A = List Turn} [] (before ++ turn ∷ calls) → ⊥
@@ -60,6 +68,18 @@ event_is now event calls e = cc
 not_taking : (event last : Turn) → event ≡ last → takes_memory last ≡ false → takes_memory event ≡ true → ⊥
 not_taking event last same takes_none takes = let h : false ≡ true = cc in cc
 
+-- a site with an empty log wasn't polled
+nothing_added : (more : List Turn) → ◌≡◌ {A = Option (List Turn)} (Some []) (Some ([] ++ more)) → more ≡ []
+nothing_added more e = cc
+
+none_polled : (more : List Turn) → more ≡ [] → EndsWithStop more ⊎ (polls_in more ≡ 1) → ⊥
+none_polled more none (inl stop) = not_empty stop.0 (Polled stop.1) (Stopped ∷ []) (sym none ∙ stop.2)
+none_polled more none (inr made) = let h : ◌≡◌ {A = ℕ} 0 1 = sym (ap polls_in none) ∙ made in cc
+
+not_polled : PollsToEnd 1 [] (lit_site []) → ⊥
+not_polled (inl dark) = let h : false ≡ true = dark in cc
+not_polled (inr x) = none_polled x.0 (nothing_added x.0 x.1) x.2
+
 example_growth : GrowsExample
 example_growth = record {
   opened = record { before = Polled (pos 3) ∷ []; turn = Opened 1; calls = CutTill 1 ∷ []; log_is = refl; takes = refl; outcomes = (refl, tt) };
@@ -71,4 +91,7 @@ example_growth = record {
   event = λ are. let h : Poll ≡ CallOutcome = are.0 in cc;
   one_poll = refl;
   two_polls = refl;
+  stopped = inr (stopped_log, refl, inl ([], pos 4, refl));
+  all_made = inr (till_opened_log, refl, inr refl);
+  unpolled = not_polled;
 }

@@ -1,12 +1,13 @@
 -- What holds between rounds, as an event comes, and once it was handled.
-use Rattle.std.specs.Prelude.{◌≡◌, ℕ, ◌≤◌, ℤ, true, List, [], ◌++◌, length, Some, None, Result, Ok, Err}
+use Rattle.std.specs.Prelude.{◌≡◌, ◌⊎◌, ℕ, ◌≤◌, ℤ, true, List, [], ◌∷◌, ◌++◌, length, Some, None, Result, Ok, Err}
 use Rattle.gw_base.specs.declared.key.Key.{Key}
 use Rattle.gw_base.specs.declared.setup.Setup.{Setup}
 use Rattle.gw_site.specs.Observed.{Observed}
 use Rattle.gw_site.specs.Outside.{Outside, outside_after, is_connected, heard_on}
 use Rattle.gw_site.specs.declared.site.What.{What}
 use Rattle.gw_site.specs.declared.site.What.TheVariants.{TillOpened, TillBytes, TillClosed, PtBytes, PtClosed, Nothing, Stopped as StopPolled}
-use Rattle.gw_site.specs.declared.turn.Turn.TheVariants.{Opened, HeardTill}
+use Rattle.gw_site.specs.declared.turn.Turn.{Turn}
+use Rattle.gw_site.specs.declared.turn.Turn.TheVariants.{Opened, HeardTill, Polled, Stopped as StopTurn}
 use Rattle.gw_owes.specs.Core.{new_core}
 use Rattle.gw_owes.specs.Events.{till_bytes_items, till_opened_items}
 use Rattle.gw_owes.specs.Items.{RoundItem}
@@ -15,6 +16,7 @@ use Rattle.gw_rules.specs.Scene.{Scene}
 use Rattle.gw_rules.specs.Stage.{Over, is_running}
 use Rattle.gw_rules.specs.Triple.{Owing, AtEvent}
 use Rattle.gw_rules.specs.View.{View}
+use Rattle.gw_dispatch.specs.Growth.{MakesPolls}
 use Rattle.gw_dispatch.specs.RunState.{IsWell}
 use Rattle.gw_dispatch.specs.MidRound.{AllHear, AreLinked, AreReady, BeforePtChunk, BeforePtClosed, MidRound, due_items, keys_waiting}
 use Rattle.gw_dispatch.specs.Round.{HoldsTills, InRound, known_at}
@@ -134,6 +136,11 @@ abbrev pub AfterEvent : Result RoundEnd TurnFault → Setup → Dispatch → ℕ
 AfterEvent (Ok Went) setup dispatch polls now v = IsHandled setup dispatch polls now v
 AfterEvent (Ok Stopped) setup dispatch polls now v = v.scene.stage ≡ Over
 AfterEvent (Err fault) setup dispatch polls now v = AfterFault fault v
+
+-- a round that has ended so has made one poll, and nothing after it where that has brought the stop; or the site is dark
+abbrev pub HasPolledOnce : RoundEnd → List Turn → Observed → Type 0
+HasPolledOnce Went before new = MakesPolls 1 before new
+HasPolledOnce Stopped before new = (new.dark ≡ true) ⊎ ((now : ℤ) × (new.log ≡ Some (before ++ Polled now ∷ StopTurn ∷ [])))
 
 -- after a round
 abbrev pub AfterRound : Result RoundEnd TurnFault → Setup → Dispatch → ℕ → View → Type 0

@@ -84,12 +84,12 @@ MayLackMemory NoMemory = Unit {0}
 abbrev pub BeganWith : List Turn → Observed → List ℕ → Type 0
 BeganWith before new file = (more : List Turn) × (new.log ≡ Some (before ++ Crash file ∷ more))
 
--- what the end of a run after this log says of the file that it has found; where a fault is reported of another file than the log's, the run has begun with a power failure that has left it
+-- what the end of a run after this log says of the file that it has found; where that isn't the log's, the run has begun with a power failure that has left it
 pub record EndsByFound (slots : ℕ) (before : List Turn) (new : Observed) (ended : Ended) : Type 0 where
   pub file : List ℕ
   pub found : IsFound before file
   pub ends : IsEndByFile slots file ended
-  pub began : ReportsFile ended → (file ≡ (outside_of before).file) ⊎ BeganWith before new file
+  pub began : (file ≡ (outside_of before).file) ⊎ BeganWith before new file
 
 -- ---- Inner: parts of a run
 

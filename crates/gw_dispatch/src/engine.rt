@@ -11,9 +11,9 @@ ghost use Rattle.gw_site.specs.Outside.{outside_of};
 ghost use Rattle.gw_rules.specs.Acts.{Unmeasured};
 ghost use Rattle.gw_rules.specs.Triple.{Triple, TripleBy, RunTriple, IsRun, JustBegun};
 ghost use Rattle.gw_rules.specs.View.{View};
-ghost use Rattle.gw_dispatch.specs.Rounds.{IsReady, BeforeChunk, BeforeOpen, BeforePtBytes, BeforePtEnd, IsBetweenRounds, IsPolled, IsHandled, IsOfTill, AfterEvent, AfterRound};
+ghost use Rattle.gw_dispatch.specs.Rounds.{IsReady, BeforeChunk, BeforeOpen, BeforePtBytes, BeforePtEnd, IsBetweenRounds, IsPolled, IsHandled, IsOfTill, AfterEvent, AfterRound, HasPolledOnce};
 ghost use Rattle.gw_dispatch.specs.RunState.{LeavesRoom, UnlessBroken, gateway_of};
-ghost use Rattle.gw_dispatch.specs.Growth.{AddsPolls, EndsForMemory, EndsForMemorySince, EndsInFailure, EndsRoundForMemory, GoesOnByPolls, HasGoneOn, HasBroken};
+ghost use Rattle.gw_dispatch.specs.Growth.{AddsPolls, EndsForMemory, EndsForMemorySince, EndsInFailure, EndsRoundForMemory, GoesOnByPolls, HasGoneOn, HasBroken, PollsToEnd};
 ghost use Rattle.gw_dispatch.specs.Serving.{held_without};
 ghost use Rattle.gw_dispatch.specs.Tills.{others};
 ghost use Rattle.gw_dispatch.specs.declared.fault.TurnFault.{TurnFault as TheFault};
@@ -259,6 +259,8 @@ impl Dispatch {
             (IsPolled setup self.old polls now what buf.now)
             (AfterEvent result setup self.new (polls + 1) now) }
         ensures bytes { AreBytes buf.now }
+        ensures stopped { result ≡ Ok RoundEnd.Stopped → what ≡ What.Stopped }
+        ensures still { result ≡ Ok RoundEnd.Stopped → S.observed site.new ≡ S.observed site.old }
         ensures memory { result ≡ Err TheFault.Memory → IsOfTill what }
         ensures failed { result ≡ Err TheFault.Disk → HasBroken (S.observed site.old) (S.observed site.new) }
         ensures ready { OnOk result (IsReady self.new (S.observed site.new)) }
@@ -299,6 +301,7 @@ impl Dispatch {
             (IsBetweenRounds setup self.old polls)
             (AfterRound result setup self.new (polls + 1)) }
         ensures buf { length buf.new ≡ 4096 }
+        ensures polled { IfOk result (λ end. IfObserved (S.observed site.old) (λ before. HasPolledOnce end before (S.observed site.new))) }
         ensures memory { result ≡ Err TheFault.Memory → IfObserved (S.observed site.old) (λ before. EndsRoundForMemory before (S.observed site.new)) }
         ensures failed { result ≡ Err TheFault.Disk → HasBroken (S.observed site.old) (S.observed site.new) }
         ensures ready { OnOk result (IsReady self.new (S.observed site.new)) }
@@ -325,6 +328,7 @@ impl Dispatch {
             (IsBetweenRounds setup self.old 0)
             (EndedBy result most) }
         ensures ran { EndsRounds result }
+        ensures done { result ≡ Ended.Done → IfObserved (S.observed site.old) (λ before. PollsToEnd most before (S.observed site.new)) }
         ensures memory { MayLackMemory result → IfObserved (S.observed site.old) (λ before. EndsForMemory (S.observed site.new)) }
         ensures goes_on { GoesOnByPolls most (S.observed site.old) (S.observed site.new) }
     {
@@ -356,6 +360,7 @@ pub(crate) fn opened_rounds<S: Site>(
     ensures failed { result ≡ Ended.Disk → HasBroken (S.observed site.old) (S.observed site.new) }
     ensures triple { Triple (S.observed site.old) (S.observed site.new) (HasOpened setup.now records) (EndedBy result most) }
     ensures ran { EndsRounds result }
+    ensures done { result ≡ Ended.Done → IfObserved (S.observed site.old) (λ before. PollsToEnd most before (S.observed site.new)) }
     ensures memory { MayLackMemory result → IfObserved (S.observed site.old) (λ before. EndsForMemorySince before (S.observed site.new)) }
     ensures goes_on { GoesOnByPolls most (S.observed site.old) (S.observed site.new) }
 {
@@ -388,6 +393,7 @@ fn journaled<S: Site>(alloc: Global, setup: &Setup, site: &mut S, most: u64) -> 
     ensures failed { result ≡ Ended.Disk → IfObserved (S.observed site.old) (λ before. EndsInFailure (S.observed site.new)) }
     ensures memory { MayLackMemory result → IfObserved (S.observed site.old) (λ before. EndsForMemorySince before (S.observed site.new)) }
     ensures polls { IfObserved (S.observed site.old) (λ before. AddsPolls most before (S.observed site.new)) }
+    ensures done { result ≡ Ended.Done → IfObserved (S.observed site.old) (λ before. PollsToEnd most before (S.observed site.new)) }
     ensures later { (S.observed site.old).faults ≤ (S.observed site.new).faults }
 {
     match Records::open(alloc, site, setup.slots) {
@@ -400,6 +406,7 @@ fn journaled<S: Site>(alloc: Global, setup: &Setup, site: &mut S, most: u64) -> 
 ///
 /// The log of the site goes on by what is owed and by nothing else, and whatever is owed is done before the next poll. A site
 /// that goes dark ends the run. However it ends, the site was polled no more often.
+/// It is `Done` only where `Stopped` was polled or exactly so many polls were made, whatever the log before it, or the site is dark.
 ///
 /// Memory is refused only before the first poll, or in a round in which a till has opened or bytes of one have come: in the log no
 /// event comes after that one, and no poll. Else the site is dark.
@@ -413,6 +420,7 @@ pub fn run<S: Site>(alloc: Global, setup: &Setup, site: &mut S, most: u64) -> En
     ensures failed { result ≡ Ended.Disk → IfObserved (S.observed site.old) (λ before. EndsInFailure (S.observed site.new)) }
     ensures memory { MayLackMemory result → IfObserved (S.observed site.old) (λ before. EndsForMemory (S.observed site.new)) }
     ensures polls { IfObserved (S.observed site.old) (λ before. AddsPolls most before (S.observed site.new)) }
+    ensures done { result ≡ Ended.Done → IfObserved (S.observed site.old) (λ before. PollsToEnd most before (S.observed site.new)) }
     ensures later { (S.observed site.old).faults ≤ (S.observed site.new).faults }
 {
     match site.open(setup) {

@@ -1,11 +1,11 @@
 -- Proof of the contract of `journaled`.
-use Rattle.std.proofs.Common.{arith, inr, refl, sym, subst}
+use Rattle.std.proofs.Common.{◌∙◌, arith, inr, refl, sym, subst}
 use Rattle.gw_site.specs.Outside.{outside_of}
 use Rattle.gw_rules.specs.Acts.{Unmeasured}
 use Rattle.gw_rules.specs.Triple.{TripleBy, JustBegun}
 use Rattle.gw_dispatch.specs.RunEnd.{EndedBy, HasBegun, IsDueFrom, IsEndByFile}
-use Rattle.gw_dispatch.proofs.GrowthLemmas.{adds-then, calls-poll-none, calls-then-ends}
-use Rattle.gw_dispatch.proofs.RunLemmas.{cause-by-file, cause-has-begun, opened-run, run-by-file, run-has-begun, unopened-run}
+use Rattle.gw_dispatch.proofs.GrowthLemmas.{adds-then, calls-poll-none, calls-then-end, calls-then-ends}
+use Rattle.gw_dispatch.proofs.RunLemmas.{cause-by-file, cause-has-begun, cause-undone, opened-run, run-by-file, run-has-begun, unopened-run}
 use Rattle.gw_dispatch.proofs.engine.journaled.Goals as goal
 
 pub returns-in-Ok-clause-triple : goal.returns-in-Ok-clause-triple
@@ -19,6 +19,9 @@ returns-in-Ok-clause-file g c = λ log e. run-by-file c.args.setup.now.slots (ou
 
 pub returns-in-Ok-clause-polls : goal.returns-in-Ok-clause-polls
 returns-in-Ok-clause-polls g c = λ before e. adds-then 0 c.args.most c.args.most before (g.S.Site.observed c.open.new.site) (g.S.Site.observed c.opened_rounds.new.site) (omega arith) (calls-poll-none 0 before (g.S.Site.observed c.open.new.site) (c.in-Ok.ensures.adds before e)) c.opened_rounds.ensures.goes_on.adds
+
+pub returns-in-Ok-clause-done : goal.returns-in-Ok-clause-done
+returns-in-Ok-clause-done g c = λ done before e. calls-then-end c.args.most before (g.S.Site.observed c.open.new.site) (g.S.Site.observed c.opened_rounds.new.site) (c.in-Ok.ensures.adds before e) (c.opened_rounds.ensures.done done)
 
 pub returns-in-Ok-clause-memory : goal.returns-in-Ok-clause-memory
 returns-in-Ok-clause-memory g c = λ lacks before e. calls-then-ends before (g.S.Site.observed c.open.new.site) (g.S.Site.observed c.opened_rounds.new.site) (c.in-Ok.ensures.adds before e) (c.opened_rounds.ensures.memory lacks)
@@ -36,6 +39,9 @@ returns-in-Err-clause-file g c = λ log e. subst (IsEndByFile c.args.setup.now.s
 
 pub returns-in-Err-clause-polls : goal.returns-in-Err-clause-polls
 returns-in-Err-clause-polls g c = λ before e. calls-poll-none c.args.most before (g.S.Site.observed c.open.new.site) (c.in-Err.ensures.adds before e)
+
+pub returns-in-Err-clause-done : goal.returns-in-Err-clause-done
+returns-in-Err-clause-done g c = λ done. absurd (cause-undone c.in-Err.cause (sym c.ended_by.ensures ∙ done))
 
 pub returns-in-Err-clause-memory : goal.returns-in-Err-clause-memory
 returns-in-Err-clause-memory g c = λ lacks before e. inr (c.in-Err.ensures.adds before e)

@@ -5,7 +5,7 @@ use Rattle.gw_rules.specs.Acts.{Unopened, Unmeasured}
 use Rattle.gw_rules.specs.Triple.{JustBegun}
 use Rattle.gw_rules.proofs.RunLemmas.{begun-runs, failed-runs, opened-runs, runs-then-due}
 use Rattle.gw_dispatch.specs.RunEnd.{EndedBy}
-use Rattle.gw_dispatch.proofs.RunLemmas.{begun-opened, found, none-began, not-found, opened-for-memory, opened-observed, opened-polls, run-polls}
+use Rattle.gw_dispatch.proofs.RunLemmas.{begun-opened, found, none-began, not-found, opened-for-memory, opened-observed, opened-polls, run-done, run-polls}
 use Rattle.gw_dispatch.proofs.engine.run.Goals as goal
 
 pub returns-in-Ok-clause-lawful : goal.returns-in-Ok-clause-lawful
@@ -32,6 +32,9 @@ returns-in-Err-clause-file g c = λ before e. not-found c.args.setup.now.slots b
 
 pub returns-in-Ok-clause-polls : goal.returns-in-Ok-clause-polls
 returns-in-Ok-clause-polls g c = run-polls Failed c.args.setup.now c.args.most _ _ (g.S.Site.observed c.journaled.new.site) c.in-Ok.ensures.turns c.journaled.ensures.polls
+
+pub returns-in-Ok-clause-done : goal.returns-in-Ok-clause-done
+returns-in-Ok-clause-done g c = λ done. run-done Failed c.args.setup.now c.args.most _ _ (g.S.Site.observed c.journaled.new.site) c.in-Ok.ensures.turns (c.journaled.ensures.done done)
 
 pub returns-in-Ok-clause-memory : goal.returns-in-Ok-clause-memory
 returns-in-Ok-clause-memory g c = λ lacks. opened-for-memory Failed c.args.setup.now _ _ (g.S.Site.observed c.journaled.new.site) c.in-Ok.ensures.turns c.journaled.ensures.triple.stays (c.journaled.ensures.memory lacks)

@@ -1,6 +1,6 @@
 -- Proof of the contract of `Dispatch::turn`.
-use Rattle.std.proofs.Common.{◌≡◌, ◌+◌, ℕ, List, [], length, refl, ◌∙◌, to_z, of_z, w64}
-use Rattle.std.specs.Prelude.{ℤ}
+use Rattle.std.proofs.Common.{◌≡◌, ◌+◌, ℕ, List, [], length, ap, refl, ◌∙◌, to_z, of_z, w64}
+use Rattle.std.specs.Prelude.{ℤ, Ok}
 use Rattle.std.specs.Vec.{with_items}
 use Rattle.std.proofs.lemmas.Int.{to_z-of_z}
 use Rattle.std.proofs.lemmas.List.{with_items_is}
@@ -17,7 +17,7 @@ use Rattle.gw_rules.proofs.CallLemmas.{poll-triple}
 use Rattle.gw_dispatch.specs.MidRound.{due_items}
 use Rattle.gw_dispatch.specs.Rounds.{IsBetweenRounds, IsHandling, IsPolled}
 use Rattle.gw_dispatch.specs.declared.engine.Dispatch.{Dispatch}
-use Rattle.gw_dispatch.proofs.GrowthLemmas.{goes-then, polled-for-memory, polled-stands, polls-then-calls, was-polled}
+use Rattle.gw_dispatch.proofs.GrowthLemmas.{goes-then, once-then-calls, polled-for-memory, polled-stands, polls-then-calls, stop-polled, was-polled}
 use Rattle.gw_dispatch.proofs.RunStateLemmas.{ready-core, ready-still}
 use Rattle.gw_dispatch.proofs.RoundLemmas.{rest-polled, handled-rest}
 use Rattle.gw_dispatch.proofs.engine.Dispatch.turn.Goals as goal
@@ -50,6 +50,15 @@ returns-in-Ok-Went-clause-goes_on g c = polls-then-calls 1 _ _ _ (was-polled _ _
 
 pub returns-in-Ok-Stopped-clause-goes_on : goal.returns-in-Ok-Stopped-clause-goes_on
 returns-in-Ok-Stopped-clause-goes_on g c = polls-then-calls 1 _ _ _ (was-polled _ _ c.poll-now.result c.poll-now.new.buf c.poll-now.ensures.turns c.poll-now.ensures.cause) c.in-Ok-Stopped.ensures.goes_on
+
+pub returns-in-Ok-Went-clause-polled : goal.returns-in-Ok-Went-clause-polled
+returns-in-Ok-Went-clause-polled g c =
+    let order = c.requires.ready.well.order in
+    once-then-calls _ _ _ c.poll-now.result c.poll-now.new.buf c.poll-now.ensures.turns (goes-then _ _ _ c.in-Ok-Went.ensures.goes_on c.on_due.ensures.goes_on.goes_on)
+    (λ dark. (c.on_due.ensures.triple order.setup c.on_event.new.self.state.records.ledger.records 1 []).stays ((c.in-Ok-Went.ensures.triple order.setup 0 order.gateway_is).stays dark))
+
+pub returns-in-Ok-Stopped-clause-polled : goal.returns-in-Ok-Stopped-clause-polled
+returns-in-Ok-Stopped-clause-polled g c = stop-polled _ _ _ c.poll-now.result c.poll-now.new.buf c.poll-now.ensures.turns (c.in-Ok-Stopped.ensures.stopped (ap Ok c.in-Ok-Stopped.field-0-is)) (c.in-Ok-Stopped.ensures.still (ap Ok c.in-Ok-Stopped.field-0-is))
 
 pub returns-in-Err-clause-goes_on : goal.returns-in-Err-clause-goes_on
 returns-in-Err-clause-goes_on g c = polls-then-calls 1 _ _ _ (was-polled _ _ c.poll-now.result c.poll-now.new.buf c.poll-now.ensures.turns c.poll-now.ensures.cause) c.in-Err.ensures.goes_on
