@@ -10,6 +10,7 @@ use Rattle.gw_rules.proofs.CourseLemmas.{stands-more}
 use Rattle.gw_books.specs.PastLaws.{AgreesThroughout, EachLogAgrees}
 use Rattle.gw_dispatch.specs.RunEnd.{EndedBy}
 use Rattle.gw_dispatch.specs.declared.engine.Ended.{Ended}
+use Rattle.gw_dispatch.specs.declared.engine.Ended.TheVariants.{Done, NotOpened as RunNotOpened, NoMemory, Disk as RunDisk, TooLong, Cut, BadRecord}
 use Rattle.gw_run.specs.RunEnds.{EndsRun, EndsWithStatus, GivesEnd, GivesStatus, ending_of}
 use Rattle.gw_run.specs.Serving.{MayReportMemory}
 use Rattle.gw_run.specs.Top.{status_of}
@@ -37,6 +38,34 @@ gives-status ending status IsSo s r = (r.0, s ∙ ap status_of r.1, r.2)
 -- and so does that of a run
 pub run-status : (own : Setup) (old new : Observed) (ending : Ending) (status most : ℕ) → status ≡ status_of ending → RunTriple own old new (IsRun own) (EndsRun ending most) → RunTriple own old new (IsRun own) (EndsWithStatus status most)
 run-status own old new ending status most s runs = run-weaker own old new (IsRun own) (EndsRun ending most) (EndsWithStatus status most) (λ v r. gives-status ending status (λ ended. EndedBy ended most v) s r) runs
+
+-- a run gives the end of one that is done only where it is
+done-played : (ended : Ended) → ending_of ended ≡ Played → ended ≡ Done
+done-played Done e = refl
+done-played RunNotOpened e = absurd (let h : NotOpened ≡ Played = e in cc)
+done-played NoMemory e = absurd (let h : Memory ≡ Played = e in cc)
+done-played RunDisk e = absurd (let h : Disk ≡ Played = e in cc)
+done-played (TooLong size) e = absurd (let h : LongJournal size ≡ Played = e in cc)
+done-played (Cut slot) e = absurd (let h : CutJournal slot ≡ Played = e in cc)
+done-played (BadRecord slot) e = absurd (let h : BadSlot slot ≡ Played = e in cc)
+
+pub played-done : (ended : Ended) (ending : Ending) → ending ≡ ending_of ended → ending ≡ Played → ended ≡ Done
+played-done ended ending e played = done-played ended (sym e ∙ played)
+
+-- of 0 it has ended well
+pub zero-played : (ending : Ending) → status_of ending ≡ 0 → ending ≡ Played
+zero-played Played e = refl
+zero-played Words e = absurd (let h : 64 ≡ 0 = e in cc)
+zero-played Long e = absurd (let h : 65 ≡ 0 = e in cc)
+zero-played (AtLine line) e = absurd (let h : 65 ≡ 0 = e in cc)
+zero-played Input e = absurd (let h : 66 ≡ 0 = e in cc)
+zero-played NotOpened e = absurd (let h : 69 ≡ 0 = e in cc)
+zero-played Memory e = absurd (let h : ◌≡◌ {A = ℕ} 71 0 = e in cc)
+zero-played OutputFailed e = absurd (let h : 73 ≡ 0 = e in cc)
+zero-played Disk e = absurd (let h : 74 ≡ 0 = e in cc)
+zero-played (LongJournal size) e = absurd (let h : 76 ≡ 0 = e in cc)
+zero-played (CutJournal slot) e = absurd (let h : 76 ≡ 0 = e in cc)
+zero-played (BadSlot slot) e = absurd (let h : 76 ≡ 0 = e in cc)
 
 -- of 71 memory was refused
 refused-status : (ending : Ending) → status_of ending ≡ 71 → ending ≡ Memory

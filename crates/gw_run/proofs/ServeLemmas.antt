@@ -108,6 +108,12 @@ reported-cause ending result setup out site cause lacks rose (inl same) = subst 
 reported-cause ending result setup out site cause lacks rose (inr (inl memory)) = subst (λ e. RunCause e setup out site) (sym memory.0) (lacks (inr memory.1))
 reported-cause ending result setup out site cause lacks rose (inr (inr failed)) = subst (λ e. RunCause e setup out site) (sym failed) (rose failed)
 
+-- an end that is reported as that of a run that is done is such
+pub reported-played : (ending result : Ending) → IsReportedEnd ending result → result ≡ Played → ending ≡ Played
+reported-played ending result (inl same) e = sym same ∙ e
+reported-played ending result (inr (inl memory)) e = absurd (let h : Memory ≡ Played = sym memory.0 ∙ e in cc)
+reported-played ending result (inr (inr failed)) e = absurd (let h : OutputFailed ≡ Played = sym failed ∙ e in cc)
+
 -- what is printed of it
 pub run-printed : (ending result : Ending) (setup : Setup) (out : Stream) (site : SiteCalls) (added : List ℕ) → RunCause ending setup out site → (MayReportMemory ending → EndsWithoutMemory site) → WritesTail ending result added → RunPrinted setup out site result added
 run-printed ending result setup out site added cause lacks (inl (same, all)) = inl (all ∙ ap tail_of (sym same))

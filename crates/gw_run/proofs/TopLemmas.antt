@@ -1,5 +1,5 @@
 -- What the top call gives, by what the words ask for.
-use Rattle.std.proofs.Common.{◌≡◌, ℕ, List, refl, sym, ◌∙◌, ap, subst, inl, inr}
+use Rattle.std.proofs.Common.{◌≡◌, ℕ, List, sym, ◌∙◌, ap, subst, inl, inr}
 use Rattle.std.specs.Prelude.{◌⊎◌, Option, Some, None}
 use Rattle.gw_bytes.specs.Bytes.{IsPrefix}
 use Rattle.gw_site.specs.Observed.{Observed}
@@ -14,12 +14,13 @@ use Rattle.gw_run.specs.Serve.{HasServed, IsUntouched, ServeCause, ServePrinted,
 use Rattle.gw_run.specs.Top.{Cause, HasRisen, IsEnded, Stream, status_of, tail_of}
 use Rattle.gw_run.specs.Words.{AreRefused, AskForReplay, AskNotToServe, AskToServe, order_of}
 use Rattle.gw_run.specs.declared.ending.Ending.{Ending}
-use Rattle.gw_run.specs.declared.ending.Ending.TheVariants.{Played, Words, Long, Line as AtLine, Input, NotOpened, Memory, OutputFailed, Disk, LongJournal, CutJournal, BadSlot}
+use Rattle.gw_run.specs.declared.ending.Ending.TheVariants.{Played, Memory, OutputFailed}
 use Rattle.gw_run.specs.declared.serving.ServeEnding.{ServeEnding}
 use Rattle.gw_run.specs.declared.serving.ServeEnding.TheVariants.{Config, Other}
 use Rattle.gw_run.specs.declared.words.Mode.TheVariants.{Serve, Replay}
 use Rattle.gw_run.specs.declared.words.Order.{Order}
 use Rattle.gw_run.proofs.ReplayLemmas.{IsFault, fault-printed, observed-cause}
+use Rattle.gw_run.proofs.RunEndLemmas.{zero-played}
 use Rattle.gw_run.proofs.ServeLemmas.{nothing-served}
 
 -- ---- the words
@@ -124,29 +125,18 @@ memory-not-well : (status : ℕ) (ending : Ending) → status ≡ status_of endi
 memory-not-well status ending s (inl memory) e = let h : ◌≡◌ {A = ℕ} 71 0 = sym memory ∙ e in cc
 memory-not-well status ending s (inr failed) e = let h : ◌≡◌ {A = ℕ} 73 0 = sym (s ∙ ap status_of failed) ∙ e in cc
 
+pub memory-undone : (status : ℕ) (ending : Ending) → status ≡ status_of ending → IsReportedEnd Memory ending → status ≡ 0 → ⊥
+memory-undone status ending s which = memory-not-well status ending s (memory-status status ending s which)
+
 -- so that nothing was added to the log
 pub memory-serves : EachLogAgrees → (IsOwn : Setup → Type 0) (most status : ℕ) (ending : Ending) (before : List Turn) (v : View) (new : Observed) → status ≡ status_of ending → IsReportedEnd Memory ending → new.log ≡ Some before → Stands before v → Serves IsOwn most (status ≡ 0) before new
-memory-serves headline IsOwn most status ending before v new s which e stands = nothing-served headline IsOwn most (status ≡ 0) before v new (memory-not-well status ending s (memory-status status ending s which)) e stands
+memory-serves headline IsOwn most status ending before v new s which e stands = nothing-served headline IsOwn most (status ≡ 0) before v new (memory-undone status ending s which) e stands
 
 pub memory-complete : (status : ℕ) (ending : Ending) (out_rose : Type 0) → status ≡ status_of ending → (ending ≡ OutputFailed → out_rose) → IsReportedEnd Memory ending → (out_rose → ⊥) → (status ≡ 0) ⊎ (status ≡ 71)
 memory-complete status ending out_rose s rose which written = elim (memory-status status ending s which) [ inl memory ↦ inr memory | inr failed ↦ absurd (written (rose failed)) ]
 
 -- it has ended well where the status is 0
-zero-played : (ending : Ending) → status_of ending ≡ 0 → ending ≡ Played
-zero-played Played e = refl
-zero-played Words e = absurd (let h : 64 ≡ 0 = e in cc)
-zero-played Long e = absurd (let h : 65 ≡ 0 = e in cc)
-zero-played (AtLine line) e = absurd (let h : 65 ≡ 0 = e in cc)
-zero-played Input e = absurd (let h : 66 ≡ 0 = e in cc)
-zero-played NotOpened e = absurd (let h : 69 ≡ 0 = e in cc)
-zero-played Memory e = absurd (let h : ◌≡◌ {A = ℕ} 71 0 = e in cc)
-zero-played OutputFailed e = absurd (let h : 73 ≡ 0 = e in cc)
-zero-played Disk e = absurd (let h : 74 ≡ 0 = e in cc)
-zero-played (LongJournal size) e = absurd (let h : 76 ≡ 0 = e in cc)
-zero-played (CutJournal slot) e = absurd (let h : 76 ≡ 0 = e in cc)
-zero-played (BadSlot slot) e = absurd (let h : 76 ≡ 0 = e in cc)
-
-zero-served : (ending : ServeEnding) → serve_status ending ≡ 0 → ending ≡ Other Played
+pub zero-served : (ending : ServeEnding) → serve_status ending ≡ 0 → ending ≡ Other Played
 zero-served (Config fault) e = absurd (let h : 65 ≡ 0 = e in cc)
 zero-served (Other ending) e = ap Other (zero-played ending e)
 

@@ -7,7 +7,7 @@ ghost use Rattle.gw_books.specs.PastLaws.{AgreesThroughout};
 ghost use Rattle.gw_rules.specs.Lawful.{IsClear, Stands};
 ghost use Rattle.gw_rules.specs.Triple.{IsRun, RunTriple};
 ghost use Rattle.gw_rules.specs.View.{View};
-ghost use Rattle.gw_dispatch.specs.Growth.{AddsPolls, EndsForMemory, EndsInFailure};
+ghost use Rattle.gw_dispatch.specs.Growth.{AddsPolls, EndsForMemory, EndsInFailure, PollsToEnd};
 ghost use Rattle.gw_dispatch.specs.RunEnd.{EndsByFound, NoneBegan};
 ghost use Rattle.gw_run.specs.Serving.{IsRunEnding, MayReportMemory};
 ghost use Rattle.gw_run.specs.RunEnds.{EndsRun, EndsWithStatus, GivesEnd, GivesStatus, ending_of};
@@ -46,6 +46,7 @@ pub(crate) fn run_ended<S: Site>(alloc: Global, setup: &Setup, site: &mut S, mos
     ensures failed { result ≡ Ending.Disk → IfObserved (S.observed site.old) (λ before. EndsInFailure (S.observed site.new)) }
     ensures memory { MayReportMemory result → IfObserved (S.observed site.old) (λ before. EndsForMemory (S.observed site.new)) }
     ensures polls { IfObserved (S.observed site.old) (λ before. AddsPolls most before (S.observed site.new)) }
+    ensures done { result ≡ Ending.Played → IfObserved (S.observed site.old) (λ before. PollsToEnd most before (S.observed site.new)) }
     ensures later { (S.observed site.old).faults ≤ (S.observed site.new).faults }
 {
     ending_of(run_gateway(alloc, setup, site, most))
@@ -60,6 +61,8 @@ pub(crate) fn run_ended<S: Site>(alloc: Global, setup: &Setup, site: &mut S, mos
 /// - 71: memory was refused, before the first poll or in a round in which a till has opened or bytes of one have come;
 /// - 74: a call on the disk has failed;
 /// - 76: the journal is refused: it is too long for the setup's slots, or leaves fewer of them free than keys are open.
+///
+/// Of any log that is observed, 0 says that the site is dark, that `Stopped` was polled, or that exactly so many polls were made.
 ///
 /// Whatever has written the file, 76 says of the one that the run has found that it is such, that it is cut in a slot, or that a slot
 /// has no record that may follow those before it.
@@ -78,6 +81,7 @@ pub fn run<S: Site>(alloc: Global, setup: &Setup, site: &mut S, most: u64) -> u8
     ensures failed { result ≡ 74 → IfObserved (S.observed site.old) (λ before. EndsInFailure (S.observed site.new)) }
     ensures memory { result ≡ 71 → IfObserved (S.observed site.old) (λ before. EndsForMemory (S.observed site.new)) }
     ensures polls { IfObserved (S.observed site.old) (λ before. AddsPolls most before (S.observed site.new)) }
+    ensures done { result ≡ 0 → IfObserved (S.observed site.old) (λ before. PollsToEnd most before (S.observed site.new)) }
     ensures agrees { IfObserved (S.observed site.old) (λ before. (v : View) → Stands before v → IsClear v → IfObserved (S.observed site.new) AgreesThroughout) }
     ensures later { (S.observed site.old).faults ≤ (S.observed site.new).faults }
 {

@@ -5,7 +5,7 @@ ghost use Rattle.gw_site.specs.declared.turn.Turn.{Turn};
 ghost use Rattle.gw_script.specs.Decode.{script_limit};
 ghost use Rattle.gw_script.specs.site.Decode.{script_of};
 ghost use Rattle.gw_site.specs.Observed.{IfObserved};
-ghost use Rattle.gw_dispatch.specs.Growth.{AddsPolls};
+ghost use Rattle.gw_dispatch.specs.Growth.{AddsPolls, PollsToEnd};
 ghost use Rattle.gw_rules.specs.Lawful.{IsClear, Stands};
 ghost use Rattle.gw_rules.specs.View.{View};
 ghost use Rattle.gw_run.specs.LogWritten.{Adds};
@@ -148,8 +148,9 @@ pub fn top<S: Site, I: Source, O: Sink>(
         (stream_observed O.written O.faults out.old out.new)
         (site_calls (S.observed site.old) (S.observed site.new)) }
 
-    // However it ends, the site was polled no more often.
+    // However it ends, the site was polled no more often, and with 0 exactly so often or until the stop, or it is dark.
     ensures polls { (most : ℕ) → AskToServe words.now most → IfObserved (S.observed site.old) (λ before. AddsPolls most before (S.observed site.new)) }
+    ensures done { (most : ℕ) → AskToServe words.now most → result ≡ 0 → IfObserved (S.observed site.old) (λ before. PollsToEnd most before (S.observed site.new)) }
 
     // The headline, from a lawful and clear log on.
     ensures headline { (most : ℕ) → AskToServe words.now most → IfObserved (S.observed site.old) (λ before. (v : View) → Stands before v → IsClear v

@@ -4,7 +4,7 @@ ghost use Rattle.gw_base.specs.Setup.{IsSetup};
 ghost use Rattle.gw_site.specs.Failures.{Rose};
 ghost use Rattle.gw_site.specs.Observed.{IfObserved};
 ghost use Rattle.gw_config.specs.Faults.{document_limit};
-ghost use Rattle.gw_dispatch.specs.Growth.{AddsPolls};
+ghost use Rattle.gw_dispatch.specs.Growth.{AddsPolls, PollsToEnd};
 ghost use Rattle.gw_rules.specs.Lawful.{IsClear, Stands};
 ghost use Rattle.gw_rules.specs.View.{View};
 ghost use Rattle.gw_site.specs.declared.turn.Turn.{Turn};
@@ -141,6 +141,7 @@ fn serve_setup<S: Site, O: Sink>(
     ensures cause { RunCause result setup.now (stream_observed O.written O.faults out.old out.new) (site_calls (S.observed site.old) (S.observed site.new)) }
     ensures printed { Adds (O.written out.old) (O.written out.new) (RunPrinted setup.now (stream_observed O.written O.faults out.old out.new) (site_calls (S.observed site.old) (S.observed site.new)) result) }
     ensures polls { IfObserved (S.observed site.old) (λ before. AddsPolls most before (S.observed site.new)) }
+    ensures done { result ≡ Ending.Played → IfObserved (S.observed site.old) (λ before. PollsToEnd most before (S.observed site.new)) }
     ensures headline { IfObserved (S.observed site.old) (λ before. (v : View) → Stands before v → IsClear v → Serves (λ own. own ≡ setup.now) most (result ≡ Ending.Played) before (S.observed site.new)) }
     ensures complete { IfObserved (S.observed site.old) (λ before. TakesFile setup.now.slots before → ¬ Rose (S.observed site.old).faults (S.observed site.new).faults → ¬ Rose (O.faults out.old) (O.faults out.new) → (result ≡ Ending.Played) ⊎ (result ≡ Ending.Memory)) }
     ensures site_later { (S.observed site.old).faults ≤ (S.observed site.new).faults }
@@ -161,6 +162,7 @@ pub(crate) fn serve<S: Site, I: Source, O: Sink>(
     ensures cause { ServeCause result (stream_observed I.left I.faults input.old input.new) (stream_observed O.written O.faults out.old out.new) (site_calls (S.observed site.old) (S.observed site.new)) }
     ensures printed { Adds (O.written out.old) (O.written out.new) (ServePrinted (λ other. ServeCause other (stream_observed I.left I.faults input.old input.new) (stream_observed O.written O.faults out.old out.new) (site_calls (S.observed site.old) (S.observed site.new))) result) }
     ensures polls { IfObserved (S.observed site.old) (λ before. AddsPolls most before (S.observed site.new)) }
+    ensures done { result ≡ ServeEnding.Other Ending.Played → IfObserved (S.observed site.old) (λ before. PollsToEnd most before (S.observed site.new)) }
     ensures headline { IfObserved (S.observed site.old) (λ before. (v : View) → Stands before v → IsClear v → Serves (IsSetupOfInput (I.left input.old)) most (result ≡ ServeEnding.Other Ending.Played) before (S.observed site.new)) }
     ensures complete { IfObserved (S.observed site.old) (λ before. (text : List ℕ) → I.left input.old ≡ Some text → IsServable text before → ¬ Rose (I.faults input.old) (I.faults input.new)
         → ¬ Rose (S.observed site.old).faults (S.observed site.new).faults → ¬ Rose (O.faults out.old) (O.faults out.new) → (result ≡ ServeEnding.Other Ending.Played) ⊎ (result ≡ ServeEnding.Other Ending.Memory)) }

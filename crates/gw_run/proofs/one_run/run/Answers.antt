@@ -1,5 +1,6 @@
 -- Proof of the contract of `run`.
-use Rattle.gw_run.proofs.RunEndLemmas.{gives-status, run-agrees, run-status, status-lacks}
+use Rattle.std.proofs.Common.{◌∙◌, sym}
+use Rattle.gw_run.proofs.RunEndLemmas.{gives-status, run-agrees, run-status, status-lacks, zero-played}
 use Rattle.gw_run.proofs.one_run.run.Goals as goal
 
 pub returns-clause-lawful : goal.returns-clause-lawful
@@ -13,3 +14,6 @@ returns-clause-agrees g c = run-agrees c.law_headline.ensures.throughout _ _ _ _
 
 pub returns-clause-memory : goal.returns-clause-memory
 returns-clause-memory g c = λ e. c.run_ended.ensures.memory (status-lacks c.run_ended.result c.status.result c.status.ensures e)
+
+pub returns-clause-done : goal.returns-clause-done
+returns-clause-done g c = λ zero. c.run_ended.ensures.done (zero-played c.run_ended.result (sym c.status.ensures ∙ zero))

@@ -1,10 +1,10 @@
 -- Proof of the contract of `top`.
 use Rattle.std.proofs.Common.{◌∙◌, refl, subst, sym}
-use Rattle.gw_dispatch.specs.Growth.{AddsPolls}
+use Rattle.gw_dispatch.specs.Growth.{AddsPolls, PollsToEnd}
 use Rattle.gw_dispatch.proofs.GrowthLemmas.{goes-nowhere, goes-without-poll}
 use Rattle.gw_run.specs.declared.ending.Ending.TheVariants.{Memory}
 use Rattle.gw_run.proofs.ReplayLemmas.{status-after}
-use Rattle.gw_run.proofs.TopLemmas.{lines-ended, memory-served, memory-serves, replay-asked, replay-ended, serve-ended, serve-turns, serves-status}
+use Rattle.gw_run.proofs.TopLemmas.{lines-ended, memory-served, memory-serves, memory-undone, replay-asked, replay-ended, serve-ended, serve-turns, serves-status, zero-served}
 use Rattle.gw_run.proofs.program.top.Goals as goal
 
 pub returns-in-Serve-clause-served : goal.returns-in-Serve-clause-served
@@ -17,6 +17,11 @@ returns-in-Serve-clause-headline g c = λ turns asks before e v stands clear.
 pub returns-in-Serve-clause-polls : goal.returns-in-Serve-clause-polls
 returns-in-Serve-clause-polls g c = λ turns asks before e.
     subst (λ most. AddsPolls most before (g.S.Site.observed c.serve.new.site)) (serve-turns c.args.words.now c.in-Ok-Some.order turns (sym c.in-Ok-Some.field-0-is ∙ c.in-Ok-Some.ensures) asks) (c.serve.ensures.polls before e)
+
+pub returns-in-Serve-clause-done : goal.returns-in-Serve-clause-done
+returns-in-Serve-clause-done g c = λ turns asks zero before e.
+    subst (λ most. PollsToEnd most before (g.S.Site.observed c.serve.new.site)) (serve-turns c.args.words.now c.in-Ok-Some.order turns (sym c.in-Ok-Some.field-0-is ∙ c.in-Ok-Some.ensures) asks)
+    (c.serve.ensures.done (zero-served c.serve.result (sym c.status.ensures ∙ zero)) before e)
 
 pub returns-in-Replay-clause-ended : goal.returns-in-Replay-clause-ended
 returns-in-Replay-clause-ended g c = λ asks. replay-ended c.status-in-Replay.result c.args.words.now _ _ c.replay.result c.status-in-Replay.ensures (replay-asked c.args.words.now c.in-Ok-Some.order (sym c.in-Ok-Some.field-0-is ∙ c.in-Ok-Some.ensures) c.in-Replay.is) c.replay.ensures.cause c.replay.ensures.printed
@@ -36,3 +41,6 @@ returns-in-Err-clause-headline g c = λ turns asks before e v stands clear.
 
 pub returns-in-Err-clause-polls : goal.returns-in-Err-clause-polls
 returns-in-Err-clause-polls g c = λ turns asks. (goes-without-poll turns (g.S.Site.observed c.args.site.now) (g.S.Site.observed c.args.site.now) (goes-nowhere (g.S.Site.observed c.args.site.now))).adds
+
+pub returns-in-Err-clause-done : goal.returns-in-Err-clause-done
+returns-in-Err-clause-done g c = λ turns asks zero. absurd (memory-undone c.status-in-Err.result c.write_last_lines-in-Err.result c.status-in-Err.ensures c.write_last_lines-in-Err.ensures.which zero)

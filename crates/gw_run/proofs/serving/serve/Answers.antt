@@ -21,3 +21,9 @@ returns-in-Err-clause-headline g c = λ before e v stands clear. nothing-served 
 
 pub returns-in-Err-clause-polls : goal.returns-in-Err-clause-polls
 returns-in-Err-clause-polls g c = (goes-without-poll c.args.most (g.S.Site.observed c.args.site.now) (g.S.Site.observed c.args.site.now) (goes-nowhere (g.S.Site.observed c.args.site.now))).adds
+
+pub returns-in-Ok-clause-done : goal.returns-in-Ok-clause-done
+returns-in-Ok-clause-done g c = λ played. c.serve_setup.ensures.done (other-same _ _ played)
+
+pub returns-in-Err-clause-done : goal.returns-in-Err-clause-done
+returns-in-Err-clause-done g c = λ played. absurd (config-unplayed c.in-Err.ending c.write_serve_lines.result _ c.in-Err.ensures.fault c.write_serve_lines.ensures.which played)

@@ -1,5 +1,5 @@
 -- Proof of the contract of `serve_setup`.
-use Rattle.gw_run.proofs.ServeLemmas.{reported-cause, run-cause, run-printed, run-serves}
+use Rattle.gw_run.proofs.ServeLemmas.{reported-cause, reported-played, run-cause, run-printed, run-serves}
 use Rattle.gw_run.proofs.serving.serve_setup.Goals as goal
 
 pub returns-clause-headline : goal.returns-clause-headline
@@ -19,3 +19,6 @@ returns-clause-printed g c = λ written e.
           c.run_ended.ensures.memory y.1,
       y.2,
     )
+
+pub returns-clause-done : goal.returns-clause-done
+returns-clause-done g c = λ played. c.run_ended.ensures.done (reported-played c.run_ended.result c.write_last_lines.result c.write_last_lines.ensures.which played)
