@@ -2,13 +2,16 @@
 import collections
 import json
 import os
-import select
 import signal
 import socket
 import struct
 import subprocess
+import sys
 import threading
 import time
+
+sys.path.insert(0, os.path.join(os.path.dirname(os.path.abspath(__file__)), "..", "examples"))
+from till import Connection, Lost
 
 # How long a till, a terminal or the gateway is awaited, in seconds.
 PATIENCE = 15
@@ -52,8 +55,8 @@ def digits(value, size):
 ACK, COMPLETION = apdu("8000"), apdu("060f")
 
 
-def frame(category, service, sale, poi, body):
-    """A till's request with its length before it."""
+def request(category, service, sale, poi, body):
+    """A till's request."""
     header = dict(
         ProtocolVersion="3.0",
         MessageClass="Service",
@@ -63,7 +66,12 @@ def frame(category, service, sale, poi, body):
         SaleID=sale,
         POIID=poi,
     )
-    text = json.dumps({"SaleToPOIRequest": {"MessageHeader": header, category + "Request": body}}).encode()
+    return {"SaleToPOIRequest": {"MessageHeader": header, category + "Request": body}}
+
+
+def frame(category, service, sale, poi, body):
+    """A till's request with its length before it."""
+    text = json.dumps(request(category, service, sale, poi, body)).encode()
     return struct.pack(">I", len(text)) + text
 
 
@@ -71,15 +79,17 @@ class Terminal:
     """A ZVT terminal on loopback with one connection at a time, which numbers its transactions from 1 and keeps a book.
 
     A payment is approved at once, after the lines of `prints`. Where `holds` is set nothing is said of the next payment that is booked
-    but its acknowledgement, until it is released."""
+    but its acknowledgement, until it is released. Where `loses` is set the next payment is acknowledged and not booked, and its connection
+    ends once it is released."""
 
-    def __init__(self, prints=()):
-        self.listener = socket.create_server(("127.0.0.1", 0))
+    def __init__(self, prints=(), address=("127.0.0.1", 0)):
+        self.listener = socket.create_server(address)
         self.address = self.listener.getsockname()
         self.prints = list(prints)
         self.book = []  # (kind, amount, receipt number)
         self.commands = []  # the class and instruction of each command, and when its first bytes were read
         self.holds = threading.Event()
+        self.loses = threading.Event()
         self.is_held = threading.Event()
         self.released = threading.Event()
         self.line = None
@@ -127,6 +137,11 @@ class Terminal:
         if head == "0620":
             line.sendall(ACK + (self._report() + COMPLETION if self.book else apdu("061e", b"\x83")))
         elif head in ("0601", "0630"):
+            if self.loses.is_set():
+                self.loses.clear()
+                line.sendall(ACK)
+                self.hold()
+                raise ConnectionAbortedError
             if head == "0601":
                 self.book.append(("payment", int(data[1:7].hex()), (len(self.book) + 1) % 10000))
             else:
@@ -136,9 +151,7 @@ class Terminal:
             if self.holds.is_set():
                 self.holds.clear()
                 line.sendall(ACK)
-                self.is_held.set()
-                self.released.wait(PATIENCE)
-                self.released.clear()
+                self.hold()
             else:
                 line.sendall(ACK)
             prints = b"".join(apdu("06d1", b"\x00" + text) for text in self.prints)
@@ -147,6 +160,11 @@ class Terminal:
             line.sendall(ACK)
         else:
             line.sendall(ACK + COMPLETION)
+
+    def hold(self):
+        self.is_held.set()
+        self.released.wait(PATIENCE)
+        self.released.clear()
 
     def charged(self):
         """How many payments are booked."""
@@ -158,17 +176,15 @@ class Terminal:
 
 
 class Till:
-    """A till, with the messages that came and weren't asked for yet."""
+    """A till with one connection, with the messages that came and weren't asked for yet."""
 
     def __init__(self, address, sale="S1"):
         self.sale = sale
-        self.line = socket.create_connection(address, PATIENCE)
-        self.line.setsockopt(socket.IPPROTO_TCP, socket.TCP_NODELAY, 1)
-        self.got = b""
+        self.connection = Connection(address)
         self.waiting = collections.deque()
 
     def send(self, category, service, body, poi="T1"):
-        self.line.sendall(frame(category, service, self.sale, poi, body))
+        self.connection.send(request(category, service, self.sale, poi, body))
 
     def pay(self, service, amount, poi="T1"):
         sale = {"SaleTransactionID": {"TransactionID": str(service), "TimeStamp": "2025-03-07T10:11:04+00:00"}}
@@ -181,15 +197,13 @@ class Till:
         self.send("Reversal", service, {"OriginalPOITransaction": {"POITransactionID": {"TransactionID": transaction}}, "ReversalReason": "MerchantCancel"})
 
     def _next(self):
-        while len(self.got) < 4 or len(self.got) < 4 + struct.unpack(">I", self.got[:4])[0]:
-            self.line.settimeout(PATIENCE)
-            more = self.line.recv(65536)
-            if not more:
-                raise Differs("the gateway has cut a till")
-            self.got += more
-        size = struct.unpack(">I", self.got[:4])[0]
-        text, self.got = self.got[4 : 4 + size], self.got[4 + size :]
-        return json.loads(text)
+        try:
+            message = self.connection.receive(PATIENCE)
+        except Lost as fault:
+            raise Differs("a till has lost its connection: %s" % fault)
+        if message is None:
+            raise Differs("the gateway is silent")
+        return message
 
     def message(self, category, service):
         """The next message of this category and ServiceID; others are left for later."""
@@ -204,7 +218,7 @@ class Till:
             self.waiting.append(message)
 
     def close(self):
-        self.line.close()
+        self.connection.close()
 
 
 def is_of(message, category, service):
@@ -235,7 +249,7 @@ class Gateway:
         while True:
             try:
                 return Till(self.listen, sale)
-            except ConnectionRefusedError:
+            except Lost:
                 if self.process.poll() is not None or time.monotonic() > end:
                     raise Differs("the gateway doesn't listen: %r" % self.ended())
                 time.sleep(0.005)
