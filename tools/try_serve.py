@@ -1,7 +1,9 @@
 """What the built gateway does between a terminal and tills on loopback: payments with print lines, a repeat, a reversal, a request that waits,
-a till that vanishes, a terminal that is restarted, a kill in the middle of a payment, and a second gateway on the same journal.
+a till that vanishes, a terminal that is restarted, kills before a payment is booked, after that and after its Outcome, and a second gateway
+on the same journal.
 
 try_serve.py PROGRAM: PROGRAM is a build of the program. It ends with status 1 at the first thing that differs."""
+import decimal
 import os
 import signal
 import sys
@@ -38,7 +40,7 @@ def pays_prints_and_reverses(gateway, terminal, till):
     same(terminal.charged(), 1, "payments booked after a repeat")
     till.reverse(2, paid["POIData"]["POITransactionID"]["TransactionID"])
     reversed_ = till.message("Reversal", 2)
-    same((result(reversed_), reversed_["ReversedAmount"]), ("Success", 10.99), "a reversal")
+    same((result(reversed_), reversed_["ReversedAmount"]), ("Success", decimal.Decimal("10.99")), "a reversal")
 
 
 def wait_held(terminal):
@@ -93,52 +95,110 @@ def terminal_restarts(gateway, terminal, till):
     same(result(till.message("Payment", 5)), "Success", "a payment after the terminal was restarted")
 
 
-def is_killed(program, journal, gateway, terminal, till):
-    """Returns the gateway that is started after it."""
+class Runs:
+    """The gateways that were started on one journal, with one terminal."""
+
+    def __init__(self, program, journal, terminal):
+        self.program, self.journal, self.terminal = program, journal, terminal
+        self.started = []
+
+    def start(self):
+        self.started.append(Gateway(self.program, self.journal, [self.terminal]))
+        return self.started[-1]
+
+    def start_again(self):
+        """Kills the last one; the next one, and a till of it, once its terminal is ready."""
+        self.started[-1].kill()
+        self.terminal.released.set()
+        gateway = self.start()
+        till = gateway.till()
+        gateway.wait_ready(till, ["T1"])
+        return gateway, till
+
+    def kill(self):
+        for gateway in self.started:
+            gateway.kill()
+
+
+def repeated(till, service, of):
+    """What a status repeats of the payment of this ServiceID."""
+    till.ask_status(service, of)
+    reply = till.message("TransactionStatus", service)
+    if "RepeatedMessageResponse" not in reply:
+        raise Differs("the status of a payment in which the gateway was killed: %s" % result(reply))
+    return reply["RepeatedMessageResponse"]["RepeatedResponseMessageBody"]["PaymentResponse"]
+
+
+def is_killed_before_the_booking(runs, till):
+    """The payment is declined by the next run, and charged under a new ServiceID alone."""
+    terminal = runs.terminal
+    charged = terminal.charged()
+    terminal.is_held.clear()
+    terminal.loses.set()
+    till.pay(6, 9.99)
+    wait_held(terminal)
+    _, till = runs.start_again()
+    said = repeated(till, 7, 6)
+    same((result(said), "POIData" in said), ("Failure Aborted", True), "a payment that the terminal hasn't booked as the gateway was killed")
+    till.pay(6, 9.99)
+    same(till.message("Payment", 6), said, "its repeat")
+    same(terminal.charged(), charged, "payments booked for it")
+    return till
+
+
+def is_killed_after_the_booking(runs, till):
+    terminal = runs.terminal
     charged = terminal.charged()
     terminal.is_held.clear()
     terminal.holds.set()
-    till.pay(6, 12.34)
+    till.pay(8, 12.34)
     wait_held(terminal)
-    gateway.kill()
     same(terminal.charged(), charged + 1, "payments booked before the kill")
-    terminal.released.set()
-    gateway = Gateway(program, journal, [terminal])
-    till = gateway.till()
-    gateway.wait_ready(till, ["T1"])
-    till.ask_status(7, 6)
-    told = till.message("TransactionStatus", 7)["RepeatedMessageResponse"]["RepeatedResponseMessageBody"]["PaymentResponse"]
-    same((result(told), told["PaymentResult"]["AmountsResp"]["AuthorizedAmount"]), ("Success", 12.34), "the payment in which the gateway was killed")
-    till.pay(6, 12.34)
-    same(result(till.message("Payment", 6)), "Success", "its repeat")
+    _, till = runs.start_again()
+    said = repeated(till, 9, 8)
+    paid = said.get("PaymentResult", {}).get("AmountsResp", {}).get("AuthorizedAmount")
+    same((result(said), paid), ("Success", decimal.Decimal("12.34")), "a payment that the terminal has booked as the gateway was killed")
+    till.pay(8, 12.34)
+    same(till.message("Payment", 8), said, "its repeat")
     same(terminal.charged(), charged + 1, "payments booked in all for it")
-    return gateway
+    return till
 
 
-def second_is_refused(program, journal, terminal):
-    second = Gateway(program, journal, [terminal])
-    try:
-        wait_until(lambda: second.process.poll() is not None, "the end of a second gateway on the same journal")
-        same(second.ended(), ("open\nstatus 69\n", 69), "a second gateway on the same journal")
-    finally:
-        second.kill()
+def is_killed_after_the_outcome(runs, till):
+    terminal = runs.terminal
+    charged = terminal.charged()
+    till.pay(10, 1.5)
+    paid = till.message("Payment", 10)
+    _, till = runs.start_again()
+    same(repeated(till, 11, 10), paid, "the status of a payment whose till has its reply as the gateway was killed")
+    till.pay(10, 1.5)
+    same(till.message("Payment", 10), paid, "its repeat")
+    same(terminal.charged(), charged + 1, "payments booked in all for it")
+
+
+def second_is_refused(runs):
+    second = runs.start()
+    wait_until(lambda: second.process.poll() is not None, "the end of a second gateway on the same journal")
+    same(second.ended(), ("open\nstatus 69\n", 69), "a second gateway on the same journal")
 
 
 def play(program, folder):
-    journal = os.path.join(folder, "gateway.jrn")
     terminal = Terminal()
-    gateway = Gateway(program, journal, [terminal])
+    runs = Runs(program, os.path.join(folder, "gateway.jrn"), terminal)
     try:
+        gateway = runs.start()
         till = gateway.till()
         gateway.wait_ready(till, ["T1"])
         pays_prints_and_reverses(gateway, terminal, till)
         waits_for_another(gateway, terminal, till)
         till_vanishes(gateway, terminal, till)
         terminal_restarts(gateway, terminal, till)
-        gateway = is_killed(program, journal, gateway, terminal, till)
-        second_is_refused(program, journal, terminal)
+        till = is_killed_before_the_booking(runs, till)
+        till = is_killed_after_the_booking(runs, till)
+        is_killed_after_the_outcome(runs, till)
+        second_is_refused(runs)
     finally:
-        gateway.kill()
+        runs.kill()
 
 
 def main():
