@@ -239,8 +239,9 @@ class Gateway:
         parts = ['listen = "%s"' % text_of(self.listen), 'journal = "%s"' % journal, "line = %d" % line]
         for number, terminal in enumerate(terminals):
             parts += ["[[terminal]]", 'poi = "T%d"' % (number + 1), 'address = "%s"' % text_of(terminal.address), 'currency = "EUR"', 'password = "123456"', "config = 186"]
+        self.configuration = "".join(part + "\n" for part in parts)
         self.process = subprocess.Popen([program, "serve"], stdin=subprocess.PIPE, stdout=subprocess.PIPE)
-        self.process.stdin.write("".join(part + "\n" for part in parts).encode())
+        self.process.stdin.write(self.configuration.encode())
         self.process.stdin.close()
 
     def till(self, sale="S1"):

@@ -1,15 +1,18 @@
 """What the built gateway does between a terminal and tills on loopback: payments with print lines, a repeat, a reversal, a request that waits,
 a till that vanishes, a terminal that is restarted, kills before a payment is booked, after that and after its Outcome, and a second gateway
-on the same journal.
+on the same journal; and what the tools ask and read-journal say beside it.
 
 try_serve.py PROGRAM: PROGRAM is a build of the program. It ends with status 1 at the first thing that differs."""
 import decimal
 import os
 import signal
+import subprocess
 import sys
 import tempfile
 
-from played import Differs, Gateway, Terminal, wait_until
+from played import Differs, Gateway, Terminal, text_of, wait_until
+
+TOOLS = os.path.dirname(os.path.abspath(__file__))
 
 
 def same(seen, expected, what):
@@ -176,6 +179,45 @@ def is_killed_after_the_outcome(runs, till):
     same(terminal.charged(), charged + 1, "payments booked in all for it")
 
 
+def said_by(tool, *words):
+    """The last line that a tool prints, and its exit status."""
+    ended = subprocess.run([sys.executable, "-B", os.path.join(TOOLS, tool), *words], capture_output=True, text=True)
+    return (ended.stdout.splitlines() or [""])[-1], ended.returncode
+
+
+def is_asked(runs, gateway, folder):
+    """What tools/ask and tools/read-journal say of a terminal and of payments, in progress and finished."""
+    terminal, by = runs.terminal, ["--at", text_of(gateway.listen), "--file", os.path.join(folder, "ask.json")]
+    same(said_by("ask", *by, "diagnosis", "T1"), ("OK", 0), "ask diagnosis")
+    same(said_by("ask", *by, "diagnosis", "T2"), ("Unknown", 1), "ask diagnosis of another terminal")
+    same(said_by("ask", *by, "status", "T1", "S1", "99"), ("Failure NotFound", 4), "ask status of what was never sent")
+    terminal.is_held.clear()
+    terminal.holds.set()
+    till = gateway.till("S4")
+    till.pay(1, 6)
+    wait_held(terminal)
+    same(said_by("ask", *by, "diagnosis", "T1"), ("Busy", 0), "ask diagnosis in a payment")
+    same(said_by("ask", *by, "status", "T1", "S4", "1"), ("Failure InProgress", 3), "ask status in a payment")
+    same(said_by("read-journal", runs.journal), ("open: 1", 3), "read-journal in a payment")
+    terminal.released.set()
+    same(result(till.message("Payment", 1)), "Success", "a payment that is asked for")
+    line, status = said_by("ask", *by, "pay", "T1", "1.25")
+    same((line.split()[0], line.split()[-1], status), ("Success", "1.25", 0), "ask pay")
+    same(said_by("ask", *by, "reverse", "T1", line.split()[1])[1], 0, "ask reverse")
+    same(said_by("ask", *by, "resume", "T1"), ("nothing was open", 0), "ask resume")
+    same(said_by("read-journal", runs.journal), ("open: none", 0), "read-journal")
+    configuration, metrics = os.path.join(folder, "gateway.toml"), os.path.join(folder, "gateway.prom")
+    with open(configuration, "w") as file:
+        file.write(gateway.configuration)
+    same(said_by("ask", "metrics", configuration, metrics), ("", 0), "ask metrics")
+    with open(metrics) as file:
+        seen = set(file.read().splitlines())
+    wanted = {"gumtwice_up 1", 'gumtwice_terminal{poi="T1",state="OK"} 1', 'gumtwice_terminal{poi="T1",state="Unreachable"} 0'}
+    wanted |= {"gumtwice_journal_records %d" % (os.path.getsize(runs.journal) // 256), "gumtwice_journal_slots 1000000"}
+    same(wanted - seen, set(), "what ask metrics leaves out")
+    return by
+
+
 def second_is_refused(runs):
     second = runs.start()
     wait_until(lambda: second.process.poll() is not None, "the end of a second gateway on the same journal")
@@ -193,10 +235,12 @@ def play(program, folder):
         waits_for_another(gateway, terminal, till)
         till_vanishes(gateway, terminal, till)
         terminal_restarts(gateway, terminal, till)
+        by = is_asked(runs, gateway, folder)
         till = is_killed_before_the_booking(runs, till)
         till = is_killed_after_the_booking(runs, till)
         is_killed_after_the_outcome(runs, till)
         second_is_refused(runs)
+        same(said_by("ask", *by, "diagnosis", "T1"), ("", 7), "ask diagnosis of a gateway that is gone")
     finally:
         runs.kill()
 
