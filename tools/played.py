@@ -183,6 +183,11 @@ class Till:
         self.connection = Connection(address)
         self.waiting = collections.deque()
 
+    @property
+    def line(self):
+        """Its socket, for a till that is played by bytes."""
+        return self.connection.socket
+
     def send(self, category, service, body, poi="T1"):
         self.connection.send(request(category, service, self.sale, poi, body))
 
