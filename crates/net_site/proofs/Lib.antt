@@ -1,2 +1,2 @@
--- The lemmas of lists: filtered by a field of their elements, and with one element set.
+-- The lemmas of lists: filtered by a field of their elements or without one of them, and with one element set.
 pub mod ListLemmas

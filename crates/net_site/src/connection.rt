@@ -1,20 +1,15 @@
-//! Reads and sends of one connection, neither of which waits long.
-ghost use Rattle.std.specs.Prelude.{◌≡◌, length};
+//! Reads and writes of one connection, none of which waits.
+ghost use Rattle.std.specs.Prelude.{◌≡◌, ◌≤◌, length, IfOk};
 ghost use Rattle.net_site.specs.inner.Received.{HasCount};
 
 use gw_bytes::LONGEST_CHUNK;
 use libc::net::{
-    IPPROTO_TCP, POLLOUT, SO_KEEPALIVE, SOL_SOCKET, TCP_KEEPCNT, TCP_KEEPIDLE, TCP_KEEPINTVL,
-    TCP_USER_TIMEOUT, poll, setsockopt,
+    IPPROTO_TCP, SO_KEEPALIVE, SOL_SOCKET, TCP_KEEPCNT, TCP_KEEPIDLE, TCP_KEEPINTVL,
+    TCP_USER_TIMEOUT, setsockopt,
 };
-use libc::types::pollfd;
 use std::io::{self, ErrorKind, Read, Write};
 use std::net::TcpStream;
 use std::os::fd::AsRawFd;
-use std::time::{Clock, Instant};
-
-/// How long a send waits in all for a socket that doesn't take its bytes, in milliseconds.
-const SEND_WAIT: u128 = 100;
 
 /// After how many seconds of silence the system first asks a peer whether it is still there.
 const IDLE: i32 = 30;
@@ -93,42 +88,27 @@ pub(crate) fn hear(stream: &TcpStream, buf: &mut [u8; LONGEST_CHUNK]) -> Receive
     }
 }
 
-/// Waits until the socket takes bytes, but not past the end of the wait that began at `start`.
-fn wait_to_send<R: Clock>(rt: &R, stream: &TcpStream, start: Instant) -> io::Result<()> {
-    let passed = start.elapsed(rt)?.as_millis();
-    if passed >= SEND_WAIT {
-        return Err(io::Error::from(ErrorKind::TimedOut));
+/// Writes what the socket takes at once, and returns how many bytes that is.
+pub(crate) fn write(stream: &TcpStream, bytes: &[u8]) -> io::Result<usize>
+    ensures { IfOk result (λ count. count ≤ length bytes.now) }
+{
+    let mut writer = stream;
+    match writer.write(bytes) {
+        Ok(count) => Ok(count),
+        Err(error) => match error.kind() {
+            ErrorKind::WouldBlock | ErrorKind::Interrupted => Ok(0),
+            _ => Err(error),
+        },
     }
-    let mut fds = [pollfd {
-        fd: stream.as_raw_fd(),
-        events: POLLOUT,
-        revents: 0,
-    }];
-    let _ = poll(&mut fds, (SEND_WAIT - passed) as i32);
-    Ok(())
 }
 
-/// Sends all of the bytes, or fails.
+/// Sends all of the bytes at once, or fails.
 ///
-/// A socket whose buffer is full is waited for and not tried again and again: a peer may be slow to read, and a million
-/// tries keep a processor busy for a quarter of a second.
-pub(crate) fn send<R: Clock>(rt: &R, stream: &TcpStream, bytes: &[u8]) -> io::Result<()> {
-    let start = Instant::now(rt)?;
-    let mut writer = stream;
-    let mut left = bytes;
-    for _ in 0..u64::MAX {
-        if left.is_empty() {
-            return Ok(());
-        }
-        match writer.write(left) {
-            Ok(0) => break,
-            Ok(count) => left = &left[count..],
-            Err(error) => match error.kind() {
-                ErrorKind::Interrupted => {}
-                ErrorKind::WouldBlock => wait_to_send(rt, stream, start)?,
-                _ => return Err(error),
-            },
-        }
+/// The system keeps what its peer hasn't read yet: some ten thousand bytes at least, where a command has some hundred. So a peer for
+/// which it keeps no more reads nothing.
+pub(crate) fn send(stream: &TcpStream, bytes: &[u8]) -> io::Result<()> {
+    if write(stream, bytes)? < bytes.len() {
+        return Err(io::Error::from(ErrorKind::WouldBlock));
     }
-    Err(io::Error::from(ErrorKind::WriteZero))
+    Ok(())
 }

@@ -9,7 +9,7 @@ use crate::connection::{self, Received};
 use gw_base::Pt;
 use gw_bytes::{LONGEST_CHUNK, MOST_TERMINALS};
 use gw_site::What;
-use libc::net::{POLLOUT, poll};
+use libc::net::{POLLOUT, POLLRDHUP, poll};
 use libc::types::pollfd;
 use std::alloc::{AllocError, Global};
 use std::io::{self, ErrorKind};
@@ -54,34 +54,67 @@ impl Model for Links {
     ghost view = { λ links. map (λ terminal. is_up terminal.link) links.terminals.items };
 }
 
-/// Whether the connection is made, at the latest after so many milliseconds. It fails where the peer refused it.
-fn is_made(stream: &mio::net::TcpStream, millis: i32) -> io::Result<bool> {
+/// How far a connection has come that was begun.
+enum Progress {
+    NotYet,
+    Made,
+    /// The peer has accepted it, and has closed it again.
+    Closed,
+}
+
+/// How far a connection has come, at the latest after so many milliseconds. It fails where there is no such peer, or where it was
+/// refused.
+fn progress_of(stream: &mio::net::TcpStream, millis: i32) -> io::Result<Progress> {
     let mut fds = [pollfd {
         fd: stream.as_raw_fd(),
-        events: POLLOUT,
+        events: POLLOUT | POLLRDHUP,
         revents: 0,
     }];
     if poll(&mut fds, millis) <= 0 {
-        return Ok(false);
+        return Ok(Progress::NotYet);
     }
-    match stream.take_error()? {
-        Some(error) => Err(error),
-        None => Ok(stream.peer_addr().is_ok()),
+    if let Some(error) = stream.take_error()? {
+        return Err(error);
     }
+    if fds[0].revents & POLLRDHUP != 0 {
+        return Ok(Progress::Closed);
+    }
+    let _ = stream.peer_addr()?;
+    Ok(Progress::Made)
 }
 
-/// Takes up the connection that is being made, or begins one, and waits for it.
-fn begin<R: Net>(rt: &R, old: Link, address: SocketAddr, millis: i32) -> io::Result<Link> {
-    let stream = match old {
-        Link::Making(stream) => stream,
-        Link::Down | Link::Up(_) => mio::net::TcpStream::connect(rt, address)?,
-    };
-    if !is_made(&stream, millis)? {
-        return Ok(Link::Making(stream));
-    }
+/// Takes up a connection that is made.
+fn take_up(stream: mio::net::TcpStream) -> io::Result<Link> {
     let stream = TcpStream::from(stream);
     connection::set_up(&stream)?;
     Ok(Link::Up(stream))
+}
+
+/// Begins a connection, and waits for it.
+fn begin<R: Net>(rt: &R, address: SocketAddr, millis: i32) -> io::Result<Link> {
+    let stream = mio::net::TcpStream::connect(rt, address)?;
+    match progress_of(&stream, millis)? {
+        Progress::Made => take_up(stream),
+        Progress::NotYet => Ok(Link::Making(stream)),
+        Progress::Closed => Err(io::Error::from(ErrorKind::ConnectionReset)),
+    }
+}
+
+/// Takes up the connection that is being made, or begins one.
+///
+/// One that is still being made isn't waited for, nor is one whose peer wasn't there: so terminals that are switched off leave the
+/// time to the others.
+fn go_on<R: Net>(rt: &R, old: Link, address: SocketAddr, millis: i32) -> io::Result<Link> {
+    let stream = match old {
+        Link::Making(stream) => stream,
+        Link::Down | Link::Up(_) => return begin(rt, address, millis),
+    };
+    match progress_of(&stream, 0) {
+        Ok(Progress::Made) => take_up(stream),
+        Ok(Progress::NotYet) => Ok(Link::Making(stream)),
+        Ok(Progress::Closed) => begin(rt, address, millis),
+        Err(_) => begin(rt, address, 0),
+    }
 }
 
 impl Links {
@@ -175,14 +208,15 @@ impl Links {
         mem::replace(&mut self.terminals[at].link, Link::Down)
     }
 
-    /// Takes up or begins the connection of a terminal, and counts the time that it waited.
+    /// Takes up or begins the connection of a terminal, and counts the time that it waited: at most half of what is left, so that
+    /// something is left for those after it.
     fn made<R: Net + Clock>(&mut self, rt: &R, old: Link, at: usize) -> io::Result<Link>
         requires { at < length self.old }
         ensures { self.new ≡ self.old }
     {
         let start = Instant::now(rt)?;
-        let millis = i32::from(self.patience / 1000);
-        let link = begin(rt, old, self.terminals[at].address, millis);
+        let millis = i32::from(self.patience / 2000);
+        let link = go_on(rt, old, self.terminals[at].address, millis);
         let passed = u16::try_from(start.elapsed(rt)?.as_micros()).unwrap_or(u16::MAX);
         self.patience = self.patience.saturating_sub(passed);
         link
@@ -245,12 +279,12 @@ impl Links {
     }
 
     /// Sends bytes to a terminal; fails where it isn't linked.
-    pub(crate) fn send<R: Clock>(&self, rt: &R, pt: u16, bytes: &[u8]) -> io::Result<()>
+    pub(crate) fn send(&self, pt: u16, bytes: &[u8]) -> io::Result<()>
         ensures { IfOk result (λ done. IsLinked self.now pt) }
     {
         match self.terminals.get(usize::from(pt)) {
             Some(terminal) => match &terminal.link {
-                Link::Up(stream) => connection::send(rt, stream, bytes),
+                Link::Up(stream) => connection::send(stream, bytes),
                 Link::Down | Link::Making(_) => Err(io::Error::from(ErrorKind::NotConnected)),
             },
             None => Err(io::Error::from(ErrorKind::NotConnected)),

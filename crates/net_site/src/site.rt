@@ -1,5 +1,5 @@
 //! The site.
-ghost use Rattle.std.specs.Prelude.{◌≡◌, ◌↔◌, ◌≤◌, All, length, [], None, true, false, IfOk, IsErr, is_ok, OnOk, OnErr, Contains, slice_set};
+ghost use Rattle.std.specs.Prelude.{◌≡◌, ◌↔◌, ◌<◌, ◌≤◌, All, length, [], None, true, false, IfOk, IsErr, is_ok, OnOk, OnErr, Contains, slice_set};
 ghost use Rattle.gw_site.specs.Failures.{HasCause, faults_after};
 ghost use Rattle.gw_site.specs.Turns.{IsWithinBuf};
 ghost use Rattle.net_site.specs.Holding.{AllGone, Brings, IsLinked, MakesLink, OpensSite, UsesDisk, closed, without_till};
@@ -11,7 +11,7 @@ use crate::tills::{self, Tills};
 use gw_base::Setup;
 use gw_bytes::{LONGEST_CHUNK, MOST_TERMINALS};
 use gw_site::{Failed, Polled, Site, What};
-use libc::net::{POLLIN, poll};
+use libc::net::{POLLIN, POLLOUT, poll};
 use libc::types::pollfd;
 use std::alloc::{AllocError, Global};
 use std::fs::File;
@@ -51,8 +51,16 @@ pub struct NetSite<R: Drop> {
     /// What poll(2) is asked, and what it reported last. Of a till or a terminal the descriptor changes only where its
     /// connection is made or closed.
     asked: [pollfd; ASKED],
-    /// Where the next poll begins.
-    next: usize,
+    /// Whether what poll(2) is asked of the tills is to be written anew.
+    asks_tills_anew: bool,
+    /// Where the next poll begins with the tills and the listener.
+    next_till: usize,
+    /// Where it begins with the terminals. In one pass over them each that is ready is heard once.
+    next_link: usize,
+    /// Whether it asks the terminals first.
+    is_links_turn: bool,
+    /// The clock as the pass over the terminals began.
+    began: i64,
     now: i64,
     faults: u64,
 }
@@ -82,10 +90,20 @@ fn asked(fd: i32) -> pollfd {
     }
 }
 
+/// Whether poll(2) has reported anything but that a socket takes bytes.
+fn is_ready(entry: pollfd) -> bool {
+    entry.revents & !POLLOUT != 0
+}
+
+/// Whether poll(2) was asked whether a socket takes bytes, and has reported something.
+fn may_be_written(entry: pollfd) -> bool {
+    entry.events & POLLOUT != 0 && entry.revents != 0
+}
+
 /// Asks poll(2) for each till.
 fn ask_for_each(fds: &mut [pollfd; ASKED], tills: &Tills) {
     for (index, fd) in fds[..LISTENER].iter_mut().enumerate() {
-        *fd = asked(tills.descriptor(index));
+        *fd = tills.asked(index);
     }
 }
 
@@ -130,7 +148,11 @@ impl<R: Drop> NetSite<R> {
             disk,
             standard,
             asked: [asked(-1); ASKED],
-            next: 0,
+            asks_tills_anew: false,
+            next_till: 0,
+            next_link: FIRST_LINK,
+            is_links_turn: false,
+            began: 0,
             now: 0,
             faults: 0,
         })
@@ -188,13 +210,6 @@ impl<R: Drop> NetSite<R> {
         }
     }
 
-    /// Asks for the tills anew, after one came or went. Those after one that went have moved up.
-    fn ask_for_tills(&mut self)
-        ensures { self.new ≡ self.old }
-    {
-        ask_for_each(&mut self.asked, &self.tills);
-    }
-
     /// Asks for a terminal anew, after its connection was made or closed.
     fn ask_for_terminal(&mut self, pt: u16)
         ensures { self.new ≡ self.old }
@@ -210,7 +225,7 @@ impl<R: Drop> NetSite<R> {
         ensures { self.new ≡ self.old }
     {
         match what {
-            What::TillOpened(_) | What::TillClosed(_) => self.ask_for_tills(),
+            What::TillOpened(_) | What::TillClosed(_) => self.asks_tills_anew = true,
             What::PtClosed(pt) => self.ask_for_terminal(pt),
             What::TillBytes(_, _) | What::PtBytes(_, _) | What::Nothing | What::Stopped => {}
         }
@@ -234,9 +249,33 @@ impl<R: Drop> NetSite<R> {
     fn wait(&mut self) -> bool
         ensures { self.new ≡ self.old }
     {
+        if self.asks_tills_anew {
+            ask_for_each(&mut self.asked, &self.tills);
+            self.asks_tills_anew = false;
+        }
         self.asked[LISTENER] = asked(self.listening());
         self.skips_listener = false;
         poll(&mut self.asked, WAIT) > 0
+    }
+
+    /// Writes what waits for the till at an index, where its socket takes something.
+    fn flush_till(&mut self, index: usize)
+        requires { index < 65 }
+        ensures { self.new ≡ self.old }
+    {
+        if may_be_written(self.asked[index]) {
+            self.tills.flush(index);
+            self.asks_tills_anew = true;
+        }
+    }
+
+    /// Writes what waits for tills, as their sockets take it.
+    fn flush_tills(&mut self)
+        ensures { self.new ≡ self.old }
+    {
+        for index in 0..LISTENER {
+            self.flush_till(index);
+        }
     }
 
     /// Takes a till that waits.
@@ -268,6 +307,19 @@ impl<R: Drop> NetSite<R> {
         }
     }
 
+    /// Goes on after an index, and lets the others have the next turn: tills where it is that of a terminal, and else terminals.
+    fn go_past(&mut self, index: usize)
+        requires { index < 98 }
+        ensures { self.new ≡ self.old }
+    {
+        self.is_links_turn = index < FIRST_LINK;
+        if self.is_links_turn {
+            self.next_till = index + 1;
+        } else {
+            self.next_link = index + 1;
+        }
+    }
+
     /// The first thing that there is at the indices from `first` to `end`.
     fn hear_first(&mut self, first: usize, end: usize, buf: &mut [u8; LONGEST_CHUNK]) -> What
         requires { end ≤ 98 }
@@ -276,32 +328,92 @@ impl<R: Drop> NetSite<R> {
         ensures count { IsWithinBuf result }
     {
         for index in first..end {
-            if self.asked[index].revents == 0 {
+            if !is_ready(self.asked[index]) {
                 continue;
             }
             let what = self.hear(index, buf);
             if what != What::Nothing {
-                self.next = index + 1;
+                self.go_past(index);
                 return what;
             }
         }
         What::Nothing
     }
 
-    /// The first thing that there is, from the index on at which the last poll stopped: else a connection that talks without
-    /// end would keep the ones after it from being heard.
+    /// The first thing of tills and the listener, from the index on at which the last poll stopped: else a connection that talks
+    /// without end would keep the ones after it from being heard.
+    fn ask_tills(&mut self, buf: &mut [u8; LONGEST_CHUNK]) -> What
+        ensures brings { Brings self.old self.new result }
+        ensures buf { length buf.new ≡ 4096 }
+        ensures count { IsWithinBuf result }
+    {
+        let next = self.next_till.min(FIRST_LINK);
+        match self.hear_first(next, FIRST_LINK, buf) {
+            What::Nothing => self.hear_first(0, next, buf),
+            what => what,
+        }
+    }
+
+    /// The first thing of terminals in this pass.
+    fn ask_links(&mut self, buf: &mut [u8; LONGEST_CHUNK]) -> What
+        ensures brings { Brings self.old self.new result }
+        ensures buf { length buf.new ≡ 4096 }
+        ensures count { IsWithinBuf result }
+    {
+        self.hear_first(self.next_link, ASKED, buf)
+    }
+
+    /// The first thing that there is. Tills and terminals take turns.
+    fn take_turns(&mut self, buf: &mut [u8; LONGEST_CHUNK]) -> What
+        ensures brings { Brings self.old self.new result }
+        ensures buf { length buf.new ≡ 4096 }
+        ensures count { IsWithinBuf result }
+    {
+        if self.is_links_turn {
+            match self.ask_links(buf) {
+                What::Nothing => self.ask_tills(buf),
+                what => what,
+            }
+        } else {
+            match self.ask_tills(buf) {
+                What::Nothing => self.ask_links(buf),
+                what => what,
+            }
+        }
+    }
+
+    /// The first thing that there is, once what waits for tills was written.
     fn ask(&mut self, buf: &mut [u8; LONGEST_CHUNK]) -> What
         ensures brings { Brings self.old self.new result }
         ensures buf { length buf.new ≡ 4096 }
         ensures count { IsWithinBuf result }
     {
         if !self.wait() {
+            self.next_link = ASKED;
             return What::Nothing;
         }
-        let next = self.next.min(ASKED);
-        match self.hear_first(next, ASKED, buf) {
-            What::Nothing => self.hear_first(0, next, buf),
-            what => what,
+        self.flush_tills();
+        self.take_turns(buf)
+    }
+
+    /// Whether a terminal is ready that wasn't heard in this pass.
+    fn is_link_ready(&self) -> bool {
+        for index in self.next_link..ASKED {
+            if is_ready(self.asked[index]) {
+                return true;
+            }
+        }
+        false
+    }
+
+    /// Ends the pass over the terminals where each that was ready has been heard. The moment is then the clock as the pass began:
+    /// so the loop, which judges a terminal's silence by it, has had all that came before it.
+    fn end_pass(&mut self)
+        ensures { self.new ≡ self.old }
+    {
+        if !self.is_link_ready() {
+            self.next_link = FIRST_LINK;
+            self.now = self.began;
         }
     }
 }
@@ -327,6 +439,15 @@ impl<
     {
         self.listener = Some(listen(&self.rt, address)?);
         Ok(())
+    }
+
+    /// Reads the clock where a pass over the terminals begins.
+    fn begin_pass(&mut self)
+        ensures { self.new ≡ self.old }
+    {
+        if self.next_link == FIRST_LINK {
+            self.began = moment(&self.rt, self.began);
+        }
     }
 
     /// Opens the file, takes the terminals and listens, where poll(2) can be asked for all of them.
@@ -370,9 +491,11 @@ impl<R: Net<Listener = TcpListener, Stream = TcpStream> + Files<File = File> + C
         ensures count { IsWithinBuf result.what }
     {
         self.links.wait_anew();
+        self.tills.go_on_closing(self.now);
+        self.begin_pass();
         let what = self.ask(buf);
         self.ask_anew(what);
-        self.now = moment(&self.rt, self.now);
+        self.end_pass();
         Polled {
             now: self.now,
             what,
@@ -384,8 +507,14 @@ impl<R: Net<Listener = TcpListener, Stream = TcpStream> + Files<File = File> + C
         ensures cause { HasCause self.old.faults self.new.faults result }
         ensures site { self.new ≡ record self.old { faults = faults_after self.old.faults result } }
     {
-        let done = self.tills.send(&self.rt, till, bytes);
-        self.counted(done)
+        let done = self.tills.send(till, bytes);
+        match self.counted(done) {
+            Ok(waits) => {
+                self.asks_tills_anew |= waits;
+                Ok(())
+            }
+            Err(failed) => Err(failed),
+        }
     }
 
     fn send_pt(&mut self, pt: u16, bytes: &[u8]) -> Result<(), Failed>
@@ -393,7 +522,7 @@ impl<R: Net<Listener = TcpListener, Stream = TcpStream> + Files<File = File> + C
         ensures cause { HasCause self.old.faults self.new.faults result }
         ensures site { self.new ≡ record self.old { faults = faults_after self.old.faults result } }
     {
-        let done = self.links.send(&self.rt, pt, bytes);
+        let done = self.links.send(pt, bytes);
         self.counted(done)
     }
 
@@ -410,7 +539,7 @@ impl<R: Net<Listener = TcpListener, Stream = TcpStream> + Files<File = File> + C
         ensures { self.new ≡ record self.old { tills = without_till self.old.tills till } }
     {
         self.tills.close(till);
-        self.ask_for_tills();
+        self.asks_tills_anew = true;
     }
 
     fn cut_pt(&mut self, pt: u16)

@@ -1,18 +1,21 @@
 //! The connections of tills.
-ghost use Rattle.std.specs.Prelude.{◌≡◌, ◌<◌, ◌≤◌, ◌+◌, [], length, vec_capacity, IfSome, OnErr, IfOk, None, Contains};
+ghost use Rattle.std.specs.Prelude.{◌≡◌, ◌<◌, ◌≤◌, ◌+◌, [], length, vec_capacity, IfSome, OnErr, IfOk, None, Contains, slice_index_or};
 ghost use Rattle.gw_site.specs.Turns.{IsWithinBuf};
 ghost use Rattle.net_site.specs.inner.Received.{TillHears, connections_without};
 ghost use Rattle.net_site.specs.Holding.{with_next, without_till};
 
+use crate::closing::ClosingList;
 use crate::connection::{self, Received};
+use crate::queue::Queue;
 use gw_bytes::{LONGEST_CHUNK, MOST_TILLS};
 use gw_site::What;
+use libc::net::{POLLIN, POLLOUT};
+use libc::types::pollfd;
 use std::alloc::{AllocError, Global};
 use std::io::{self, ErrorKind};
 use std::marker::Model;
 use std::net::{TcpListener, TcpStream};
 use std::os::fd::AsRawFd;
-use std::time::Clock;
 
 /// The most connections that are held: one above the gateway's limit, so that the gateway can refuse it. Further ones wait
 /// in the system's queue.
@@ -22,6 +25,26 @@ pub(crate) const MOST: usize = MOST_TILLS + 1;
 struct Connection {
     till: u64,
     stream: TcpStream,
+    queue: Queue,
+}
+
+impl Connection {
+    /// Sends bytes after those that wait. Returns whether some wait.
+    fn send(&mut self, bytes: &[u8]) -> io::Result<bool>
+        ensures { self.new.till ≡ self.old.till }
+    {
+        self.queue.send(&self.stream, bytes)?;
+        Ok(!self.queue.is_empty())
+    }
+
+    /// What poll(2) is asked: a till is heard again once it has taken what waits for it.
+    fn events(&self) -> i16 {
+        if self.queue.is_empty() {
+            POLLIN
+        } else {
+            POLLOUT
+        }
+    }
 }
 
 /// The tills that are connected, each by its number, and the last number that was given.
@@ -29,6 +52,8 @@ struct Connection {
 pub(crate) struct Tills {
     connections: Vec<Connection>,
     last: u64,
+    closing: ClosingList,
+    alloc: Global,
     ghost room: { 65 ≤ vec_capacity connections },
 }
 
@@ -52,15 +77,38 @@ fn keep_others(connections: &mut Vec<Connection>, till: u64)
     connections.retain(|connection| connection.till != till);
 }
 
+/// Takes out the connection of this till, if there is one.
+fn take_out(connections: &mut Vec<Connection>, till: u64) -> Option<Connection>
+    ensures others { connections_without connections.new.items till ≡ connections_without connections.old.items till }
+    ensures room { vec_capacity connections.new ≡ vec_capacity connections.old }
+{
+    for index in 0..connections.len() {
+        if connections[index].till == till {
+            return Some(connections.remove(index));
+        }
+    }
+    None
+}
+
+/// Lets what waits for a connection go out, if there is one.
+fn let_out(closing: &mut ClosingList, connection: Option<Connection>) {
+    if let Some(connection) = connection {
+        closing.add(connection.stream, connection.queue);
+    }
+}
+
 impl Tills {
     /// No till, with room for all.
     pub(crate) fn new(alloc: Global) -> Result<Tills, AllocError>
         ensures { IfOk result (λ tills. tills ≡ record { connected = []; last = 0 }) }
     {
         let connections = Vec::with_capacity(alloc, MOST)?;
+        let closing = ClosingList::new(alloc)?;
         Ok(Tills {
             connections,
             last: 0,
+            closing,
+            alloc,
         })
     }
 
@@ -69,6 +117,7 @@ impl Tills {
         ensures { self.new ≡ record self.old { connected = [] } }
     {
         self.connections.clear();
+        self.closing.clear();
     }
 
     /// Whether one more can be taken: there is room, and a number that none had.
@@ -76,11 +125,19 @@ impl Tills {
         self.connections.len() < MOST && self.last < u64::MAX
     }
 
-    /// The descriptor of the connection at this index, or -1, which poll(2) passes over.
-    pub(crate) fn descriptor(&self, index: usize) -> i32 {
+    /// What poll(2) is asked of the connection at this index. Where there is none the descriptor is -1, which is passed over.
+    pub(crate) fn asked(&self, index: usize) -> pollfd {
         match self.connections.get(index) {
-            Some(connection) => connection.stream.as_raw_fd(),
-            None => -1,
+            Some(connection) => pollfd {
+                fd: connection.stream.as_raw_fd(),
+                events: connection.events(),
+                revents: 0,
+            },
+            None => pollfd {
+                fd: -1,
+                events: 0,
+                revents: 0,
+            },
         }
     }
 
@@ -92,6 +149,9 @@ impl Tills {
         if self.connections.len() >= MOST || self.last == u64::MAX {
             return None;
         }
+        let Ok(queue) = Queue::new(self.alloc) else {
+            return None;
+        };
         let stream = match listener.accept() {
             Ok((stream, _)) => stream,
             Err(_) => return None,
@@ -101,7 +161,11 @@ impl Tills {
             return None;
         }
         let till = self.last + 1;
-        self.connections.push_reserved(Connection { till, stream });
+        self.connections.push_reserved(Connection {
+            till,
+            stream,
+            queue,
+        });
         self.last = till;
         Some(till)
     }
@@ -126,31 +190,59 @@ impl Tills {
         }
     }
 
-    /// Closes the connection of this till.
-    pub(crate) fn close(&mut self, till: u64)
-        ensures { self.new ≡ without_till self.old till }
+    /// The index of this till's connection.
+    fn find(&self, till: u64) -> Option<usize>
+        ensures { IfSome result (λ index. (index < length self.now.connected) × (slice_index_or self.now.connected index till ≡ till)) }
     {
-        keep_others(&mut self.connections, till);
-    }
-
-    /// The connection of this till.
-    fn connection(&self, till: u64) -> Option<&Connection>
-        ensures { IfSome result (λ connection. Contains self.now.connected till) }
-    {
-        for connection in &self.connections {
-            if connection.till == till {
-                return Some(connection);
+        for index in 0..self.connections.len() {
+            if self.connections[index].till == till {
+                return Some(index);
             }
         }
         None
     }
 
-    /// Sends bytes to a till; fails where it isn't there.
-    pub(crate) fn send<R: Clock>(&self, rt: &R, till: u64, bytes: &[u8]) -> io::Result<()>
-        ensures { IfOk result (λ done. Contains self.now.connected till) }
+    /// Closes the connection of this till, once what waits for it has gone out.
+    pub(crate) fn close(&mut self, till: u64)
+        ensures { self.new ≡ without_till self.old till }
     {
-        match self.connection(till) {
-            Some(connection) => connection::send(rt, &connection.stream, bytes),
+        let closed = take_out(&mut self.connections, till);
+        keep_others(&mut self.connections, till);
+        let_out(&mut self.closing, closed);
+    }
+
+    /// Goes on with the connections that close, at the moment of a poll.
+    pub(crate) fn go_on_closing(&mut self, now: i64)
+        ensures { self.new ≡ self.old }
+    {
+        self.closing.go_on(now);
+    }
+
+    /// Sends bytes to the till at this index. Returns whether some wait.
+    fn send_at(&mut self, index: usize, bytes: &[u8]) -> io::Result<bool>
+        requires { index < length self.old.connected }
+        ensures { self.new ≡ self.old }
+    {
+        self.connections[index].send(bytes)
+    }
+
+    /// Writes what waits for the till at this index, as its socket takes it.
+    pub(crate) fn flush(&mut self, index: usize)
+        ensures { self.new ≡ self.old }
+    {
+        if index < self.connections.len() {
+            let _ = self.send_at(index, &[]);
+        }
+    }
+
+    /// Sends bytes to a till, or keeps them until its socket takes them; fails where it isn't there, or where they don't fit. Returns
+    /// whether some wait.
+    pub(crate) fn send(&mut self, till: u64, bytes: &[u8]) -> io::Result<bool>
+        ensures same { self.new ≡ self.old }
+        ensures held { IfOk result (λ done. Contains self.old.connected till) }
+    {
+        match self.find(till) {
+            Some(index) => self.send_at(index, bytes),
             None => Err(io::Error::from(ErrorKind::NotConnected)),
         }
     }
