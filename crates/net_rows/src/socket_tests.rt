@@ -1,11 +1,11 @@
 //! Tests of the sockets, over loopback.
 use crate::fixture::{Steps, address, check, is_child, setup, terminal_at};
-use crate::peer::{accepted, gets, sends, three_of};
+use crate::peer::{Part, accepted, gets, last_byte, read_part, sends, three_of};
 use crate::rig::Rig;
 use gw_base::Pts;
 use gw_bytes::{LONGEST_CHUNK, MOST_TERMINALS};
 use gw_site::What;
-use libc::net::listen;
+use libc::net::{IPPROTO_TCP, TCP_KEEPIDLE, TCP_USER_TIMEOUT, getsockopt, listen};
 use std::alloc::AllocError;
 use std::net::{Shutdown, SocketAddr, TcpListener, TcpStream};
 use std::os::fd::AsRawFd;
@@ -142,37 +142,53 @@ fn a_half_close(rig: &mut Rig<'_>) -> Steps {
     check(rig.brings(What::TillClosed(3)), "then the end")
 }
 
-/// How many milliseconds a send to a till took that failed.
-fn failed_send(rt: &HostRuntime, rig: &mut Rig<'_>, till: u64) -> Result<Option<u128>, Fail> {
-    let start = Instant::now(rt)?;
-    if rig.sends_till(till, &[7; 4096]) {
-        return Ok(None);
-    }
-    Ok(Some(start.elapsed(rt)?.as_millis()))
-}
-
-/// How many milliseconds the first send to a till took that failed, of ten thousand.
-fn first_failed_send(rt: &HostRuntime, rig: &mut Rig<'_>, till: u64) -> Result<Option<u128>, Fail> {
-    for _ in 0..10_000 {
-        let took = failed_send(rt, rig, till)?;
-        if took.is_some() {
-            return Ok(took);
+/// Sends of 4,096 bytes each to a till that doesn't read, until one fails: how many succeeded, and how long the longest took.
+fn sends_until_one_fails(
+    rt: &HostRuntime,
+    rig: &mut Rig<'_>,
+    till: u64,
+) -> Result<(u64, Duration), Fail> {
+    let mut longest = Duration::ZERO;
+    for number in 0..10_000u64 {
+        let start = Instant::now(rt)?;
+        let is_sent = rig.sends_till(till, &[last_byte(number); 4096]);
+        longest = longest.max(start.elapsed(rt)?);
+        if !is_sent {
+            return Ok((number, longest));
         }
     }
-    Ok(None)
+    Err(Fail::from("a send fails"))
 }
 
-/// A send to a peer that never reads waits a tenth of a second, and fails.
+/// How many bytes a peer gets until the connection's end, of which each 4,096 are one more than those before, while the site polls.
+fn count_until_the_end(rig: &mut Rig<'_>, peer: &mut TcpStream) -> Result<u64, Fail> {
+    let mut buf = [0; LONGEST_CHUNK];
+    let mut count: u64 = 0;
+    for _ in 0..100_000 {
+        match read_part(peer, count) {
+            Part::Bytes(more) => count = count.saturating_add(more),
+            Part::Nothing => {
+                let _ = rig.poll(&mut buf);
+            }
+            Part::End => return Ok(count),
+            Part::Wrong => return Err(Fail::from("the bytes are those that were sent")),
+        }
+    }
+    Err(Fail::from("the connection ends"))
+}
+
+/// Sends to a peer that never reads don't wait, and one that doesn't fit fails. After the cut the peer gets all that was sent before.
 fn a_peer_that_never_reads(rt: &HostRuntime, rig: &mut Rig<'_>) -> Result<(), Fail> {
-    let _peer = rig.connect()?;
+    let mut peer = rig.connect()?;
     check(rig.brings(What::TillOpened(4)), "a till opens")?;
-    let took = first_failed_send(rt, rig, 4)?;
+    check(sends(&mut peer, b"never heard"), "it sends bytes")?;
+    let (count, longest) = sends_until_one_fails(rt, rig, 4)?;
     rig.cut_till(4);
-    let took = took.ok_or("a send fails")?;
-    check(
-        took >= 100 && took < 2_000,
-        "it fails in time, and not at once",
-    )?;
+    check(longest < Duration::from_millis(90), "no send waits")?;
+    check(!rig.sends_till(4, b"x"), "it is cut")?;
+    check(peer.set_nonblocking(true).is_ok(), "its reads don't wait")?;
+    let got = count_until_the_end(rig, &mut peer)?;
+    check(got >= count.saturating_mul(4096), "it gets what was sent")?;
     Ok(())
 }
 
@@ -375,6 +391,23 @@ fn a_link_is_taken_up(
     Ok(())
 }
 
+/// The link is not made in time, and then it is accepted and closed, as those are that filled the queue.
+fn a_link_is_begun_anew(
+    rt: &HostRuntime,
+    rig: &mut Rig<'_>,
+    listener: &TcpListener,
+    before: usize,
+) -> Result<(), Fail> {
+    rig.cut_pt(0);
+    check(!rig.links(0), "nobody accepts")?;
+    drop(greet_while_polling(rt, rig, listener, before.saturating_add(1))?);
+    check(rig.links(0), "another one is begun at once")?;
+    let mut terminal = accepted(listener)?;
+    check(sends(&mut terminal, b"x"), "a byte is sent")?;
+    check(rig.brings(What::PtBytes(0, 1)), "it is the one accepted")?;
+    Ok(())
+}
+
 /// A link to a listener whose queue is full.
 fn a_link_beside_a_full_queue(
     rt: &HostRuntime,
@@ -383,7 +416,9 @@ fn a_link_beside_a_full_queue(
     far: SocketAddr,
 ) -> Result<(), Fail> {
     let held = fill_queue(rt, listener, far)?;
-    a_link_is_taken_up(rt, rig, listener, held.len())
+    a_link_is_taken_up(rt, rig, listener, held.len())?;
+    let held = fill_queue(rt, listener, far)?;
+    a_link_is_begun_anew(rt, rig, listener, held.len())
 }
 
 /// The same of a listener that is then closed.
@@ -399,7 +434,7 @@ fn nobody_listens(rig: &mut Rig<'_>) -> Result<(), Fail> {
     rig.remove_file()
 }
 
-/// A link that isn't made in time goes on being made, and is the one that is taken up.
+/// A link that isn't made in time goes on being made, and is the one that is taken up. One that its peer has closed meanwhile isn't.
 #[test]
 fn a_link_goes_on_being_made(rt: HostRuntime) -> Result<(), Fail> {
     if is_child(&rt) {
@@ -409,4 +444,70 @@ fn a_link_goes_on_being_made(rt: HostRuntime) -> Result<(), Fail> {
     let mut rig = Rig::opened(&rt, "making", 47020, &[far])?;
     a_link_is_made(&rt, &mut rig, far)?;
     nobody_listens(&mut rig)
+}
+
+/// A till and a terminal that both send more than is read at once.
+fn take_turns(rig: &mut Rig<'_>, till: &mut TcpStream, terminal: &mut TcpStream) -> Steps {
+    check(sends(till, &[9; 20_000]), "the till sends")?;
+    check(sends(terminal, &[9; 20_000]), "the terminal sends")?;
+    for _ in 0..4 {
+        check(rig.brings(What::PtBytes(0, 4096)), "the terminal is heard")?;
+        check(rig.brings(What::TillBytes(1, 4096)), "then the till")?;
+    }
+    Ok(())
+}
+
+/// Whether a connection's option has this number, as the system has put it.
+fn has_number(status: i32, value: &[u8; 16], number: u16) -> bool {
+    let [low, high] = number.to_le_bytes();
+    status == 0 && value[0] == low && value[1] == high
+}
+
+/// Whether the system asks the peer of a descriptor, if it is that of a connection, whether it is still there.
+fn is_kept_alive(fd: i32) -> bool {
+    let mut value = [0; 16];
+    let mut len = 16;
+    let status = unsafe { getsockopt(fd, IPPROTO_TCP, TCP_KEEPIDLE, &mut value, &mut len) };
+    has_number(status, &value, 30)
+}
+
+/// Whether the system gives a connection up to which it can't send for some time.
+fn is_given_up(fd: i32) -> bool {
+    let mut value = [0; 16];
+    let mut len = 16;
+    let status = unsafe { getsockopt(fd, IPPROTO_TCP, TCP_USER_TIMEOUT, &mut value, &mut len) };
+    has_number(status, &value, 50_000)
+}
+
+/// How many connections of this process the system watches.
+fn watched() -> usize {
+    let mut count: usize = 0;
+    for fd in 0..200i32 {
+        if is_kept_alive(fd) && is_given_up(fd) {
+            count = count.saturating_add(1);
+        }
+    }
+    count
+}
+
+fn beside_each_other(rig: &mut Rig<'_>, listener: &TcpListener) -> Result<(), Fail> {
+    check(rig.links(0), "it is linked")?;
+    let mut terminal = accepted(listener)?;
+    let mut till = rig.connect()?;
+    check(rig.brings(What::TillOpened(1)), "a till opens")?;
+    check(watched() == 2, "the system watches both")?;
+    take_turns(rig, &mut till, &mut terminal)?;
+    rig.remove_file()
+}
+
+/// Tills and terminals take turns, and the system watches the connections of both.
+#[test]
+fn a_till_beside_a_terminal(rt: HostRuntime) -> Result<(), Fail> {
+    if is_child(&rt) {
+        return Ok(());
+    }
+    let far = address(&rt, 47024);
+    let listener = TcpListener::bind(&rt, far)?;
+    let mut rig = Rig::opened(&rt, "turns", 47023, &[far])?;
+    beside_each_other(&mut rig, &listener)
 }
