@@ -198,12 +198,9 @@ fn a_talker(rig: &mut Rig<'_>, talker: &mut TcpStream) -> Steps {
     check(rig.brings(What::TillOpened(5)), "a till opens")?;
     check(sends(talker, &[9; 20_000]), "the talker sends")?;
     check(sends(&mut other, b"x"), "the other sends")?;
-    check(rig.brings(What::TillBytes(1, 4096)), "the talker is heard")?;
+    check(rig.brings(What::TillBytes(1, 512)), "the talker is heard")?;
     check(rig.brings(What::TillBytes(5, 1)), "then the other")?;
-    check(
-        rig.brings(What::TillBytes(1, 4096)),
-        "then the talker again",
-    )
+    check(rig.brings(What::TillBytes(1, 512)), "then the talker again")
 }
 
 fn peers_one_after_the_other(rt: &HostRuntime, rig: &mut Rig<'_>) -> Result<(), Fail> {
@@ -451,8 +448,8 @@ fn take_turns(rig: &mut Rig<'_>, till: &mut TcpStream, terminal: &mut TcpStream)
     check(sends(till, &[9; 20_000]), "the till sends")?;
     check(sends(terminal, &[9; 20_000]), "the terminal sends")?;
     for _ in 0..4 {
-        check(rig.brings(What::PtBytes(0, 4096)), "the terminal is heard")?;
-        check(rig.brings(What::TillBytes(1, 4096)), "then the till")?;
+        check(rig.brings(What::PtBytes(0, 512)), "the terminal is heard")?;
+        check(rig.brings(What::TillBytes(1, 512)), "then the till")?;
     }
     Ok(())
 }

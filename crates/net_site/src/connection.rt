@@ -23,6 +23,10 @@ const PROBES: i32 = 3;
 /// How long the system waits for a peer that doesn't acknowledge what was sent, or takes nothing, in milliseconds.
 const PATIENCE: i32 = 50_000;
 
+/// The most bytes that a read brings. All messages that they complete are handled before another peer is heard: few bytes keep that
+/// short where a peer sends many small ones.
+const AT_ONCE: usize = 512;
+
 /// What a read brings.
 #[derive(Clone, Copy)]
 pub(crate) enum Received {
@@ -69,7 +73,16 @@ pub(crate) fn set_up(stream: &TcpStream) -> io::Result<()> {
     keep_alive(stream)
 }
 
-/// One read of at most 4,096 bytes.
+/// Reads at most 512 bytes.
+fn read(stream: &TcpStream, buf: &mut [u8; LONGEST_CHUNK]) -> io::Result<usize>
+    ensures buf { length buf.new ≡ 4096 }
+    ensures count { IfOk result (λ count. count ≤ 4096) }
+{
+    let mut reader = stream;
+    reader.read(&mut buf[..AT_ONCE])
+}
+
+/// What one read brings.
 ///
 /// A peer that closed its sending half has ended the connection as one that closed or reset it: each message asks for a
 /// reply, and who takes no message any more reads none.
@@ -77,8 +90,7 @@ pub(crate) fn hear(stream: &TcpStream, buf: &mut [u8; LONGEST_CHUNK]) -> Receive
     ensures buf { length buf.new ≡ 4096 }
     ensures count { HasCount result }
 {
-    let mut reader = stream;
-    match reader.read(buf) {
+    match read(stream, buf) {
         Ok(0) => Received::End,
         Ok(count) => Received::Bytes(count),
         Err(error) => match error.kind() {
