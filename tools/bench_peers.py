@@ -102,7 +102,13 @@ class Terminal:
         return apdu("040f", b"\x27\x00\x04" + amount + b"\x0b" + digits(self.number, 3) + b"\x87" + digits(self.number % 9999 + 1, 2))
 
     def on_bytes(self):
-        self.got += self.line.recv(4096)
+        try:
+            more = self.line.recv(4096)
+        except OSError:
+            more = b""
+        if not more:
+            self.line.close()
+        self.got += more
         while len(self.got) >= 3 and len(self.got) >= 3 + self.got[2]:
             head, data, self.got = self.got[:2], self.got[3 : 3 + self.got[2]], self.got[3 + self.got[2] :]
             if head == b"\x06\x01":
