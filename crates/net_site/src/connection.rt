@@ -23,9 +23,12 @@ const PROBES: i32 = 3;
 /// How long the system waits for a peer that doesn't acknowledge what was sent, or takes nothing, in milliseconds.
 const PATIENCE: i32 = 50_000;
 
-/// The most bytes that a read brings. All messages that they complete are handled before another peer is heard: few bytes keep that
-/// short where a peer sends many small ones.
-const AT_ONCE: usize = 512;
+/// The most bytes that a read brings.
+const MOST: usize = 512;
+
+/// How many it brings of a peer that has sent more than that. All messages that they complete are handled before another peer is heard:
+/// few bytes keep that short where a peer sends many small messages without an end.
+const OF_MANY: usize = 128;
 
 /// What a read brings.
 #[derive(Clone, Copy)]
@@ -73,13 +76,25 @@ pub(crate) fn set_up(stream: &TcpStream) -> io::Result<()> {
     keep_alive(stream)
 }
 
-/// Reads at most 512 bytes.
-fn read(stream: &TcpStream, buf: &mut [u8; LONGEST_CHUNK]) -> io::Result<usize>
+/// How many bytes the next read brings at most.
+fn at_once(stream: &TcpStream) -> usize
+    ensures { result ≤ 512 }
+{
+    let mut waiting = [0; MOST + 1];
+    match stream.peek(&mut waiting) {
+        Ok(count) if count > MOST => OF_MANY,
+        Ok(_) | Err(_) => MOST,
+    }
+}
+
+/// Reads at most so many bytes.
+fn read(stream: &TcpStream, buf: &mut [u8; LONGEST_CHUNK], most: usize) -> io::Result<usize>
+    requires { most ≤ 512 }
     ensures buf { length buf.new ≡ 4096 }
     ensures count { IfOk result (λ count. count ≤ 4096) }
 {
     let mut reader = stream;
-    reader.read(&mut buf[..AT_ONCE])
+    reader.read(&mut buf[..most])
 }
 
 /// What one read brings.
@@ -90,7 +105,7 @@ pub(crate) fn hear(stream: &TcpStream, buf: &mut [u8; LONGEST_CHUNK]) -> Receive
     ensures buf { length buf.new ≡ 4096 }
     ensures count { HasCount result }
 {
-    match read(stream, buf) {
+    match read(stream, buf, at_once(stream)) {
         Ok(0) => Received::End,
         Ok(count) => Received::Bytes(count),
         Err(error) => match error.kind() {
