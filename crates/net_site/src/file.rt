@@ -135,6 +135,14 @@ fn check_content(file: &File) -> io::Result<()> {
     }
 }
 
+/// Fails where the file goes on at an offset: a read that has brought nothing there has not read what the disk has.
+fn check_end(file: &File, offset: u64) -> io::Result<()> {
+    if offset < file.metadata()?.len() {
+        return Err(io::Error::from(ErrorKind::UnexpectedEof));
+    }
+    Ok(())
+}
+
 /// Fills the buffer from an offset on, with zeros past the file's end.
 pub(crate) fn read_full(file: &File, offset: u64, buf: &mut [u8]) -> io::Result<()>
     ensures { length buf.new ≡ length buf.old }
@@ -144,8 +152,12 @@ pub(crate) fn read_full(file: &File, offset: u64, buf: &mut [u8]) -> io::Result<
         if filled >= buf.len() {
             return Ok(());
         }
-        match file.read_at(&mut buf[filled..], offset.saturating_add(filled as u64)) {
-            Ok(0) => break,
+        let at = offset.saturating_add(filled as u64);
+        match file.read_at(&mut buf[filled..], at) {
+            Ok(0) => {
+                check_end(file, at)?;
+                break;
+            }
             Ok(count) => filled += count,
             Err(error) => {
                 if error.kind() != ErrorKind::Interrupted {
