@@ -6,6 +6,7 @@ mod connection;
 mod disk;
 mod file;
 mod links;
+mod moments;
 mod queue;
 mod site;
 mod tills;

@@ -54,6 +54,11 @@ impl Model for Links {
     ghost view = { λ links. map (λ terminal. is_up terminal.link) links.terminals.items };
 }
 
+/// Whether two addresses are those of one device: an IPv4 address may be written as an IPv6 address, too.
+fn is_same(one: SocketAddr, other: SocketAddr) -> bool {
+    one.port() == other.port() && one.ip().to_canonical() == other.ip().to_canonical()
+}
+
 /// How far a connection has come that was begun.
 enum Progress {
     NotYet,
@@ -143,8 +148,18 @@ impl Links {
         self.terminals.len()
     }
 
+    /// Whether a terminal has this address.
+    fn has(&self, address: SocketAddr) -> bool {
+        for terminal in &self.terminals {
+            if is_same(terminal.address, address) {
+                return true;
+            }
+        }
+        false
+    }
+
     /// Takes one more terminal, which isn't linked. Its address is an IP address and a port: to look a name up can
-    /// take seconds.
+    /// take seconds. No other terminal has it: the one device at it would be asked for two.
     fn add(&mut self, pt: &Pt) -> io::Result<()>
         ensures ok { OnOk result (self.new ≡ self.old ++ false ∷ []) }
         ensures err { OnErr result (self.new ≡ self.old) }
@@ -152,7 +167,7 @@ impl Links {
         let Ok(address) = pt.address.as_str().parse::<SocketAddr>() else {
             return Err(io::Error::from(ErrorKind::InvalidInput));
         };
-        if self.terminals.len() >= MOST_TERMINALS {
+        if self.terminals.len() >= MOST_TERMINALS || self.has(address) {
             return Err(io::Error::from(ErrorKind::InvalidInput));
         }
         self.terminals.push_reserved(Terminal {

@@ -7,6 +7,7 @@ ghost use Rattle.net_site.specs.Holding.{AllGone, Brings, IsLinked, MakesLink, O
 use crate::disk::Disk;
 use crate::file;
 use crate::links::Links;
+use crate::moments::Moments;
 use crate::tills::{self, Tills};
 use gw_base::Setup;
 use gw_bytes::{LONGEST_CHUNK, MOST_TERMINALS};
@@ -59,7 +60,8 @@ pub struct NetSite<R: Drop> {
     next_link: usize,
     /// Whether it asks the terminals first.
     is_links_turn: bool,
-    /// The clock as the pass over the terminals began.
+    moments: Moments,
+    /// The moment as the pass over the terminals began.
     began: i64,
     now: i64,
     faults: u64,
@@ -107,14 +109,6 @@ fn ask_for_each(fds: &mut [pollfd; ASKED], tills: &Tills) {
     }
 }
 
-/// The moment; the last one where the clock can't be read, since a poll can't fail.
-fn moment<R: Clock>(rt: &R, last: i64) -> i64 {
-    match rt.since_1970() {
-        Ok(since) => i64::try_from(since.as_secs()).unwrap_or(i64::MAX),
-        Err(_) => last,
-    }
-}
-
 /// Listens at an IP address and a port.
 fn listen<R: Net<Listener = TcpListener, Stream = TcpStream>>(
     rt: &R,
@@ -152,6 +146,7 @@ impl<R: Drop> NetSite<R> {
             next_till: 0,
             next_link: FIRST_LINK,
             is_links_turn: false,
+            moments: Moments::new(),
             began: 0,
             now: 0,
             faults: 0,
@@ -421,22 +416,22 @@ impl<R: Drop> NetSite<R> {
 impl<
     R: Net<Listener = TcpListener, Stream = TcpStream> + Files<File = File> + Clock + Drop,
 > NetSite<R> {
-    /// Opens the file at this path, once descriptors 0 to 2 are taken.
+    /// Opens the file at this path.
     fn open_file(&mut self, path: &str) -> io::Result<()>
         ensures same { self.new ≡ record self.old { disk = self.new.disk } }
         ensures disk { self.new.disk.failed ≡ self.old.disk.failed }
         ensures file { OnOk result (self.new.disk.is_open ≡ true) }
         ensures failed { self.old.disk.failed ≡ true → IsErr result }
     {
-        file::take_standard(&self.rt, &mut self.standard)?;
         self.disk.open(&self.rt, path)
     }
 
-    /// Listens at this address.
+    /// Listens at this address, once descriptors 0 to 2 are taken.
     fn listen_at(&mut self, address: &str) -> io::Result<()>
         ensures same { self.new ≡ record self.old { listens = self.new.listens } }
         ensures listens { OnOk result (self.new.listens ≡ true) }
     {
+        file::take_standard(&self.rt, &mut self.standard)?;
         self.listener = Some(listen(&self.rt, address)?);
         Ok(())
     }
@@ -446,11 +441,12 @@ impl<
         ensures { self.new ≡ self.old }
     {
         if self.next_link == FIRST_LINK {
-            self.began = moment(&self.rt, self.began);
+            self.began = self.moments.read(&self.rt);
         }
     }
 
-    /// Opens the file, takes the terminals and listens, where poll(2) can be asked for all of them.
+    /// Takes the terminals, listens and opens the file, where poll(2) can be asked for all of them. The file comes last: none is made
+    /// where the setup can't be served.
     fn start(&mut self, setup: &Setup) -> io::Result<()>
         requires { self.old.links ≡ [] }
         ensures tills { self.new.tills ≡ self.old.tills }
@@ -464,9 +460,9 @@ impl<
         ensures failed { self.old.disk.failed ≡ true → IsErr result }
     {
         self.try_poll()?;
-        self.open_file(setup.journal.as_str())?;
         self.links.set(setup.terminals.as_slice())?;
-        self.listen_at(setup.listen.as_str())
+        self.listen_at(setup.listen.as_str())?;
+        self.open_file(setup.journal.as_str())
     }
 }
 
