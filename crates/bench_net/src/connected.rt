@@ -9,12 +9,20 @@ use std::alloc::Global;
 use std::io;
 use std::net::{SocketAddr, TcpListener, TcpStream};
 
-/// Where the tills' listener, the terminals' and that of a plain echo are.
+/// Where the tills' listener, that of the first terminal and that of a plain echo are.
 #[derive(Clone, Copy)]
 pub(crate) struct Addresses {
     pub(crate) near: SocketAddr,
     pub(crate) far: SocketAddr,
     pub(crate) plain: SocketAddr,
+}
+
+impl Addresses {
+    /// Where the listener of the terminal of this number is.
+    pub(crate) fn terminal(&self, number: usize) -> SocketAddr {
+        let number = u16::try_from(number).unwrap_or(0);
+        SocketAddr::new(self.far.ip(), self.far.port().saturating_add(number))
+    }
 }
 
 /// The other ends of a site's connections. Tills have the numbers from 1 on, in their order.
@@ -73,14 +81,16 @@ fn connect_till(
     Ok(till)
 }
 
-/// Has the site link its terminal of this number.
+/// Has the site link its terminal of this number, which listens at this address.
 fn connect_terminal(
+    rt: &HostRuntime,
     site: &mut NetSite<&HostRuntime>,
     pt: usize,
-    listener: &TcpListener,
+    address: SocketAddr,
 ) -> anyhow::Result<TcpStream> {
+    let listener = TcpListener::bind(rt, address)?;
     called(link_pt(site, u16::try_from(pt)?))?;
-    Ok(accept(listener)?)
+    Ok(accept(&listener)?)
 }
 
 fn connect_tills(
@@ -97,13 +107,15 @@ fn connect_tills(
 }
 
 fn connect_terminals(
+    rt: &HostRuntime,
+    run: &Run<'_>,
     site: &mut NetSite<&HostRuntime>,
-    listener: &TcpListener,
     terminals: &mut Vec<TcpStream>,
     count: usize,
 ) -> anyhow::Result<()> {
     for pt in 0..count {
-        terminals.push(connect_terminal(site, pt, listener)?)?;
+        let address = run.addresses.terminal(pt);
+        terminals.push(connect_terminal(rt, site, pt, address)?)?;
     }
     Ok(())
 }
@@ -117,10 +129,9 @@ pub(crate) fn open_connected(
     tills: usize,
     terminals: usize,
 ) -> anyhow::Result<()> {
-    let listener = TcpListener::bind(rt, run.addresses.far)?;
     setup::open(rt, run, site, terminals)?;
     connect_tills(rt, site, run.addresses.near, &mut peers.tills, tills)?;
-    connect_terminals(site, &listener, &mut peers.terminals, terminals)?;
+    connect_terminals(rt, run, site, &mut peers.terminals, terminals)?;
     ensure!(
         peers.tills.len() == tills && peers.terminals.len() == terminals,
         "a connection is missing"

@@ -128,7 +128,7 @@ fn own_addresses(process: u32) -> Addresses {
     let own = Ipv4Addr::new(127, a, b, c);
     Addresses {
         near: SocketAddr::from((own, 47021)),
-        far: SocketAddr::from((own, 47022)),
+        far: SocketAddr::from((own, 47100)),
         plain: SocketAddr::from((own, 47023)),
     }
 }

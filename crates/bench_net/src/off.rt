@@ -26,16 +26,28 @@ fn connect_many(rt: &HostRuntime, far: SocketAddr) -> Result<Vec<TcpStream>, All
     Ok(held)
 }
 
-/// Fills the queue of a listener, so that it accepts no connection and refuses none, as a host that is switched off.
-fn fill_queue(
-    rt: &HostRuntime,
-    listener: &TcpListener,
-    far: SocketAddr,
-) -> anyhow::Result<Vec<TcpStream>> {
+/// A listener whose queue is full, so that it accepts no connection and refuses none, as a host that is switched off.
+#[derive(Drop)]
+struct Full {
+    listener: TcpListener,
+    held: Vec<TcpStream>,
+}
+
+fn full_listener(rt: &HostRuntime, far: SocketAddr) -> anyhow::Result<Full> {
+    let listener = TcpListener::bind(rt, far)?;
     let queue = listen(listener.as_raw_fd(), 0);
     let held = connect_many(rt, far)?;
     ensure!(queue == 0 && held.len() < 8, "the queue isn't full");
-    Ok(held)
+    Ok(Full { listener, held })
+}
+
+/// Such a listener at the address of each terminal.
+fn full_listeners(rt: &HostRuntime, run: &Run<'_>) -> anyhow::Result<Vec<Full>> {
+    let mut listeners = Vec::new(rt.alloc());
+    for pt in 0..MOST_TERMINALS {
+        listeners.push(full_listener(rt, run.addresses.terminal(pt))?)?;
+    }
+    Ok(listeners)
 }
 
 /// Tries each terminal once, and counts the tries that failed.
@@ -90,15 +102,14 @@ fn try_in_rounds(
     Ok(tried)
 }
 
-/// Tries the terminals of a site, at an address where a queue is full.
+/// Tries the terminals of a site, at addresses where queues are full.
 fn try_switched_off(
     rt: &HostRuntime,
     run: &Run<'_>,
     site: &mut NetSite<&HostRuntime>,
     rounds: u64,
 ) -> anyhow::Result<Tried> {
-    let listener = TcpListener::bind(rt, run.addresses.far)?;
-    let _held = fill_queue(rt, &listener, run.addresses.far)?;
+    let _listeners = full_listeners(rt, run)?;
     setup::open(rt, run, site, MOST_TERMINALS)?;
     Ok(try_in_rounds(rt, site, rounds)?)
 }

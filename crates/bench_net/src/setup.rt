@@ -1,4 +1,5 @@
 //! A site's setup, and its opening.
+use crate::connected::Addresses;
 use crate::{Run, calls};
 use anyhow::Context;
 use gw_base::{Currency, Ident, Pt, Pts, Setup, Text};
@@ -41,11 +42,11 @@ fn terminal(rt: &HostRuntime, number: usize, address: SocketAddr) -> anyhow::Res
     Ok(terminal_of(poi, address_text(rt, address)?))
 }
 
-/// So many terminals, all at one address.
-fn terminals(rt: &HostRuntime, count: usize, address: SocketAddr) -> anyhow::Result<Vec<Pt>> {
+/// So many terminals, each at its address.
+fn terminals(rt: &HostRuntime, count: usize, addresses: &Addresses) -> anyhow::Result<Vec<Pt>> {
     let mut pts = Vec::new(rt.alloc());
     for number in 0..count {
-        pts.push(terminal(rt, number, address)?)?;
+        pts.push(terminal(rt, number, addresses.terminal(number))?)?;
     }
     Ok(pts)
 }
@@ -66,11 +67,11 @@ fn setup(rt: &HostRuntime, run: &Run<'_>, count: usize) -> anyhow::Result<Setup>
     let name = identifier(b"GATEWAY")?;
     let listen = address_text(rt, run.addresses.near)?;
     let journal = path_text(rt, run.journal)?;
-    let terminals = terminals(rt, count, run.addresses.far)?;
+    let terminals = terminals(rt, count, &run.addresses)?;
     Ok(setup_of(name, listen, journal, terminals))
 }
 
-/// Opens the site with so many terminals, all at one address.
+/// Opens the site with so many terminals.
 pub(crate) fn open(
     rt: &HostRuntime,
     run: &Run<'_>,

@@ -7,6 +7,7 @@ use gw_bytes::{LONGEST_CHUNK, MOST_TERMINALS};
 use gw_site::What;
 use libc::net::{IPPROTO_TCP, TCP_KEEPIDLE, TCP_USER_TIMEOUT, getsockopt, listen};
 use std::alloc::AllocError;
+use std::fs;
 use std::net::{Shutdown, SocketAddr, TcpListener, TcpStream};
 use std::os::fd::AsRawFd;
 use std::test::Fail;
@@ -95,17 +96,40 @@ fn no_address(rt: &HostRuntime, rig: &mut Rig<'_>) -> Result<(), Fail> {
         !opens_with_a_terminal_at(rt, rig, "localhost:47015")?,
         "a terminal's name",
     )?;
+    Ok(())
+}
+
+/// Two terminals at one address, and addresses to listen at that aren't this machine's, or that another one has.
+fn other_addresses(rt: &HostRuntime, rig: &mut Rig<'_>) -> Result<(), Fail> {
+    let far = address(rt, 47015);
+    check(!rig.open(&[far, far])?, "two terminals at one address")?;
+    check(!opens_at(rt, rig, "192.0.2.1:47014")?, "it isn't there")?;
+    let _listener = TcpListener::bind(rt, address(rt, 47014))?;
+    check(!rig.open(&[far])?, "another one listens there")?;
+    Ok(())
+}
+
+/// Whether its file is there.
+fn is_there(rt: &HostRuntime, rig: &Rig<'_>) -> bool {
+    fs::metadata(rt, rig.journal()).is_ok()
+}
+
+fn addresses_are_refused(rt: &HostRuntime, rig: &mut Rig<'_>) -> Result<(), Fail> {
+    no_address(rt, rig)?;
+    other_addresses(rt, rig)?;
+    check(!is_there(rt, rig), "no file is made")?;
+    check(rig.open(&[address(rt, 47015)])?, "others are opened")?;
     rig.remove_file()
 }
 
-/// An address is an IP address and a port: to look a name up could take seconds.
+/// An address is an IP address and a port: to look a name up could take seconds. An opening that is refused for one makes no file.
 #[test]
-fn names_are_no_addresses(rt: HostRuntime) -> Result<(), Fail> {
+fn addresses_that_are_refused(rt: HostRuntime) -> Result<(), Fail> {
     if is_child(&rt) {
         return Ok(());
     }
     let mut rig = Rig::new(&rt, "names", 47014)?;
-    no_address(&rt, &mut rig)
+    addresses_are_refused(&rt, &mut rig)
 }
 
 fn a_byte_at_a_time(rig: &mut Rig<'_>, peer: &mut TcpStream) -> Steps {
@@ -198,9 +222,9 @@ fn a_talker(rig: &mut Rig<'_>, talker: &mut TcpStream) -> Steps {
     check(rig.brings(What::TillOpened(5)), "a till opens")?;
     check(sends(talker, &[9; 20_000]), "the talker sends")?;
     check(sends(&mut other, b"x"), "the other sends")?;
-    check(rig.brings(What::TillBytes(1, 512)), "the talker is heard")?;
+    check(rig.brings(What::TillBytes(1, 128)), "the talker is heard")?;
     check(rig.brings(What::TillBytes(5, 1)), "then the other")?;
-    check(rig.brings(What::TillBytes(1, 512)), "then the talker again")
+    check(rig.brings(What::TillBytes(1, 128)), "then the talker again")
 }
 
 fn peers_one_after_the_other(rt: &HostRuntime, rig: &mut Rig<'_>) -> Result<(), Fail> {
@@ -307,40 +331,63 @@ fn shortest_round(rt: &HostRuntime, rig: &mut Rig<'_>) -> Result<Duration, Fail>
     for _ in 0..20 {
         let _ = rig.poll(&mut buf);
         shortest = shortest.min(links(rt, rig)?);
-        if shortest < Duration::from_millis(40) {
-            break;
-        }
     }
     Ok(shortest)
 }
 
-/// A site whose terminals are all at one address, where nobody accepts.
-fn all_switched_off(rt: &HostRuntime, far: SocketAddr) -> Result<(), Fail> {
-    let mut rig = Rig::opened(rt, "links", 47005, &[far; MOST_TERMINALS])?;
-    links_wait_together(rt, &mut rig)
+/// The addresses of as many terminals as there may be.
+fn far_addresses(rt: &HostRuntime) -> Result<Vec<SocketAddr>, Fail> {
+    let mut far = Vec::new(rt.alloc());
+    for port in 47_100..47_100 + MOST_TERMINALS as u16 {
+        far.push(address(rt, port))?;
+    }
+    Ok(far)
 }
 
-fn links_wait_together(rt: &HostRuntime, rig: &mut Rig<'_>) -> Result<(), Fail> {
+/// A listener whose queue is full.
+#[derive(Drop)]
+struct Full {
+    listener: TcpListener,
+    held: Vec<TcpStream>,
+}
+
+fn full_listener(rt: &HostRuntime, far: SocketAddr) -> Result<Full, Fail> {
+    let listener = TcpListener::bind(rt, far)?;
+    let held = fill_queue(rt, &listener, far)?;
+    Ok(Full { listener, held })
+}
+
+fn full_listeners(rt: &HostRuntime, far: &[SocketAddr]) -> Result<Vec<Full>, Fail> {
+    let mut listeners = Vec::new(rt.alloc());
+    for address in far {
+        listeners.push(full_listener(rt, *address)?)?;
+    }
+    Ok(listeners)
+}
+
+fn links_wait_once(rt: &HostRuntime, rig: &mut Rig<'_>) -> Result<(), Fail> {
+    let first = links(rt, rig)?;
+    check(first >= Duration::from_millis(15), "they wait")?;
+    check(first < Duration::from_millis(300), "and they wait together")?;
     let shortest = shortest_round(rt, rig)?;
-    check(shortest >= Duration::from_millis(19), "they wait")?;
     check(
-        shortest < Duration::from_millis(40),
-        "and they wait together",
+        shortest < Duration::from_millis(10),
+        "those that go on being made don't wait",
     )?;
     rig.remove_file()
 }
 
-/// All links between two polls wait 20 ms together: in the shortest of some rounds less than two of them would wait one
-/// after the other. A busy machine makes rounds longer, but hardly all of them.
+/// All links between two polls wait 20 ms together where they are begun, and not while they go on being made: so the shortest of
+/// some later rounds takes less than one wait. A busy machine makes rounds longer, but hardly all of them.
 #[test]
 fn terminals_that_are_switched_off(rt: HostRuntime) -> Result<(), Fail> {
     if is_child(&rt) {
         return Ok(());
     }
-    let far = address(&rt, 47006);
-    let listener = TcpListener::bind(&rt, far)?;
-    let _held = fill_queue(&rt, &listener, far)?;
-    all_switched_off(&rt, far)
+    let far = far_addresses(&rt)?;
+    let _listeners = full_listeners(&rt, &far)?;
+    let mut rig = Rig::opened(&rt, "links", 47005, &far)?;
+    links_wait_once(&rt, &mut rig)
 }
 
 /// Accepts a connection, if one waits, and sends a byte to it.
@@ -448,8 +495,8 @@ fn take_turns(rig: &mut Rig<'_>, till: &mut TcpStream, terminal: &mut TcpStream)
     check(sends(till, &[9; 20_000]), "the till sends")?;
     check(sends(terminal, &[9; 20_000]), "the terminal sends")?;
     for _ in 0..4 {
-        check(rig.brings(What::PtBytes(0, 512)), "the terminal is heard")?;
-        check(rig.brings(What::TillBytes(1, 512)), "then the till")?;
+        check(rig.brings(What::PtBytes(0, 128)), "the terminal is heard")?;
+        check(rig.brings(What::TillBytes(1, 128)), "then the till")?;
     }
     Ok(())
 }
