@@ -6,7 +6,7 @@ lies. Status 1 where beside peers the 99th percentile is more than LATER millise
 milliseconds (100), or a terminal's link is lost.
 
 Four tills, each with a terminal of its own, pay again some ten milliseconds after their reply. The peers are played by a process of their own: one that talks says an
-empty message again and again and reads 2 KB each 40 milliseconds; of those that don't, one says the same and never reads, and the next sends half a frame. A
+empty message again and again and reads 2 KB each 40 milliseconds, each at a time of its own; of those that don't, one says the same and never reads, and the next sends half a frame. A
 peer that is cut connects again. Each has a small receive buffer; where tools/bench-peers may make a network of its own the gateway's send buffers are small too, as
 those of a LAN connection are."""
 import os
@@ -74,14 +74,15 @@ def play_peers(address, kind, count):
         peer.connect(address)
     print("connected", flush=True)
     while True:
-        end = time.monotonic() + PAUSE
-        for peer in peers:
+        began = time.monotonic()
+        for number, peer in enumerate(peers):
+            time.sleep(max(0, began + PAUSE * number / count - time.monotonic()))
             is_there = peer.read() and (not peer.talks or peer.talk())
             if not is_there:
                 peer.line.close()
                 peer.connect(address)
         print(sum(peer.cuts for peer in peers), flush=True)
-        time.sleep(max(0, end - time.monotonic()))
+        time.sleep(max(0, began + PAUSE - time.monotonic()))
 
 
 class Terminal:

@@ -152,10 +152,10 @@ pub(crate) fn read_full(file: &File, offset: u64, buf: &mut [u8]) -> io::Result<
         if filled >= buf.len() {
             return Ok(());
         }
-        let at = offset.saturating_add(filled as u64);
-        match file.read_at(&mut buf[filled..], at) {
+        let next = offset.saturating_add(filled as u64);
+        match file.read_at(&mut buf[filled..], next) {
             Ok(0) => {
-                check_end(file, at)?;
+                check_end(file, next)?;
                 break;
             }
             Ok(count) => filled += count,

@@ -5,7 +5,7 @@ use Rattle.net_site.proofs.connection.read.Goals as goal
 
 pub returns-clause-buf : goal.returns-clause-buf
 returns-clause-buf c =
-    let told = c.told-buf in
+    let size = c.told-buf in
     let few = c.requires in
     let rest : length (drop c.args.most c.args.buf.now) ≡ 4096 - c.args.most = omega (arith, length-drop c.args.most c.args.buf.now) in
     let part : length (take c.args.most c.args.buf.now) ≡ c.args.most = length-take-le c.args.most c.args.buf.now (omega arith) in
