@@ -40,6 +40,9 @@ impl Queue {
 
     /// Writes what the socket takes at once of what waits. Where the connection has ended nothing waits any more.
     pub(crate) fn flush(&mut self, stream: &TcpStream) -> io::Result<()> {
+        if self.is_empty() {
+            return Ok(());
+        }
         match connection::write(stream, &self.bytes) {
             Ok(count) => {
                 drop_prefix(&mut self.bytes, count);

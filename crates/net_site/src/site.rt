@@ -35,7 +35,8 @@ const ASKED: usize = FIRST_LINK + MOST_TERMINALS;
 
 /// Sockets and a file, whose log no proof observes.
 ///
-/// Memory is taken when it is made, and no call takes more: once it serves, it can't fail for lack of memory.
+/// Memory is taken when it is made, and for what may wait for a till as it opens: a till for which there is none isn't taken. No other
+/// call takes any, so once it serves it can't fail for lack of memory.
 #[derive(Drop)]
 pub struct NetSite<R: Drop> {
     rt: R,
