@@ -54,7 +54,7 @@ is_before_last_settled records (Some intent) None = false
 is_before_last_settled records (Some intent) (Some ended) =
     let account = account_of records intent.poi in nat_lt ended account.settled
 
--- the slot is that of a payment's Intent, and a Settled of its terminal comes after its Outcome
+-- what the Intent at this slot asks may be reversed, and a Settled of its terminal comes after its Outcome
 abbrev pub is_settled : List Record → ℕ → Bool
 is_settled records slot =
     is_reversible_intent (intent_at records slot) && is_before_last_settled records (intent_at records slot) (ended_at records slot)

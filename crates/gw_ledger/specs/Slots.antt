@@ -97,11 +97,11 @@ reversed_in slot [] = false
 reversed_in slot (p ∷ older) =
     if length p.before == slot then false else reverses slot p.before p.the_record || reversed_in slot older
 
--- what the Intent asks may be reversed
+-- there is an Intent, and what it asks may be reversed
 abbrev pub is_reversible_intent : Option TheIntent → Bool
 is_reversible_intent None = false
 is_reversible_intent (Some intent) = is_reversible intent.what
 
--- the slot is that of a payment's Intent, and an approved reversal has it as its original
+-- what the Intent at this slot asks may be reversed, and an approved reversal has it as its original
 abbrev pub is_reversed : List Record → ℕ → Bool
 is_reversed records slot = is_reversible_intent (intent_at records slot) && reversed_in slot (history records)

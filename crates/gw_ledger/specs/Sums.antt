@@ -50,7 +50,7 @@ ordinal Czk = 8
 abbrev pub same_currency : Currency → Currency → Bool
 same_currency a b = ordinal a == ordinal b
 
--- the totals of a terminal, by nexo's types of transactions
+-- the totals of a terminal, each by its `TransactionType` of nexo
 pub data TotalType : Type 0 where
   Debit : TotalType
   ReverseDebit : TotalType
@@ -81,7 +81,7 @@ units_in (Intent intent) = 0
 units_in (Outcome outcome) = outcome.amount
 units_in (Settled settled) = 0
 
--- how many were approved since the terminal's last Settled, in this currency
+-- how many that count in this total were approved since the terminal's last Settled, in this currency
 abbrev pub count_of : List Record → List ℕ → Currency → TotalType → ℕ
 count_of records poi currency total =
     sum_over (λ before the_record. one_if (approves poi currency total before the_record)) (unsettled poi (history records))
