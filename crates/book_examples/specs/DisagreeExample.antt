@@ -160,7 +160,7 @@ pub record UncausedBooks : Type 0 where
   -- an entry whose command was not sent, or was sent to another terminal
   pub unsent : ¬ Honest asked_past (record paid_entry { cause = Some 21 } ∷ [])
   pub elsewhere : ¬ Honest asked_past (record paid_entry { numbering = other_numbering } ∷ [])
-  -- one of another kind than its command: a reversal or a refund of a payment's, and a payment of a reversal's
+  -- one of another kind than its command: a reversal or a refund for a payment's command, and a payment for a reversal's
   pub reversal : ¬ Honest asked_past (record paid_entry { kind = BookedReversal } ∷ [])
   pub refund : ¬ Honest asked_past (record paid_entry { kind = BookedRefund } ∷ [])
   pub payment : ¬ Honest (past_of misasked_course) (paid_entry ∷ [])
@@ -174,7 +174,7 @@ pub record UncausedBooks : Type 0 where
 
 -- what isn't honest for its order and its numbers
 pub record DisorderedBooks : Type 0 where
-  -- a trace number that falls within one numbering, and a place that does, of a terminal that has reported nothing
+  -- a trace number that falls within one numbering, and a place that falls, of a terminal that has reported nothing
   pub falling : ¬ Honest (record asked_past { ends = [] }) (older_entry 200 ∷ paid_entry ∷ [])
   pub unplaced : ¬ Honest (record asked_past { ends = [] }) (paid_entry ∷ older_entry 200 ∷ [])
   -- two entries of one command

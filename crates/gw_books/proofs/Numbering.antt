@@ -54,7 +54,7 @@ pub record IsForKey (commands : List SentCommand) (key : Key) (entry : BookedEnt
 
 -- ---- numbers
 
--- by this place the terminal has an entry with this trace number
+-- by this place there is an entry of this numbering with this trace number
 pub record HasNumberedEntry (book : List BookedEntry) (numbering : Numbering) (place trace : ℕ) : Type 0 where
   pub entry : BookedEntry
   pub within : In entry book
@@ -117,7 +117,7 @@ pub record HasEntryBeforeAll (book : List BookedEntry) (commands : List SentComm
   pub numbered : HasNumberedEntry book numbering place before
   pub earlier : (command : SentCommand) → In command commands → IsSentFrom records numbering.poi slot command → (HasNumberedEntry.entry numbered).place ≤ command.place
 
--- of an Intent in its slot, open or not, and the trace number before it: each command for its key was sent to its terminal; the number is 0, or was booked before its command and those of all later Intents of its terminal; what its terminal has approved with a greater number is of these commands alone, and so is each entry that was booked after its own command was sent
+-- Of an Intent in its slot, open or not, and the trace number before it: each command for its key was sent to its terminal. The number is 0, or was booked before its command and those of all later Intents of its terminal. What its terminal has approved with a greater number is of these commands alone, and so is each entry that was booked after its own command was sent.
 pub record IsIntentNumbered (book : List BookedEntry) (commands : List SentCommand) (place : ℕ) (records : List Record) (slot : ℕ) (intent : TheIntent) : Type 0 where
   pub sent_to : (command : SentCommand) → In command commands → command.key ≡ Some (intent_key intent) → command.numbering ≡ numbering_of intent
   pub base : (intent.before ≡ 0) ⊎ HasEntryBeforeAll book commands records (numbering_of intent) place slot intent.before

@@ -35,14 +35,14 @@ use Rattle.gw_books.proofs.TillLemmas.{at-in, in-at}
 
 -- ---- the next Intent
 
--- there is a next Intent of this terminal, at this slot or before
+-- there is a next Intent of this numbering, at this slot or before
 pub record HasNext (records : List Record) (slot : ℕ) (numbering : Numbering) (at : ℕ) : Type 0 where
   pub next : ℕ
   pub intent : TheIntent
   pub is : IsNextIntent records slot numbering next intent
   pub until : next ≤ at
 
--- the slot has no Intent of this terminal
+-- the slot has no Intent of this numbering
 abbrev HasNone : List Record → Numbering → ℕ → Type 0
 HasNone records numbering at = (other : TheIntent) → intent_at records at ≡ Some other → numbering_of other ≡ numbering → ⊥
 
@@ -79,7 +79,7 @@ search-next records slot numbering at intent there mine (suc steps) from after u
     by-intent next None is = next (λ other there_is same. let clash : None ≡ Some other = sym is ∙ there_is in absurd cc)
     by-intent next (Some other) is = by-numbering next other is (is_numbering (numbering_of other) numbering) refl
 
--- before each later Intent of a terminal, or at it, there is a next one
+-- before each later Intent of a numbering, or at it, there is a next one
 next-before : (records : List Record) (slot : ℕ) (numbering : Numbering) (at : ℕ) (intent : TheIntent) → slot < at → intent_at records at ≡ Some intent → numbering_of intent ≡ numbering → HasNext records slot numbering at
 next-before records slot numbering at intent later there mine =
     search-next records slot numbering at intent there mine at (slot + 1) (omega arith) (omega (arith, later)) (omega arith) (λ between other follows until is same. absurd (omega (arith, follows, until)))

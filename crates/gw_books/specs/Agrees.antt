@@ -66,7 +66,7 @@ is_approved_entry past key entry = entry.approved && is_key key (entry_key past 
 abbrev pub names_entry : List Record → Key → List ℕ → BookedEntry → Bool
 names_entry kept key text entry = list_any (λ slot. bytes_eq text (transaction_text entry.number entry.receipt slot)) (option_to_list (slot_of kept key))
 
--- the entry is of the kind that is said: a reversal's for the category `Reversal`, and a payment's for any other
+-- the entry is of the kind that is said: a reversal for the category `Reversal`, and a payment for any other
 abbrev pub is_of_category : Said → BookedEntry → Bool
 is_of_category said entry = is_kind (if bytes_eq said.category (codes "Reversal") then BookedReversal else BookedPayment) entry.kind
 

@@ -22,7 +22,7 @@ pub record BookedEntry : Type 0 where
 
 -- ---- each entry has its command
 
--- the command at this place is whole, was sent to the entry's terminal, and asks for what the entry is
+-- the command at this place is whole, was sent to the terminal with the entry's numbering, and is of the entry's kind
 abbrev pub is_cause : BookedEntry → ℕ → SentCommand → Bool
 is_cause entry place command =
     command.place == place && (command.whole && (is_numbering command.numbering entry.numbering && is_kind command.kind entry.kind))
@@ -52,7 +52,7 @@ is_caused_by place entry = list_any (λ cause. cause == place) (option_to_list e
 abbrev pub have_one_cause : BookedEntry → BookedEntry → Bool
 have_one_cause one other = list_any (λ cause. is_caused_by cause other) (option_to_list one.cause)
 
--- of two entries of a terminal, the other one isn't placed before this one, has a greater trace number where both are of one numbering, and another cause
+-- of two entries of a terminal, the other one isn't placed before this one, has a greater trace number if both are of one numbering, and has another cause
 abbrev pub comes_before : BookedEntry → BookedEntry → Bool
 comes_before one other =
     not (bytes_eq one.numbering.poi other.numbering.poi)

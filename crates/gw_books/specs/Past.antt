@@ -260,7 +260,7 @@ with_sent_command scene numbering bytes past kind =
     let command : SentCommand = record { place = past.place; numbering = numbering; kind = kind; whole = nat_lt 0 (length (decode_apdus bytes).apdus); key = open_key scene.kept numbering.poi } in
     record past { commands = command ∷ past.commands; deeds = past.occasion ∷ past.deeds }
 
--- it is sent bytes that are a command of this kind, or none
+-- it is sent bytes that begin as a command of this kind, or as none that may charge a card
 abbrev pub with_sent_bytes : Scene → Numbering → List ℕ → Past → Option BookedKind → Past
 with_sent_bytes scene numbering bytes past None = past
 with_sent_bytes scene numbering bytes past (Some kind) = with_sent_command scene numbering bytes past kind

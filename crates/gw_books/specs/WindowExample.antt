@@ -25,7 +25,7 @@ pub record WindowEnds : Type 0 where
 
 -- ---- what matches
 
--- the premise holds of the payment that is approved and then reversed, of which each has a window of its own
+-- the premise holds of the book with the payment and its reversal, both approved, and the records match it
 pub record ReversedMatches : Type 0 where
   pub premise : list_all (is_caused_before (past_of reversed_course).place) reversed_book ≡ true
   pub matches : Matches (kept_after reversed_course) reversed_book
@@ -51,7 +51,7 @@ pub record ComingDoesNotMatch : Type 0 where
   pub no_premise : list_all (is_caused_before (past_of refused_course).place) (coming_entry ∷ []) ≡ false
   pub apart : ¬ Matches (kept_after refused_course) (coming_entry ∷ [])
 
--- records and books of which each is refused for one thing alone
+-- records and books that don't match, each for one thing alone
 pub record UnmatchedBooks : Type 0 where
   -- an Outcome without its Intent
   pub folded : ¬ Matches (Outcome kept_approval ∷ []) []

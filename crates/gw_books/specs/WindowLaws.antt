@@ -21,7 +21,7 @@ pub record MatchesByKey (past : Past) (records : List Record) (book : List Booke
   pub owned : (slot : ℕ) (intent : TheIntent) (at : ℕ) (entry : BookedEntry) → intent_at records slot ≡ Some intent → slice_get book at ≡ Some entry → IsApprovedInWindow records slot intent entry
       → entry_key past entry ≡ Some (intent_key intent)
 
--- whatever was asked, and wherever the power failed: where the book is honest and no entry's command is still to come after the log's end, the records that are kept match it, by key. Entries that are placed after the end, of commands in the log, do no harm.
+-- whatever was asked, and wherever the power failed: if the book is honest and no entry's command is still to come after the log's end, the records that are kept match it, by key. Entries that are placed after the end, of commands in the log, do no harm.
 abbrev pub HonestMatches : Type 0
 HonestMatches =
     (log : List Turn) (moves : List Move) (book : List BookedEntry) → IsLeanCourse log moves → Honest (past_of moves) book → list_all (is_caused_before (past_of moves).place) book ≡ true → MatchesByKey (past_of moves) (kept_after moves) book

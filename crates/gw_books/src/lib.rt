@@ -169,14 +169,14 @@ pub fn law_recovery()
 }
 
 /// What an auditor with the journal and the books may rely on. Whatever was asked and wherever the power failed, the kept records match
-/// honest books in which no entry's command is still to come after the log's end. Each record is within its limits and may come after
+/// each honest book in which no entry's command is still to come after the log's end. Each record is within its limits and may come after
 /// those before it, and trace numbers rise along the entries of one numbering. The window of an Intent has the trace numbers above its
 /// number before, up to the number before of the next Intent of its numbering. It has at most one approved entry, and that has the
 /// Intent's key. The window of an approved key has its entry, of its kind, with its numbers and its amount, and that of a declined key
-/// has none. In the examples a payment is approved and then reversed: the records match the book with both entries, and the window of the
-/// payment ends where that of the reversal begins. Those of a declined payment match the book with its declined entry. An honest book
-/// with an entry whose command is still to come doesn't match a declined payment. Each part of the match has records and a book that it
-/// alone refuses.
+/// has no approved one. In the examples a payment is approved and then reversed: the records match the book with both entries, and the
+/// window of the payment ends where that of the reversal begins. The records of a declined payment match the book with its declined entry,
+/// and don't match an honest book with an approved entry whose command is still to come. Each part of the match has records and a book
+/// that it alone refuses.
 pub fn law_windows()
     ensures matches { HonestMatches }
     ensures example { ReversedMatches }

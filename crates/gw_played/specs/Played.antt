@@ -84,7 +84,7 @@ booked_by setting before (Hears bytes) = []
 abbrev pub played_numbering : List ℕ → Numbering
 played_numbering poi = record { poi = poi }
 
--- the kind of what it books
+-- the kind of what it books: a reversal, or else a payment
 abbrev pub kind_played : Bool → BookedKind
 kind_played true = BookedReversal
 kind_played false = BookedPayment
