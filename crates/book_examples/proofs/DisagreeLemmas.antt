@@ -40,7 +40,7 @@ use Rattle.gw_books.specs.Said.{all_said, IsFramed}
 use Rattle.gw_books.proofs.BrokenLemmas.{no-false, not-true, breaks-by, last-refused}
 use Rattle.gw_books.proofs.ExampleLemmas.{Agreement, each-agrees, header-within, approved-within, success-framed, refusal-framed}
 use Rattle.gw_books.proofs.MessageLemmas.{reply-framed}
-use Rattle.book_examples.specs.DisagreeExample.{twice_course, twice_booked, course_sent, status_asking_header, course_replied, unresolved_course, TwiceDisagrees, EntriesOfOneKey, KeylessDisagrees, UnbookedDisagrees, LaterEntryDisagrees, ProgressDisagrees, UnacceptedDisagrees, SameContentDisagrees, OtherContentAgrees, NotFoundDisagrees, RepeatAgrees, OtherRepeatDisagrees, OutsideDisagrees, UnresolvedDisagrees, WaitingIsInProgress, UnreportedMayBeOpen, LinksEnd, UncausedBooks, DisorderedBooks, UntrueBooks, ReportedBooks, OtherTerminalBooks, other_numbering}
+use Rattle.book_examples.specs.DisagreeExample.{twice_course, twice_booked, course_sent, status_asking_header, other_paying_header, own_status_header, course_replied, unresolved_course, TwiceDisagrees, EntriesOfOneKey, KeylessDisagrees, UnbookedDisagrees, LaterEntryDisagrees, ProgressDisagrees, UnacceptedDisagrees, SameContentDisagrees, OtherKeyDisagrees, OtherContentAgrees, NotFoundDisagrees, RepeatAgrees, OtherRepeatDisagrees, OutsideDisagrees, UnresolvedDisagrees, WaitingIsInProgress, UnreportedMayBeOpen, LinksEnd, UncausedBooks, DisorderedBooks, UntrueBooks, ReportedBooks, OtherTerminalBooks, other_numbering}
 use Rattle.book_examples.specs.Example.{later_entry}
 
 -- ---- commands
@@ -179,6 +179,15 @@ refused-after agrees header request condition book within f each =
     let past = replied_past header request reply in
     last-refused agrees past book (replied_sent header request reply) (sent_success ∷ []) (reply_value_tree reply) (replied-are header request reply) (failure-framed header condition within) (f past book) each
 
+-- nor does one to another request
+refused-beside : (agrees : Agreement) (asking header : Header) (request : SaleRequest) (condition : Condition) (book : List BookedEntry) → IsHeaderWithinLimits (header_of_reply header)
+    → SaysAfter agrees asking request (failure_reply header condition) false → EachSaid agrees (replied_past asking request (failure_reply header condition)) book → ⊥
+unfolding replied_sent
+refused-beside agrees asking header request condition book within f each =
+    let reply = failure_reply header condition in
+    let past = replied_past asking request reply in
+    last-refused agrees past book (replied_sent asking request reply) (sent_success ∷ []) (reply_value_tree reply) (replied-are asking request reply) (failure-framed header condition within) (f past book) each
+
 -- both replies agree
 agree-after : (agrees : Agreement) (header : Header) (request : SaleRequest) (reply : ReplyValue) (book : List BookedEntry) → IsFramed (reply_value_bytes reply) (reply_value_tree reply)
     → list_all (agrees (replied_past header request reply) book (replied_sent header request reply)) (all_said (reply_value_tree reply)) ≡ true
@@ -237,6 +246,34 @@ other-content-agrees =
     let reply = failure_reply paying_header NotAllowed in
     let past = replied_past paying_header other_ask reply in
     agree-after unaccepted_agrees paying_header other_ask reply (paid_entry ∷ []) (failure-framed paying_header NotAllowed header-within) (other-true past (paid_entry ∷ [])) (success-true past (paid_entry ∷ []))
+
+-- ---- other keys
+
+other-key-false : SaysAfter unaccepted_agrees other_paying_header other_ask (failure_reply paying_header NotAllowed) false
+unfolding history message_tree header_tree result_tree tree_at replied_sent
+other-key-false past book = refl
+
+abbrev unknown_ask : SaleRequest
+unknown_ask = requests.Status (Some (record { service = codes "9"; sale = None; poi = None }))
+
+own-status-within : IsHeaderWithinLimits (header_of_reply own_status_header)
+own-status-within = record { category = ident-tested 40 (codes "TransactionStatus") refl; service = ident-tested 10 (codes "7") refl; device = tt; sale = ident-tested 40 (codes "S1") refl; poi = ident-tested 40 (codes "T1") refl }
+
+own-key-false : SaysAfter not_found_agrees status_asking_header unknown_ask (failure_reply own_status_header NotFound) false
+unfolding history message_tree header_tree result_tree tree_at replied_sent
+own-key-false past book = refl
+
+pub other-key-disagrees : OtherKeyDisagrees
+other-key-disagrees = record {
+  not_allowed = record {
+    honest = replied-honest other_paying_header other_ask (failure_reply paying_header NotAllowed);
+    disagrees = λ agrees. refused-beside unaccepted_agrees other_paying_header paying_header other_ask NotAllowed (paid_entry ∷ []) header-within other-key-false agrees.unaccepted;
+  };
+  not_found = record {
+    honest = replied-honest status_asking_header unknown_ask (failure_reply own_status_header NotFound);
+    disagrees = λ agrees. refused-beside not_found_agrees status_asking_header own_status_header unknown_ask NotFound (paid_entry ∷ []) own-status-within own-key-false agrees.not_found;
+  };
+}
 
 -- ---- a status
 

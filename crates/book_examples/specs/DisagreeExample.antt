@@ -94,14 +94,27 @@ SameContentDisagrees = BreaksAgreement (course_replied paying_header (requests.P
 abbrev pub OtherContentAgrees : Type 0
 OtherContentAgrees = EachSaid unaccepted_agrees (past_of (course_replied paying_header (requests.Payment (record payment_ask { amount = 500 })) (failure_reply paying_header NotAllowed))) (paid_entry ∷ [])
 
+-- the header of another payment of the same till at the same terminal
+abbrev pub other_paying_header : Header
+other_paying_header = record paying_header { service = Some (codes "8") }
+
 -- the header of a status of the same till at the same terminal
 abbrev pub status_asking_header : Header
 status_asking_header = record paying_header { category = codes "TransactionStatus"; service = Some (codes "8") }
+
+-- the header of a status that has the key of the payment
+abbrev pub own_status_header : Header
+own_status_header = record paying_header { category = codes "TransactionStatus" }
 
 -- a payment that was accepted is not found, where it is named, and where the last one is asked for
 pub record NotFoundDisagrees : Type 0 where
   pub named : BreaksAgreement (course_replied status_asking_header (requests.Status (Some (record { service = codes "7"; sale = None; poi = None }))) (failure_reply status_asking_header NotFound)) (paid_entry ∷ [])
   pub last : BreaksAgreement (course_replied status_asking_header (requests.Status None) (failure_reply status_asking_header NotFound)) (paid_entry ∷ [])
+
+-- the key of a payment isn't allowed as another payment has another amount, and isn't found as a status asks for another key
+pub record OtherKeyDisagrees : Type 0 where
+  pub not_allowed : BreaksAgreement (course_replied other_paying_header (requests.Payment (record payment_ask { amount = 500 })) (failure_reply paying_header NotAllowed)) (paid_entry ∷ [])
+  pub not_found : BreaksAgreement (course_replied status_asking_header (requests.Status (Some (record { service = codes "9"; sale = None; poi = None }))) (failure_reply own_status_header NotFound)) (paid_entry ∷ [])
 
 -- a status repeats the reply of the payment
 abbrev pub RepeatAgrees : Type 0

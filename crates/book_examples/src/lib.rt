@@ -2,7 +2,7 @@
 #![tactic(auto)]
 
 ghost use Rattle.book_examples.specs.DayExample.{SettledAgrees, SettledHasPast};
-ghost use Rattle.book_examples.specs.DisagreeExample.{DisorderedBooks, EntriesOfOneKey, KeylessDisagrees, LaterEntryDisagrees, LinksEnd, NotFoundDisagrees, OtherContentAgrees, OtherRepeatDisagrees, OtherTerminalBooks, OutsideDisagrees, ProgressDisagrees, RepeatAgrees, ReportedBooks, SameContentDisagrees, TwiceDisagrees, UnacceptedDisagrees, UnbookedDisagrees, UncausedBooks, UnreportedMayBeOpen, UnresolvedDisagrees, UntrueBooks, WaitingIsInProgress};
+ghost use Rattle.book_examples.specs.DisagreeExample.{DisorderedBooks, EntriesOfOneKey, KeylessDisagrees, LaterEntryDisagrees, LinksEnd, NotFoundDisagrees, OtherContentAgrees, OtherKeyDisagrees, OtherRepeatDisagrees, OtherTerminalBooks, OutsideDisagrees, ProgressDisagrees, RepeatAgrees, ReportedBooks, SameContentDisagrees, TwiceDisagrees, UnacceptedDisagrees, UnbookedDisagrees, UncausedBooks, UnreportedMayBeOpen, UnresolvedDisagrees, UntrueBooks, WaitingIsInProgress};
 ghost use Rattle.book_examples.specs.Example.{AskedHasPast, LostAgrees, LostHasPast, PaidAgrees, PaidHasPast, RefusedAgrees, RefusedHasPast};
 ghost use Rattle.book_examples.specs.KindExample.{KindsOfCommands};
 ghost use Rattle.book_examples.specs.QueuedExample.{DayIsInProgress, QueuedAgrees, QueuedHasPast, TakenOutDisagrees};
@@ -15,12 +15,13 @@ ghost use Rattle.book_examples.specs.QueuedExample.{DayIsInProgress, QueuedAgree
 /// agree with a book that is honest for it: a command that is sent twice, also with an entry for each, and one without a key; a success
 /// without its entry, or with one that comes later, is declined, or has another amount or receipt number, also where it is repeated; a
 /// refusal whose command is approved later; a key that has its Outcome said to be in progress, not accepted, or not allowed with the
-/// content that was accepted; a payment that waits no longer, and an end of day that is over, said to be in progress; a payment that was
-/// accepted said not to be found; a write for bytes outside the grammars; a key that is open since before its link at a poll after an
-/// enquiry has reported, while the link lasts. What isn't honest: an entry without its command, of another kind or at another terminal
-/// than its command, or after its link was replaced; numbers and places that fall, and two entries of one command; an end of a dialogue
-/// that isn't true of the book. What another terminal books, and that it is linked, breaks no honesty. The first two bytes of a command
-/// say its kind: `06 01` a payment and `06 30` a reversal.
+/// content that was accepted, or as another request has other content; a payment that waits no longer, and an end of day that is over,
+/// said to be in progress; a payment that was accepted said not to be found, also as a status asks for another key; a write for bytes
+/// outside the grammars; a key that is open since before its link at a poll after an enquiry has reported, while the link lasts. What
+/// isn't honest: an entry without its command, of another kind or at another terminal than its command, or after its link was replaced;
+/// numbers and places that fall, and two entries of one command; an end of a dialogue that isn't true of the book. What another terminal
+/// books, and that it is linked, breaks no honesty. The first two bytes of a command say its kind: `06 01` a payment and `06 30` a
+/// reversal.
 pub fn law_examples()
     ensures asked { AskedHasPast }
     ensures paid { PaidHasPast }
@@ -42,6 +43,7 @@ pub fn law_examples()
     ensures unaccepted { UnacceptedDisagrees }
     ensures same_content { SameContentDisagrees }
     ensures other_content { OtherContentAgrees }
+    ensures other_key { OtherKeyDisagrees }
     ensures not_found { NotFoundDisagrees }
     ensures repeat { RepeatAgrees }
     ensures other_repeat { OtherRepeatDisagrees }

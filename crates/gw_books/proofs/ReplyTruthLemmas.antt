@@ -1,6 +1,6 @@
 -- What replies say is true of the records: of the reply to an Outcome, and by the parts of the reply to a request.
 use Rattle.std.proofs.Common.{◌≡◌, ℕ, ◌≤◌, eqb, Bool, true, false, List, [], ◌∷◌, ◌++◌, length, refl, sym, ◌∙◌, ap, subst, arith, inl, inr, append_assoc, append-nil}
-use Rattle.std.proofs.lemmas.Bool.{and_left, and_right, or_left, or_right, eqb-true}
+use Rattle.std.proofs.lemmas.Bool.{and_from, and_left, and_right, or_left, or_right, eqb-true}
 use Rattle.std.proofs.lemmas.Option.{get_or_from_slice_get, same_Some}
 use Rattle.std.specs.Prelude.{◌&&◌, ◌||◌, not, nat_le, is_some, bytes_eq, codes, if◌then◌else◌, slice_get, Option, Some, None, IfSome, option_and_then, option_map, option_to_list}
 use Rattle.std.specs.List.{list_any}
@@ -41,8 +41,9 @@ use Rattle.gw_owes.proofs.RecordLemmas.{LedgerLaws, entry-parts, intent-stays, l
 use Rattle.gw_books.specs.Past.{Occasion, OfRequest, no_past}
 use Rattle.gw_books.specs.Said.{Said}
 use Rattle.gw_books.specs.SaidLaws.{display_said, finished_said, header_key, plain_said}
-use Rattle.gw_books.specs.Agrees.{fails_with, has_other_content, in_progress_agrees, is_accepted, is_failure, is_success, is_transaction, is_unresolved, key_meant, not_found_agrees, unaccepted_agrees}
+use Rattle.gw_books.specs.Agrees.{fails_with, has_other_content, in_progress_agrees, is_accepted, is_failure, is_success, is_transaction, is_unresolved, key_about, key_meant, not_found_agrees, unaccepted_agrees}
 use Rattle.gw_books.proofs.Holding.{IsNoTransaction, IsReplyTrue, IsSaidTrue, SaysOutcome, SaysSuccess, sent_with}
+use Rattle.gw_books.proofs.KeyedLemmas.{key-itself}
 use Rattle.gw_books.proofs.ListLemmas.{In}
 use Rattle.gw_books.proofs.RecordMoreLemmas.{own-slot}
 
@@ -157,11 +158,24 @@ pub malformed-true : (records : List Record) (occasion : Occasion) (header : Hea
 malformed-true records occasion header = idle-true records occasion header MessageFormat (refl, refl) (or_right _ _ refl)
 
 -- that of other content under the key
-pub other-content-true : (records : List Record) (asking header : Header) (request : SaleRequest) (found : Found) → found_of records (header_key header) ≡ Some found
+pub other-content-true : (records : List Record) (asking header : Header) (request : SaleRequest) (found : Found) → header_key header ≡ header_key asking → found_of records (header_key header) ≡ Some found
     → has_same_content records request found ≡ false → IsSaidTrue records [] (OfRequest asking request) (plain_said header (Some NotAllowed))
-other-content-true records asking header request found is other = idle-true records (OfRequest asking request) header NotAllowed (refl, refl)
+other-content-true records asking header request found own is other = idle-true records (OfRequest asking request) header NotAllowed (refl, refl)
     (or_right _ _ (or_right (not (is_accepted records (header_key header))) _
-    (ap (λ (there : Option Found). list_any (λ (one : Found). not (has_same_content records request one)) (option_to_list there)) is ∙ ap (λ (b : Bool). not b || false) other)))
+    (and_from (same_key (header_key header) (header_key asking)) _ (ap (same_key (header_key header)) (sym own) ∙ key-itself (header_key header))
+    (ap (λ (there : Option Found). list_any (λ (one : Found). not (has_same_content records request one)) (option_to_list there)) is ∙ ap (λ (b : Bool). not b || false) other))))
+
+-- a reply to the request that is handled is about the key that this is about
+pub meant-by : (records : List Record) (header : Header) (request : SaleRequest) → key_meant records (header_key header) (OfRequest header request) ≡ key_about records (header_key header) header request
+meant-by records header request = ap (λ (own : Bool). if own then key_about records (header_key header) header request else Some (header_key header)) (key-itself (header_key header))
+
+-- one to any request that may be about its own key is about that
+pub meant-own : (records : List Record) (own : Key) (asking : Header) (request : SaleRequest) → key_about records own asking request ≡ Some own → key_meant records own (OfRequest asking request) ≡ Some own
+meant-own records own asking request about = by (same_key own (header_key asking))
+  where
+    by : (same : Bool) → (if same then key_about records own asking request else Some own) ≡ Some own
+    by true = about
+    by false = refl
 
 -- the key is that of an open Intent
 pub record IsOpenKey (records : List Record) (key : Key) : Type 0 where

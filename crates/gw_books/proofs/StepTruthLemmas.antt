@@ -57,7 +57,7 @@ use Rattle.gw_books.specs.Agrees.{is_accepted, key_about, key_asked}
 use Rattle.gw_books.proofs.Holding.{IsNoTransaction, IsReplyTrue, IsSaidTrue}
 use Rattle.gw_books.proofs.ListLemmas.{In, bytes-are}
 use Rattle.gw_books.proofs.RecordMoreLemmas.{unknown-accepted}
-use Rattle.gw_books.proofs.ReplyTruthLemmas.{IsFoundUnder, IsIdle, alone-true, both-true, display-true, finished-true, found-under, kind-is, last-under, malformed-true, not-found-true, open-key, open-true, other-content-true, other-kind-true, reply-true-more, succeeded-true, unknown-true, waits-true}
+use Rattle.gw_books.proofs.ReplyTruthLemmas.{IsFoundUnder, IsIdle, alone-true, both-true, display-true, finished-true, found-under, kind-is, last-under, malformed-true, meant-by, meant-own, not-found-true, open-key, open-true, other-content-true, other-kind-true, reply-true-more, succeeded-true, unknown-true, waits-true}
 use Rattle.gw_books.proofs.WaitingLemmas.{day-waits, pending-waits, single-true, waiting-waits}
 
 -- ---- replies by their kinds
@@ -201,7 +201,7 @@ module _ (laws : LedgerLaws) (known : Known) (folded : AreFolded known.kept) (he
     idle-reply none KeptReply idle is = absurd idle
     idle-reply none (Fails condition) idle is = reply-is known.kept (OfRequest header request) (failure_reply header condition) reply
         (failure-true known.kept (OfRequest header request) header condition
-        (unknown-true known.kept (OfRequest header request) (header_of_reply header) condition idle (about (header_key header)) (unknown-accepted known.kept (header_key header) none))) is
+        (unknown-true known.kept (OfRequest header request) (header_of_reply header) condition idle (meant-own known.kept (header_key header) header request (about (header_key header))) (unknown-accepted known.kept (header_key header) none))) is
     idle-reply none Begins idle is = absurd cc
     idle-reply none Waits idle is = absurd cc
 
@@ -218,12 +218,12 @@ module _ (laws : LedgerLaws) (known : Known) (folded : AreFolded known.kept) (he
         by-content true None content kept =
             reply-is known.kept (OfRequest header request) (failure_reply header InProgress) reply
             (failure-true known.kept (OfRequest header request) header InProgress
-            (open-true known.kept (OfRequest header request) (header_of_reply header) (header_key header) (about (header_key header))
+            (open-true known.kept (OfRequest header request) (header_of_reply header) (header_key header) (meant-own known.kept (header_key header) header request (about (header_key header)))
             (open-key laws known.kept folded (header_key header) found (found-under known.kept (header_key header) found there) kept)))
             (sym ((each-on-record-is-replied known header request named found (found-is ∙ there)).in_progress content kept) ∙ is)
         by-content false kept content kept_is =
             reply-is known.kept (OfRequest header request) (failure_reply header NotAllowed) reply
-            (failure-true known.kept (OfRequest header request) header NotAllowed (other-content-true known.kept header (header_of_reply header) request found there content))
+            (failure-true known.kept (OfRequest header request) header NotAllowed (other-content-true known.kept header (header_of_reply header) request found refl there content))
             (sym ((each-on-record-is-replied known header request named found (found-is ∙ there)).other_content content) ∙ is)
 
     -- the key isn't on record
@@ -236,7 +236,7 @@ module _ (laws : LedgerLaws) (known : Known) (folded : AreFolded known.kept) (he
             subst (IsReplyTrue known.kept waiting (OfRequest header request))
             (same_Some (failure_reply header InProgress) reply (sym (ap (reply_of_result known.kept header) (again-fails known header request named same)) ∙ is))
             (λ said there. single-true known.kept waiting (OfRequest header request) (plain_said (header_of_reply header) (Some InProgress)) said
-            (waits-true known.kept waiting (OfRequest header request) (header_of_reply header) (header_key header) (about (header_key header)) (again-waits same)) there)
+            (waits-true known.kept waiting (OfRequest header request) (header_of_reply header) (header_key header) (meant-own known.kept (header_key header) header request (about (header_key header))) (again-waits same)) there)
         by-again false other =
             reply-true-more known.kept waiting (OfRequest header request) reply
             (idle-reply none (first_result (result_at_queue known named) (steps known header request None named)) (none-idle known header request named other) is)
@@ -283,7 +283,7 @@ module _ (laws : LedgerLaws) (kept : List Record) (folded : AreFolded kept) (hea
   found-true : (reference : Option Reference) (found : Found) → IsAsked kept header reference found → (body : Option ResultBody) → result_body_of found ≡ body
       → IsReplyTrue kept [] (OfRequest header (requests.Status reference)) (repeated_reply header found body)
   found-true reference found asked None none = failure-true kept (OfRequest header (requests.Status reference)) header InProgress
-      (open-true kept (OfRequest header (requests.Status reference)) (header_of_reply header) asked.key asked.key_is (open-key laws kept folded asked.key found asked.under none))
+      (open-true kept (OfRequest header (requests.Status reference)) (header_of_reply header) asked.key (meant-by kept header (requests.Status reference) ∙ asked.key_is) (open-key laws kept folded asked.key found asked.under none))
   found-true reference found asked (Some body) is =
       λ said there. both-true kept (OfRequest header (requests.Status reference)) (plain_said (header_of_reply header) None) (finished_said (header_of found) body) said
       (succeeded-true kept (OfRequest header (requests.Status reference)) (header_of_reply header) apart)
@@ -294,7 +294,7 @@ module _ (laws : LedgerLaws) (kept : List Record) (folded : AreFolded kept) (hea
     where
       by-found : (there : Option Found) → found_by_status kept header reference ≡ there → IsReplyTrue kept [] (OfRequest header (requests.Status reference)) (status_reply header there)
       by-found None none = failure-true kept (OfRequest header (requests.Status reference)) header NotFound
-          (not-found-true kept (OfRequest header (requests.Status reference)) (header_of_reply header) apart (none-asked reference none))
+          (not-found-true kept (OfRequest header (requests.Status reference)) (header_of_reply header) apart (ap (λ (key : Option Key). list_any (is_accepted kept) (option_to_list key)) (meant-by kept header (requests.Status reference)) ∙ none-asked reference none))
       by-found (Some found) is = found-true reference found (asked-under reference found is) (result_body_of found) refl
 
   -- the same where a request may wait, or an end of day may be served
@@ -306,7 +306,7 @@ module _ (laws : LedgerLaws) (kept : List Record) (folded : AreFolded kept) (hea
       served None serves = absurd cc
       served (Some one) serves =
           λ said there. single-true kept (waiting_keys core) (OfRequest header (requests.Status (Some one))) (plain_said (header_of_reply header) (Some InProgress)) said
-          (waits-true kept (waiting_keys core) (OfRequest header (requests.Status (Some one))) (header_of_reply header) (key_of header one) refl (pending-waits core (key_of header one) serves)) there
+          (waits-true kept (waiting_keys core) (OfRequest header (requests.Status (Some one))) (header_of_reply header) (key_of header one) (meant-by kept header (requests.Status (Some one))) (pending-waits core (key_of header one) serves)) there
 
       by-served : (b : Bool) → asks_pending core header reference ≡ b → found_by_status kept header reference ≡ None
           → IsReplyTrue kept (waiting_keys core) (OfRequest header (requests.Status reference)) (status_reply_at header None b)

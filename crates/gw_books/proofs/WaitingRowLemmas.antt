@@ -46,7 +46,7 @@ use Rattle.gw_books.proofs.Numbering.{RowHolds}
 use Rattle.gw_books.proofs.QuietRowLemmas.{nothing-holds, quiet-holds, taken-quiet, waits-calm}
 use Rattle.gw_books.proofs.ReplyLimitLemmas.{failure-within}
 use Rattle.gw_books.proofs.RecordMoreLemmas.{unknown-accepted}
-use Rattle.gw_books.proofs.ReplyTruthLemmas.{reply-true-more, unknown-true}
+use Rattle.gw_books.proofs.ReplyTruthLemmas.{meant-own, reply-true-more, unknown-true}
 use Rattle.gw_books.proofs.ServeLemmas.{begins-holds, beside-leaves, day-beside}
 use Rattle.gw_books.proofs.StepTruthLemmas.{failure-true}
 
@@ -116,7 +116,7 @@ refused-sound known waiting asking request wait condition is about idle =
       within = waiting-within known wait condition is;
       says = reply-true-more known.kept waiting (OfRequest asking request) (failure_reply wait.header condition)
           (failure-true known.kept (OfRequest asking request) wait.header condition
-          (unknown-true known.kept (OfRequest asking request) (header_of_reply wait.header) condition idle about (unknown-accepted known.kept (header_key wait.header) unknown)));
+          (unknown-true known.kept (OfRequest asking request) (header_of_reply wait.header) condition idle (meant-own known.kept (header_key wait.header) asking request about) (unknown-accepted known.kept (header_key wait.header) unknown)));
     }
 
 -- it is taken out and refused

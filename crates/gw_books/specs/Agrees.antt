@@ -22,6 +22,7 @@ use Rattle.gw_books.specs.Kinds.{BookedPayment, BookedReversal, is_kind}
 use Rattle.gw_books.specs.Past.{Occasion, OfRequest, OfMessage, OfNothing, SentCommand, MadeLink, Ending, Approved, Declined, Reported, HeardEnd, SentReply, MadePoll, Past}
 use Rattle.gw_books.specs.Books.{BookedEntry}
 use Rattle.gw_books.specs.Said.{Said, all_said, IsFramed}
+use Rattle.gw_books.specs.SaidLaws.{header_key}
 
 -- ---- one command a key, and one entry a key
 
@@ -90,9 +91,9 @@ refusal_agrees past book reply said = not (is_transaction said && (not (is_succe
 abbrev pub is_accepted : List Record → Key → Bool
 is_accepted kept key = is_some (option_and_then (intent_at kept) (slot_of kept key))
 
--- the request that the reply was sent for has other content than what the records have under this key
+-- the request that the reply was sent for has this key, and other content than what the records have under it
 abbrev pub has_other_content : List Record → Key → Occasion → Bool
-has_other_content kept key (OfRequest header request) = list_any (λ found. not (has_same_content kept request found)) (option_to_list (found_of kept key))
+has_other_content kept key (OfRequest header request) = same_key key (header_key header) && list_any (λ found. not (has_same_content kept request found)) (option_to_list (found_of kept key))
 has_other_content kept key (OfMessage number message) = false
 has_other_content kept key OfNothing = false
 
@@ -122,9 +123,9 @@ key_about kept own header (requests.Display outputs) = Some own
 key_about kept own header (requests.Print qualifier) = Some own
 key_about kept own header requests.Diagnosis = Some own
 
--- the key that a reply is about, by what it was sent for
+-- the key that a reply is about: where it is a reply to the request that it was sent for, the key that this is about, and else its own
 abbrev pub key_meant : List Record → Key → Occasion → Option Key
-key_meant kept own (OfRequest header request) = key_about kept own header request
+key_meant kept own (OfRequest header request) = if same_key own (header_key header) then key_about kept own header request else Some own
 key_meant kept own (OfMessage number message) = Some own
 key_meant kept own OfNothing = Some own
 

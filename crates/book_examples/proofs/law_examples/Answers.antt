@@ -1,7 +1,7 @@
 -- The examples.
 use Rattle.book_examples.proofs.CourseLemmas.{lost-has-past, paid-has-past, refused-has-past}
 use Rattle.book_examples.proofs.DayExampleLemmas.{settled-agrees, settled-has-past}
-use Rattle.book_examples.proofs.DisagreeLemmas.{disordered-books, entries-of-one-key, keyless-disagrees, later-entry-disagrees, links-end, not-found-disagrees, other-content-agrees, other-repeat-disagrees, other-terminal-books, outside-disagrees, progress-disagrees, repeat-agrees, reported-books, same-content-disagrees, twice-disagrees, unaccepted-disagrees, unbooked-disagrees, uncaused-books, unreported-may-be-open, unresolved-disagrees, untrue-books, waiting-is-in-progress}
+use Rattle.book_examples.proofs.DisagreeLemmas.{disordered-books, entries-of-one-key, keyless-disagrees, later-entry-disagrees, links-end, not-found-disagrees, other-content-agrees, other-key-disagrees, other-repeat-disagrees, other-terminal-books, outside-disagrees, progress-disagrees, repeat-agrees, reported-books, same-content-disagrees, twice-disagrees, unaccepted-disagrees, unbooked-disagrees, uncaused-books, unreported-may-be-open, unresolved-disagrees, untrue-books, waiting-is-in-progress}
 use Rattle.book_examples.proofs.ExampleLemmas.{asked-has-past, lost-agrees, paid-agrees, refused-agrees}
 use Rattle.book_examples.proofs.KindExampleLemmas.{kinds-of-commands}
 use Rattle.book_examples.proofs.QueuedExampleLemmas.{day-is-in-progress, queued-agrees, queued-has-past, taken-out-disagrees}
@@ -66,6 +66,9 @@ returns-clause-same_content c = same-content-disagrees
 
 pub returns-clause-other_content : goal.returns-clause-other_content
 returns-clause-other_content c = other-content-agrees
+
+pub returns-clause-other_key : goal.returns-clause-other_key
+returns-clause-other_key c = other-key-disagrees
 
 pub returns-clause-not_found : goal.returns-clause-not_found
 returns-clause-not_found c = not-found-disagrees
