@@ -19,8 +19,6 @@ mod paths;
 mod reader;
 mod reply;
 mod reply_members;
-#[cfg(test)]
-mod tests;
 mod transaction;
 
 pub use laws::{law_display, law_path, law_reply_read};

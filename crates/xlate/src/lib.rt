@@ -14,6 +14,3 @@ pub use display::show_of;
 pub use laws::{law_commands, law_examples, law_texts};
 pub use reply::reply_of;
 pub use text::transaction_text;
-
-#[cfg(test)]
-mod tests;

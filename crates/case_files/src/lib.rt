@@ -1,0 +1,13 @@
+//! Files of cases, as programs play them that report a line for each: `GROUP: NAME: as expected`, or the first line that is another.
+//!
+//! A line `== GROUP` begins a group of cases, and `= NAME` a case. A line of a case is a question, and each line after it that
+//! begins with `> ` is a line of its result. The lines of a group before its first case come before those of each. Before the
+//! first group `+ NAME` begins lines that `from NAME` gives again. Empty lines, and those that begin with `#`, say nothing.
+//! Only tests call this crate, and its functions have no contracts.
+#![tactic(auto)]
+
+mod bytes;
+mod cases;
+
+pub use bytes::{bytes_of, push_bytes, push_result_bytes};
+pub use cases::{Questions, push_report};

@@ -1,0 +1,222 @@
+//! Messages of tills, read and written.
+use crate::commands::push_command_line;
+use crate::frames::push_in_two_chunks;
+use gw_base::{Ident, Key};
+use json_text::read;
+use sale_msg::{
+    Header, Incoming, Kind, MessageError, Output, PaymentAsk, Period, Reference, SaleRequest,
+    read_message, write_request,
+};
+use sale_values::{Class, ReversalAsk};
+use std::alloc::{AllocError, Global};
+use std::str;
+use xlate::show_of;
+
+/// A request of class Service, with ServiceID 1, SaleID S1 and POIID T1.
+fn request(alloc: Global, category: &str, body: &str) -> Result<String, AllocError> {
+    format!(in alloc;
+        "{{\"SaleToPOIRequest\":{{\"MessageHeader\":{{\"ProtocolVersion\":\"3.0\",\"MessageClass\":\"Service\",\"MessageCategory\":\"{category}\",\"MessageType\":\"Request\",\"ServiceID\":\"1\",\"SaleID\":\"S1\",\"POIID\":\"T1\"}},\"{category}Request\":{body}}}}}"
+    )
+}
+
+/// A message with this header under this envelope.
+fn headed(alloc: Global, envelope: &str, header: &str) -> Result<String, AllocError> {
+    format!(in alloc; "{{\"{envelope}\":{{\"MessageHeader\":{header},\"DiagnosisRequest\":{{}}}}}}")
+}
+
+/// The request of a payment of this amount.
+fn payment(alloc: Global, amount: &str) -> Result<String, AllocError> {
+    let body = format!(in alloc;
+        "{{\"SaleData\":{{\"OperatorID\":\"5\",\"SaleTransactionID\":{{\"TransactionID\":\"27908\",\"TimeStamp\":\"2025-03-07T10:11:04+00:00\"}}}},\"PaymentTransaction\":{{\"AmountsReq\":{{\"Currency\":\"EUR\",\"RequestedAmount\":{amount}}},\"TransactionConditions\":{{\"LoyaltyHandling\":\"Forbidden\"}}}},\"PaymentData\":{{\"PaymentType\":\"Normal\"}}}}"
+    )?;
+    request(alloc, "Payment", body.as_str())
+}
+
+/// The text that the words stand for.
+fn text_of(alloc: Global, word: &str, words: &str) -> Result<String, AllocError> {
+    let (first, rest) = words.split_once(' ').unwrap_or((words, ""));
+    match word {
+        "display_lines" => request(alloc, "Display", words),
+        "request" | "rewrite_request" => request(alloc, first, rest),
+        "headed" => headed(alloc, first, rest),
+        "payment" | "payment_in_two_chunks" => payment(alloc, words),
+        _ => String::from_str(alloc, words),
+    }
+}
+
+/// Appends a name, or `-`.
+fn push_name<const N: usize>(out: &mut String, name: &Option<Ident<N>>) -> Result<(), AllocError> {
+    match name {
+        Some(name) => write!(out, " {name}"),
+        None => out.push_str(" -"),
+    }
+}
+
+fn push_header(out: &mut String, header: &Header) -> Result<(), AllocError> {
+    let class = header.class.name();
+    let message_type = header.kind.name();
+    let Header {
+        category,
+        sale,
+        poi,
+        ..
+    } = header;
+    write!(out, "{class} {category} {message_type} {sale} {poi}")?;
+    push_name(out, &header.service)?;
+    push_name(out, &header.device)
+}
+
+/// Appends a reference, and the key that it has under the header.
+fn push_reference(
+    out: &mut String,
+    header: &Header,
+    reference: &Reference,
+) -> Result<(), AllocError> {
+    write!(out, " {}", reference.service)?;
+    push_name(out, &reference.sale)?;
+    push_name(out, &reference.poi)?;
+    let Key { sale, poi, service } = reference.key(header);
+    write!(out, ", key {sale} {poi} {service}")
+}
+
+fn push_payment(out: &mut String, ask: &PaymentAsk) -> anyhow::Result<()> {
+    let currency = str::from_utf8(ask.currency.as_slice())?;
+    let payment_type = match &ask.kind {
+        Some(text) => text.as_str(),
+        None => "-",
+    };
+    write!(
+        out,
+        " {} {} {currency} {} {payment_type}",
+        ask.transaction, ask.stamp, ask.amount
+    )?;
+    Ok(())
+}
+
+fn push_reversal(out: &mut String, ask: &ReversalAsk) -> Result<(), AllocError> {
+    match ask.amount {
+        Some(amount) => write!(out, " {} {amount}", ask.transaction),
+        None => write!(out, " {} -", ask.transaction),
+    }
+}
+
+fn push_output(out: &mut String, output: &Output) -> Result<(), AllocError> {
+    let Output {
+        device,
+        qualify,
+        required,
+        ..
+    } = output;
+    write!(out, " | {device} {qualify} {required}")?;
+    match &output.texts {
+        Some(texts) => {
+            for text in texts.inner().as_slice() {
+                write!(out, " '{}'", text.as_str())?;
+            }
+            Ok(())
+        }
+        None => out.push_str(" -"),
+    }
+}
+
+/// Appends what a request has besides its header.
+fn push_request(out: &mut String, header: &Header, request: &SaleRequest) -> anyhow::Result<()> {
+    match request {
+        SaleRequest::Payment(ask) => push_payment(out, ask)?,
+        SaleRequest::Reversal(ask) => push_reversal(out, ask)?,
+        SaleRequest::Abort(reference) | SaleRequest::Status(Some(reference)) => {
+            push_reference(out, header, reference)?;
+        }
+        SaleRequest::Reconciliation(period) => write!(out, " {}", period.name())?,
+        SaleRequest::Display(outputs) => {
+            for output in outputs.inner().as_slice() {
+                push_output(out, output)?;
+            }
+        }
+        SaleRequest::Print(qualifier) => write!(out, " {qualifier}")?,
+        _ => {}
+    }
+    Ok(())
+}
+
+/// Appends what a message is.
+fn push_incoming(out: &mut String, incoming: &Incoming) -> anyhow::Result<()> {
+    match incoming {
+        Incoming::Silent => out.push_str("silent")?,
+        Incoming::Request(header, request) => {
+            push_header(out, header)?;
+            out.push_str(":")?;
+            push_request(out, header, request)?;
+        }
+    }
+    Ok(())
+}
+
+/// What a text is read as.
+fn message(alloc: Global, text: &str) -> anyhow::Result<Result<Incoming, MessageError>> {
+    let tree = read(alloc, text.as_bytes())?;
+    Ok(read_message(alloc, &tree))
+}
+
+/// Appends what a text is read as, or the fault.
+fn push_message(alloc: Global, out: &mut String, text: &str) -> anyhow::Result<()> {
+    out.push_str("> ")?;
+    match &message(alloc, text)? {
+        Ok(incoming) => push_incoming(out, incoming)?,
+        Err(MessageError::Fault(fault)) => write!(out, "{fault}")?,
+        Err(MessageError::Memory) => out.push_str("no memory")?,
+    }
+    out.push_str("\n")?;
+    Ok(())
+}
+
+/// Appends what a terminal shows of a Display, or `> none`.
+fn push_shown(alloc: Global, out: &mut String, text: &str) -> anyhow::Result<()> {
+    let Ok(Incoming::Request(_, SaleRequest::Display(outputs))) = &message(alloc, text)? else {
+        anyhow::bail!("no Display");
+    };
+    match show_of(outputs) {
+        Some(command) => Ok(push_command_line(out, &command)?),
+        None => Ok(out.push_str("> none\n")?),
+    }
+}
+
+/// Appends whether what is written of the request that a text is is the text.
+fn push_again(alloc: Global, out: &mut String, text: &str) -> anyhow::Result<()> {
+    let mut again = Vec::new(alloc);
+    if let Ok(Incoming::Request(header, request)) = &message(alloc, text)? {
+        write_request(alloc, header, request, &mut again)?;
+    }
+    if again.as_slice() == text.as_bytes() {
+        out.push_str("> the same\n")?;
+    } else {
+        write!(out, "> {}\n", str::from_utf8(again.as_slice())?)?;
+    }
+    Ok(())
+}
+
+/// Appends the result of a question on a message of a till.
+pub fn push_on_message(
+    alloc: Global,
+    out: &mut String,
+    word: &str,
+    words: &str,
+) -> anyhow::Result<()> {
+    let text = text_of(alloc, word, words)?;
+    match word {
+        "display_lines" => push_shown(alloc, out, text.as_str()),
+        "rewrite_request" => push_again(alloc, out, text.as_str()),
+        "payment_in_two_chunks" => push_in_two_chunks(alloc, out, text.as_str()),
+        _ => push_message(alloc, out, text.as_str()),
+    }
+}
+
+/// Appends the class, the type of a message or of a reconciliation of this name.
+pub fn push_named(out: &mut String, word: &str, name: &str) -> Result<(), AllocError> {
+    let found = match word {
+        "class" => Class::from_name(name.as_bytes()).map(Class::name),
+        "message_type" => Kind::from_name(name.as_bytes()).map(Kind::name),
+        _ => Period::from_name(name.as_bytes()).map(Period::name),
+    };
+    write!(out, "> {}\n", found.unwrap_or("none"))
+}
