@@ -11,6 +11,3 @@ pub use item::{Item, LineId};
 pub use laws::law_deadlines;
 pub use lines::Lines;
 pub use steps::Steps;
-
-#[cfg(test)]
-mod tests;

@@ -2,8 +2,8 @@
 ghost use Rattle.std.specs.Prelude.{◌≡◌, ◌≤◌, ◌<◌, IsSome};
 ghost use Rattle.gw_links.specs.Waiting.{item_of, without_request};
 
-use crate::{Item, LineId, Lines, Steps};
 use gw_base::{Ident, Key};
+use gw_links::{Item, LineId, Lines, Steps};
 use sale_values::{Class, Header, Kind, SaleRequest};
 use std::marker::Brand;
 use std::sync::ledger::{Blank, Ledger};
