@@ -13,6 +13,7 @@ use Rattle.gw_ledger.specs.Slots.{intent_at}
 use Rattle.gw_owes.proofs.RecordLemmas.{LedgerLaws}
 use Rattle.gw_rules.specs.Lawful.{turns_of}
 use Rattle.gw_rules.proofs.RecordRowLemmas.{OrderLaws}
+use Rattle.gw_books.specs.Kinds.{BookedReversal}
 use Rattle.gw_books.specs.Past.{Numbering, is_numbering, numbering_of, Past, past_of}
 use Rattle.gw_books.specs.Books.{BookedEntry, Honest}
 use Rattle.gw_books.specs.Example.{kept_approval, kept_decline, paid_entry, payment_text, paying_intent, refused_course, refused_past}
@@ -167,6 +168,8 @@ pub unmatched-books : UnmatchedBooks
 unmatched-books = record {
   folded = unfolded;
   rises = λ matches. let falls : 124 < 123 = matches.rises 0 1 reversed_entry paid_entry (omega arith) refl refl refl in omega (arith, falls);
+  falls = λ matches. let falls : 124 < 123 = matches.rises 0 1 (record declined_entry { number = 124 }) paid_entry (omega arith) refl refl refl in omega (arith, falls);
+  same = λ matches. let above : 123 < 123 = matches.rises 0 1 declined_entry paid_entry (omega arith) refl refl refl in omega (arith, above);
   once = two-in-window;
   unbooked = unbooked;
   unapproved = λ matches. no-false (its-entry declined_entry matches).approved;
@@ -176,4 +179,5 @@ unmatched-books = record {
   receipt = λ matches. let clash = (its-entry _ matches).receipt in omega (arith, clash);
   amount = λ matches. let clash = (its-entry _ matches).amount in omega (arith, clash);
   declined = λ matches. matches.declined 1 kept_decline paying_intent refl refl refl 0 paid_entry refl (lone-window kept_decline paid_entry refl refl (omega arith));
+  declined_kind = λ matches. matches.declined 1 kept_decline paying_intent refl refl refl 0 (record paid_entry { kind = BookedReversal }) refl (lone-window kept_decline (record paid_entry { kind = BookedReversal }) refl refl (omega arith));
 }

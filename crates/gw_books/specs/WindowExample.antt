@@ -55,8 +55,10 @@ pub record ComingDoesNotMatch : Type 0 where
 pub record UnmatchedBooks : Type 0 where
   -- an Outcome without its Intent
   pub folded : ¬ Matches (Outcome kept_approval ∷ []) []
-  -- a trace number that falls
+  -- a trace number that falls from one approved entry to another, or from a declined one, and two entries with the same one
   pub rises : ¬ Matches reversed_kept (reversed_entry ∷ paid_entry ∷ [])
+  pub falls : ¬ Matches paid_kept (record declined_entry { number = 124 } ∷ paid_entry ∷ [])
+  pub same : ¬ Matches paid_kept (declined_entry ∷ paid_entry ∷ [])
   -- two approved entries in one window
   pub once : ¬ Matches paid_kept reversed_book
   -- an approved payment without an entry, or with one that isn't approved, is another terminal's, or of another kind, number, receipt number or amount
@@ -67,5 +69,6 @@ pub record UnmatchedBooks : Type 0 where
   pub number : ¬ Matches paid_kept (record paid_entry { number = 124 } ∷ [])
   pub receipt : ¬ Matches paid_kept (record paid_entry { receipt = 18 } ∷ [])
   pub amount : ¬ Matches paid_kept (record paid_entry { amount = 1000 } ∷ [])
-  -- a declined payment with an approved entry
+  -- a declined payment with an approved entry, of its kind or of another
   pub declined : ¬ Matches refused_kept (paid_entry ∷ [])
+  pub declined_kind : ¬ Matches refused_kept (record paid_entry { kind = BookedReversal } ∷ [])
