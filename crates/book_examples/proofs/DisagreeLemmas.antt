@@ -416,6 +416,7 @@ uncaused-books = record {
 pub disordered-books : DisorderedBooks
 disordered-books = record {
   falling = λ honest. no-false honest.ordered;
+  same = λ honest. no-false honest.ordered;
   unplaced = λ honest. no-false honest.ordered;
   double = λ honest. no-false honest.ordered;
   number = λ honest. no-false honest.numbered;
@@ -449,6 +450,7 @@ pub other-terminal-books : OtherTerminalBooks
 other-terminal-books = record {
   entry = record { caused = refl; linked = refl; ordered = refl; numbered = refl; true_ends = refl };
   link = record { caused = refl; linked = refl; ordered = refl; numbered = refl; true_ends = refl };
+  refund = record { caused = refl; linked = refl; ordered = refl; numbered = refl; true_ends = refl };
 }
 
 pub waiting-is-in-progress : WaitingIsInProgress

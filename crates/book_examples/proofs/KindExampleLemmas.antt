@@ -3,4 +3,4 @@ use Rattle.std.proofs.Common.{refl}
 use Rattle.book_examples.specs.KindExample.{KindsOfCommands}
 
 pub kinds-of-commands : KindsOfCommands
-kinds-of-commands = record { payment = refl; reversal = refl; enquiry = refl; reservation = refl; completion = refl; refund = refl; class_alone = refl; empty = refl }
+kinds-of-commands = record { payment = refl; reversal = refl; enquiry = refl; reservation = refl; completion = refl; refund = refl; other_class = refl; class_alone = refl; empty = refl }

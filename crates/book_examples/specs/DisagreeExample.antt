@@ -187,8 +187,9 @@ pub record UncausedBooks : Type 0 where
 
 -- what isn't honest for its order and its numbers
 pub record DisorderedBooks : Type 0 where
-  -- a trace number that falls within one numbering, and a place that falls, of a terminal that has reported nothing
+  -- a trace number that falls or stays within one numbering, and a place that falls, of a terminal that has reported nothing
   pub falling : ¬ Honest (record asked_past { ends = [] }) (older_entry 200 ∷ paid_entry ∷ [])
+  pub same : ¬ Honest (record asked_past { ends = [] }) (older_entry 123 ∷ paid_entry ∷ [])
   pub unplaced : ¬ Honest (record asked_past { ends = [] }) (paid_entry ∷ older_entry 200 ∷ [])
   -- two entries of one command
   pub double : ¬ Honest asked_past (paid_entry ∷ record paid_entry { number = 124 } ∷ [])
@@ -226,7 +227,8 @@ pub record ReportedBooks : Type 0 where
   pub declined : Honest (past_with_end (Reported 123 None)) (record paid_entry { approved = false } ∷ [])
   pub refused : Honest refused_past (record paid_entry { approved = false } ∷ [])
 
--- what is honest whatever another terminal does: its entry with a greater number comes first, or it is linked between a command and its entry
+-- what is honest whatever else is done: another terminal's entry with a greater number comes first, another terminal is linked between a command and its entry, or this one has booked a refund from before the log
 pub record OtherTerminalBooks : Type 0 where
   pub entry : Honest asked_past (record paid_entry { numbering = other_numbering; place = 0; cause = None; number = 200 } ∷ paid_entry ∷ [])
   pub link : Honest (record asked_past { links = record first_link { place = 23; numbering = other_numbering } ∷ asked_past.links }) (paid_entry ∷ [])
+  pub refund : Honest (record asked_past { ends = [] }) (record (older_entry 5) { kind = BookedRefund } ∷ paid_entry ∷ [])

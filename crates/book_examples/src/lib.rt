@@ -19,9 +19,9 @@ ghost use Rattle.book_examples.specs.QueuedExample.{DayIsInProgress, QueuedAgree
 /// said to be in progress; a payment that was accepted said not to be found, also as a status asks for another key; a write for bytes
 /// outside the grammars; a key that is open since before its link at a poll after an enquiry has reported, while the link lasts. What
 /// isn't honest: an entry without its command, of another kind or at another terminal than its command, or after its link was replaced;
-/// numbers and places that fall, and two entries of one command; an end of a dialogue that isn't true of the book. What another terminal
-/// books, and that it is linked, breaks no honesty. The first two bytes of a command say its kind: `06 01` a payment and `06 30` a
-/// reversal.
+/// trace numbers that don't rise, places that fall, and two entries of one command; an end of a dialogue that isn't true of the book.
+/// What another terminal books, that it is linked, and a refund from before the log break no honesty. The first two bytes of a command
+/// say its kind: `06 01` a payment and `06 30` a reversal.
 pub fn law_examples()
     ensures asked { AskedHasPast }
     ensures paid { PaidHasPast }
