@@ -9,13 +9,12 @@ use Rattle.gw_owes.specs.declared.terminal.Standing.TheVariants.{Unlinked, Ready
 use Rattle.gw_owes.specs.declared.terminal.Terminal.{Terminal}
 use Rattle.gw_owes.specs.Calls.{OwedCall, SendTill, SendPt, CutTill, CutPt, LinkPt, WriteBody, WriteGate, WriteFirstGate, Sync}
 use Rattle.gw_owes.specs.Core.{Wait, Core}
-use Rattle.gw_owes.specs.DeviceExample.{status_0A}
 use Rattle.gw_owes.specs.Items.{RoundItem, Crowded, Message, Asked, Unframed, Gone, Greet, Handle, Serve, Queue, NextWaiting, Oversized, LinkLost, Late, Overdue, Due}
 use Rattle.gw_owes.specs.Links.{LinkEvent, LinkIsLost, link_row}
 use Rattle.gw_owes.specs.PaymentExample.{Since, since_item, since_linked, since_payment, since_ready, since_sent}
 use Rattle.gw_owes.specs.Row.{Known}
 use Rattle.gw_owes.specs.Rows.{row_of}
-use Rattle.gw_owes.specs.TerminalExample.{abort, ack}
+use Rattle.gw_owes.specs.TerminalExample.{abort, ack, status_0A}
 use Rattle.gw_owes.specs.TerminalLaws.{HasNoTrace}
 use Rattle.gw_owes.specs.TerminalRows.{terminal_of}
 use Rattle.gw_owes.specs.Terminals.{terminal_at, core_without}

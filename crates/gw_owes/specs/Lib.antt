@@ -1,5 +1,4 @@
 -- The definitions of what each item of a round owes: what a till's bytes are read as, the calls, and what is remembered.
-pub mod AbortExample
 pub mod AbortLaws
 pub mod AskerLaws
 pub mod Awaited
@@ -7,18 +6,15 @@ pub mod AwaitedLaws
 pub mod Calls
 pub mod Content
 pub mod Core
-pub mod DayExample
 pub mod DayLaws
 pub mod DayRefusals
 pub mod Days
 pub mod Deadlines
 pub mod DealLaws
-pub mod DeviceExample
 pub mod DeviceLaws
 pub mod DeviceRequests
 pub mod Diagnosis
 pub mod Dialogues
-pub mod DisplayExample
 pub mod DisplayLaws
 pub mod Displays
 pub mod Events
@@ -34,20 +30,16 @@ pub mod PaymentLaws
 pub mod Payments
 pub mod ReadAs
 pub mod Reconciliations
-pub mod RecordExample
 pub mod RecordLaws
 pub mod Replies
 pub mod Reply
 pub mod Reports
 pub mod Requests
-pub mod ReversalExample
 pub mod ReversalLaws
-pub mod ReversalPremises
 pub mod Reversals
 pub mod Row
 pub mod Rows
 pub mod Serving
-pub mod SessionExample
 pub mod SessionLaws
 pub mod SessionRows
 pub mod Sessions
@@ -62,7 +54,6 @@ pub mod Terminals
 pub mod Transcript
 pub mod TranscriptExample
 pub mod WaitingCauses
-pub mod WaitingExample
 pub mod WaitingLaws
 pub mod WaitingRows
 pub mod Waits

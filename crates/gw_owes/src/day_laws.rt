@@ -1,5 +1,4 @@
 //! Laws of reconciliations. Each function does nothing: its contract is the law.
-ghost use Rattle.gw_owes.specs.DayExample.{ExampleBetween, ExampleDayAgain, ExampleDayPremises, ExampleDays, ExampleSales, ExampleSettledDay, ExampleSettledPayment};
 ghost use Rattle.gw_owes.specs.DayLaws.{DeclinedKeepsNothing, DoneIsSettled, EachDayBegins, EachReconciliationBegins, EachSaleIsSettled, EachServedDayIsReplied, EachSettledHasCause, LostKeepsNothing, NextHasNoTotals, OtherPeriodIsUnserved, SettledIsNotReversed, SettledIsRepliedAgain, UnclearDayIsCut};
 ghost use Rattle.gw_owes.specs.DayRefusals.{EachDayCauseIsReplied, EachDayFailureHasCause, EachReconciliationIsReplied, OnlyMayBegins};
 
@@ -48,19 +47,3 @@ pub fn law_day_refusals()
     ensures only { EachDayFailureHasCause }
     ensures begins { OnlyMayBegins }
 {}
-
-/// Examples, which are computed: a till's own reconciliation in several standings of its terminal, also twice; an end of day that is
-/// done, declined and lost; requests on its key while it is served and after; a payment that is settled; a till's own while an end of
-/// day is served, and a payment that is begun before a Settled and approved after it; and premises of these laws, which hold, also of
-/// records that are in order.
-pub fn law_day_examples()
-    ensures sales { ExampleSales }
-    ensures days { ExampleDays }
-    ensures again { ExampleDayAgain }
-    ensures settled { ExampleSettledPayment }
-    ensures between { ExampleBetween }
-    ensures premises { ExampleDayPremises }
-    ensures settled_day { ExampleSettledDay }
-{
-    gw_ledger::law_examples();
-}

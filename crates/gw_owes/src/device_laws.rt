@@ -1,5 +1,4 @@
 //! Laws of device requests. Each function does nothing: its contract is the law.
-ghost use Rattle.gw_owes.specs.DeviceExample.{ExampleAlongRun, ExampleDeviceRequests, ExampleNoRequests};
 ghost use Rattle.gw_owes.specs.DeviceLaws.{EachLinkLeavesNumber, EachRequestCounts, EachRunCounts, EachShownIsRequested, EachTillGoneLeavesNumber, NoLinkRequests, OnlyShownIsRequested, PrintedIsWithin};
 
 /// While a terminal serves a payment, a reversal or an end of day whose till is there, an intermediate status becomes a device request
@@ -20,11 +19,3 @@ pub fn law_device_requests()
 {
     zvt_msg::law_read_fits();
 }
-
-/// Examples, which are computed: device requests to the till of a payment, a reversal and an end of day, with their numbers, also after
-/// the greatest; none where the till is gone, or where the terminal is ready or enquired; and the number along a run.
-pub fn law_device_examples()
-    ensures requests { ExampleDeviceRequests }
-    ensures none { ExampleNoRequests }
-    ensures along { ExampleAlongRun }
-{}

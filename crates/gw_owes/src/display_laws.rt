@@ -1,5 +1,4 @@
 //! Laws of Displays. Each function does nothing: its contract is the law.
-ghost use Rattle.gw_owes.specs.DisplayExample.{ExampleDisplayEnds, ExampleDisplayPremises, ExampleResults, ExampleShownLines};
 ghost use Rattle.gw_owes.specs.DisplayLaws.{DeclinedIsNotShown, DoneIsShown, EachBegunIsShown, EachDisplayIsReplied, LostIsNotShown, NackIsNeverDone, NoDisplayIsStopped, UnclearIsCut};
 
 /// A Display is refused where its POIID isn't configured, where no output is for the customer's display, and where its terminal isn't
@@ -19,13 +18,4 @@ pub fn law_displays()
     ensures lost { LostIsNotShown }
     ensures refused { NackIsNeverDone }
     ensures not_stopped { NoDisplayIsStopped }
-{}
-
-/// Examples, which are computed: the results of outputs for several devices, the lines that are shown of long texts and of many, the
-/// ends of a display, and premises of these laws, which hold.
-pub fn law_display_examples()
-    ensures results { ExampleResults }
-    ensures lines { ExampleShownLines }
-    ensures ends { ExampleDisplayEnds }
-    ensures premises { ExampleDisplayPremises }
 {}

@@ -18,25 +18,20 @@ mod terminal_laws;
 mod waiting_laws;
 
 pub use asker_laws::law_askers;
-pub use day_laws::{law_day_examples, law_day_refusals, law_days};
-pub use device_laws::{law_device_examples, law_device_requests};
-pub use display_laws::{law_display_examples, law_displays};
-pub use payment_laws::{
-    law_open_reports, law_payment_begins, law_payment_ends, law_payment_examples, law_repeats,
-};
-pub use record_laws::{law_meanings, law_record_examples, law_records};
-pub use reversal_laws::{
-    law_abort_examples, law_aborts, law_refusals, law_reversal_examples, law_reversal_premises,
-    law_reversals,
-};
-pub use session_laws::{law_session_examples, law_sessions};
-pub use step_laws::{law_on_record, law_step_examples};
+pub use day_laws::{law_day_refusals, law_days};
+pub use device_laws::law_device_requests;
+pub use display_laws::law_displays;
+pub use payment_laws::{law_open_reports, law_payment_begins, law_payment_ends, law_repeats};
+pub use record_laws::{law_meanings, law_records};
+pub use reversal_laws::{law_aborts, law_refusals, law_reversals};
+pub use session_laws::law_sessions;
+pub use step_laws::law_on_record;
 pub use terminal::{LoggedOut, Service, Standing, Terminal};
 pub use terminal_laws::{
     law_awaited, law_dialogues, law_greetings, law_set_aside, law_terminal_alone,
-    law_terminal_cuts, law_terminal_row_examples, law_transcript, law_unlinked, law_way_to_ready,
+    law_terminal_cuts, law_transcript, law_unlinked, law_way_to_ready,
 };
-pub use waiting_laws::{law_waiting_causes, law_waiting_examples, law_waits};
+pub use waiting_laws::{law_waiting_causes, law_waits};
 
 /// A till's bytes are read one way.
 pub fn law_reads()

@@ -1,5 +1,5 @@
 //! Laws of payments and reversals. Each function does nothing: its contract is the law.
-ghost use Rattle.gw_owes.specs.PaymentExample.{ExampleApproved, ExampleBesideDay, ExampleCommandFails, ExampleDeclined, ExampleNotAbove, ExamplePaymentAccepted, ExamplePaymentBegins, ExampleReportsOfOpen, ExampleRoom, ExampleSecondRequest, ExampleUnclearEnd};
+ghost use Rattle.gw_owes.specs.PaymentExample.{ExampleReportsOfOpen};
 ghost use Rattle.gw_owes.specs.PaymentLaws.{ApprovalIsKept, DeclineIsKept, EachAcceptedBegins, EachAskedBegins, EachAskedSendsNoTerminal, EachBegunIsReversed, EachBegunIsServed, EachIntentIsAsked, EachRecordIsOfAnEnd, EachTillHasItsOutcomeKept, EachTransactionIsKeptFirst, EachNextIsReversed, EachNextIsServed, KeyOfDayIsNotAllowed, NotAboveIsSetAside, OnlyAskedBegins, RepeatBeginsNothing, ReportedApprovalIsKept, ReportedDeclineIsKept, UnclearKeepsNothing, UnperformedIsAborted};
 
 /// A payment and a reversal begin only with their Intent kept first, in the next slot, with the key of the request and the terminal's
@@ -56,20 +56,4 @@ pub fn law_repeats()
     ensures begins { EachAskedBegins }
     ensures others { OnlyAskedBegins }
     ensures of_day { KeyOfDayIsNotAllowed }
-{}
-
-/// Examples, which are computed: a payment of 10.99 that begins, and one whose command can't be sent; approvals, of all of it, of
-/// 9.00, with an unknown field, and for a till that is gone; one with a trace number that isn't above the one before; ends that are
-/// unclear; declines; repeats, a second payment, and one with too few slots; and payments while an end of day is served.
-pub fn law_payment_examples()
-    ensures begins { ExamplePaymentBegins }
-    ensures accepted { ExamplePaymentAccepted }
-    ensures command_fails { ExampleCommandFails }
-    ensures approved { ExampleApproved }
-    ensures not_above { ExampleNotAbove }
-    ensures unclear { ExampleUnclearEnd }
-    ensures declined { ExampleDeclined }
-    ensures second { ExampleSecondRequest }
-    ensures room { ExampleRoom }
-    ensures day { ExampleBesideDay }
 {}

@@ -1,6 +1,5 @@
 //! Laws of the records beside what is remembered. Each function does nothing: its contract is the law.
 ghost use Rattle.gw_owes.specs.HeardLaws.{EachMeaningFits};
-ghost use Rattle.gw_owes.specs.RecordExample.{ExampleIntentKept, ExampleKeyStaysOpen, ExampleOutcomeKept, ExampleRequestBegins, ExampleReversalKept, ExampleSettledKept, ExampleStopKeepsNothing};
 ghost use Rattle.gw_owes.specs.RecordLaws.{EachCutKeepsInOrder, EachLinkKeepsInOrder, EachMessageTakesItsMemory, EachNextTakesItsMemory, EachOverdueKeepsInOrder, EachQueueKeepsInOrder, EachRequestTakesOne, EachRowBringsReadItems, EachRowKeepsInOrder, EachTillGoneLeavesDays, NewCoreIsInOrder};
 
 /// While a terminal is ready none of its keys is open on record, and its last trace number is none below that of its records; while
@@ -34,18 +33,3 @@ pub fn law_records()
 pub fn law_meanings()
     ensures { EachMeaningFits }
 {}
-
-/// Examples of these laws, which are computed: their premises hold of a terminal that is ready and begins a payment or a reversal, and
-/// of one that serves a payment and ends it, clearly or not, or is to stop it, and of one that ends an end of day.
-pub fn law_record_examples()
-    ensures begins { ExampleRequestBegins }
-    ensures intent { ExampleIntentKept }
-    ensures outcome { ExampleOutcomeKept }
-    ensures open_key { ExampleKeyStaysOpen }
-    ensures reversal { ExampleReversalKept }
-    ensures stop { ExampleStopKeepsNothing }
-    ensures settled { ExampleSettledKept }
-{
-    law_records();
-    gw_ledger::law_examples();
-}

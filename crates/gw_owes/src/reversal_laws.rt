@@ -1,9 +1,6 @@
 //! Laws of reversals and Aborts. Each function does nothing: its contract is the law.
-ghost use Rattle.gw_owes.specs.AbortExample.{ExampleAbortUnserved, ExampleDayAborted, ExampleDisplayAborted, ExampleEnquiredAfterStop, ExampleLateAcknowledgement, ExampleLateRefusal, ExampleStopSent, ExampleStoppedEnds};
 ghost use Rattle.gw_owes.specs.AbortLaws.{AbortCodeIsKept, AbortCodeOfDayIsReplied, AckOrNackEndsNothing, AskedIsWished, BegunIsStopped, DisplayServesNoKey, EachAbortEndsNothing, EachAbortGetsRejectOrNothing, EachMalformedAbortGetsReject, EachStopIsTheFirst, LateRefusalDeclinesNothing, ServedIsToStop, StopEndsNothing, StoppedIsNotStoppedAgain, UnservedStopsNothing, WaitingIsToBeTakenOut, WishedIsSent};
-ghost use Rattle.gw_owes.specs.ReversalExample.{ExampleReversalBegins, ExampleReversalEnds, ExampleReversalRefused, ExampleReversalRepeated, ExampleReversalReported, ExampleReversalUnserved};
 ghost use Rattle.gw_owes.specs.ReversalLaws.{EachCauseIsReplied, EachFailureHasItsCause, EachReversalBeginsOrIsReplied, IrreversibleIsNotAllowed, ReportedDeclineIsReplied, ReportedReversalIsReplied, ReversalApprovalIsReplied, ReversalDeclineIsReplied, ReversibleBegins, UnnamedIsNotFound, UnperformedReversalIsReplied};
-ghost use Rattle.gw_owes.specs.ReversalPremises.{ExampleIrreversible, ExampleMayStop, ExampleReversalAccepted, ExampleReversalCauses, ExampleReversalMeans, ExampleReversalWaits};
 
 /// A reversal is served as a payment is (`law_payment_begins`, `law_payment_ends`, `law_open_reports`), and its till gets the numbers and
 /// the amount of the Outcome that is kept, which are those that the terminal reported, whatever amount was asked: as it is approved, and
@@ -58,40 +55,4 @@ pub fn law_aborts()
     ensures aborted { AbortCodeIsKept }
     ensures aborted_day { AbortCodeOfDayIsReplied }
     ensures late { LateRefusalDeclinesNothing }
-{}
-
-/// Examples, which are computed: the reversal of a payment of 10.99 that begins; its ends; repeats, and a TransactionStatus; the
-/// reasons for which one is refused, with their order; and reports of the terminal while it is open.
-pub fn law_reversal_examples()
-    ensures begins { ExampleReversalBegins }
-    ensures ends { ExampleReversalEnds }
-    ensures again { ExampleReversalRepeated }
-    ensures refused { ExampleReversalRefused }
-    ensures unserved { ExampleReversalUnserved }
-    ensures reported { ExampleReversalReported }
-{}
-
-/// Examples, which are computed, in which the premises of these laws hold: a reversal that may begin, and why others may not; what ends
-/// one that is served; each cause of a refusal, and one that waits; and dialogues that are to stop.
-pub fn law_reversal_premises()
-    ensures accepted { ExampleReversalAccepted }
-    ensures irreversible { ExampleIrreversible }
-    ensures ends { ExampleReversalMeans }
-    ensures causes { ExampleReversalCauses }
-    ensures waits { ExampleReversalWaits }
-    ensures stops { ExampleMayStop }
-{}
-
-/// Examples, which are computed: Aborts of keys that aren't served; the stop, before and after the command is acknowledged, and
-/// once only; ends after it and before it; the same of an end of day, and an Abort of a display; and its late Ack or Nack in a second
-/// payment: a refusal, after which the enquiry finds the truth, and an acknowledgement.
-pub fn law_abort_examples()
-    ensures unserved { ExampleAbortUnserved }
-    ensures sent { ExampleStopSent }
-    ensures ends { ExampleStoppedEnds }
-    ensures of_day { ExampleDayAborted }
-    ensures display { ExampleDisplayAborted }
-    ensures late_refusal { ExampleLateRefusal }
-    ensures enquired { ExampleEnquiredAfterStop }
-    ensures late_acknowledgement { ExampleLateAcknowledgement }
 {}

@@ -1,5 +1,4 @@
 //! Laws of Login and Logout. Each function does nothing: its contract is the law.
-ghost use Rattle.gw_owes.specs.SessionExample.{ExampleLogoutBesideDay, ExampleManyPairs, ExampleOtherPairs, ExampleSessionAlong, ExampleSessionPremises, ExampleSessions, ExampleUnderLogout};
 ghost use Rattle.gw_owes.specs.SessionLaws.{EachLinkKeepsPairs, EachOtherItemKeepsPairs, EachOtherPairStays, EachServedSessionSucceeds, EachSessionIsReplied, EachStepFollowsLast, EachStepKeepsFew, LoggedOutFails, OnlyLoggedOutFails};
 
 /// A Login or a Logout fails where its POIID isn't configured, and a Logout where its SaleID isn't logged out there while 1,024 pairs of a
@@ -20,18 +19,4 @@ pub fn law_sessions()
     ensures few { EachStepKeepsFew }
     ensures unchanged { EachOtherItemKeepsPairs }
     ensures links { EachLinkKeepsPairs }
-{}
-
-/// Examples, which are computed: a Logout, the payment that fails after it, and the Login after which it begins, also where a Logout
-/// comes twice; another SaleID, and another POIID; a POIID that isn't configured; 1,024 pairs that are logged out, one more, and one of
-/// them again; repeats and other requests of a till that is logged out, also while an end of day is served; and premises of these laws,
-/// which hold.
-pub fn law_session_examples()
-    ensures sessions { ExampleSessions }
-    ensures others { ExampleOtherPairs }
-    ensures many { ExampleManyPairs }
-    ensures under_logout { ExampleUnderLogout }
-    ensures beside_day { ExampleLogoutBesideDay }
-    ensures along { ExampleSessionAlong }
-    ensures premises { ExampleSessionPremises }
 {}

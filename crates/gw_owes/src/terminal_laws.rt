@@ -3,7 +3,6 @@ ghost use Rattle.gw_owes.specs.AwaitedLaws.{EachLinkAwaitsNoMore, EachRowAwaitsN
 ghost use Rattle.gw_owes.specs.DealLaws.{EachLinkKeepsDeals, EachRowKeepsDeals, NewCoreHasDeals};
 ghost use Rattle.gw_owes.specs.Dialogues.{EachLinkGivesDialogues, EachRowKeepsDialogues, NewCoreHasDialogues};
 ghost use Rattle.gw_owes.specs.PaymentExample.{ExampleReportBelow, ExampleReportBelowOpen};
-ghost use Rattle.gw_owes.specs.TerminalExample.{ExampleAside, ExampleBecomesReady, ExampleComparedReports, ExampleDayLost, ExampleDayStopped, ExampleDiagnosis, ExampleDisplay, ExampleDisplayLost, ExampleEndOfDay, ExampleEnquiryFails, ExampleFailedSend, ExampleForeignCommand, ExampleLateStop, ExampleLinkFails, ExampleLostServing, ExampleManyTerminals, ExampleOutputs, ExampleOutside, ExampleRegistrationFails, ExampleReportsLast, ExampleSilence, ExampleStop, ExampleStrayMessages, ExampleUnlinked};
 ghost use Rattle.gw_owes.specs.TerminalLaws.{AbsentIsOwedNothing, AsideStaysAside, DueIsLinked, EachAckTakesOne, EachAsideHasCause, EachCauseCuts, EachCutHasCause, EachLinkChangesItsTerminal, EachLinkCountsAnew, EachMessageCounts, EachLinkLeavesWaits, EachMessageIsGreeted, EachNextCounts, EachRowChangesItsTerminal, EachRowLeavesWaits, EachServedCounts, EachServedLeavesLast, EnquiredIsReady, EnquiredIsSetAside, ForeignHasNoEffect, GreetingChangesNothing, GreetingsAreSpelled, LateNackIsUnclear, NackAtMostIsUnclear, LinkedIsRegistered, NoLinkEventCuts, NoLinkEventSetsAside, RegisteredIsEnquired, UnlinkedIsOwedNothing};
 ghost use Rattle.gw_owes.specs.Transcript.{EachLinkBeginsTranscript, EachRowFollowsTranscript, EachStepFollowsTranscript, NewCoreFollowsTranscript};
 ghost use Rattle.gw_owes.specs.TranscriptExample.{ExampleTranscript};
@@ -120,36 +119,3 @@ pub fn law_transcript()
     zvt_talk::law_talk_steps();
     zvt_talk::law_ends();
 }
-
-/// Examples, which are computed: a terminal that becomes ready, with and without a last transaction; registrations and
-/// enquiries that fail, and links; silence, and a message at the deadline; messages where no dialogue runs, and a
-/// command of the terminal's own; bytes outside the grammar; sends that fail; terminals that aren't linked, or are set aside;
-/// stops, and the late Nack of a stop; reports beside the records; 32 terminals, the most that there may be; what a Diagnosis gets;
-/// an end of day and a display that begin, are done, declined, stopped and lost; what a Display and a Print get that don't begin; and
-/// what is owed where the link of a terminal that serves something is lost.
-pub fn law_terminal_row_examples()
-    ensures becomes_ready { ExampleBecomesReady }
-    ensures reports_last { ExampleReportsLast }
-    ensures registration { ExampleRegistrationFails }
-    ensures enquiry { ExampleEnquiryFails }
-    ensures link { ExampleLinkFails }
-    ensures silence { ExampleSilence }
-    ensures stray { ExampleStrayMessages }
-    ensures foreign { ExampleForeignCommand }
-    ensures outside { ExampleOutside }
-    ensures failed_send { ExampleFailedSend }
-    ensures unlinked { ExampleUnlinked }
-    ensures aside { ExampleAside }
-    ensures stop { ExampleStop }
-    ensures late_stop { ExampleLateStop }
-    ensures reports { ExampleComparedReports }
-    ensures many { ExampleManyTerminals }
-    ensures diagnosis { ExampleDiagnosis }
-    ensures end_of_day { ExampleEndOfDay }
-    ensures day_lost { ExampleDayLost }
-    ensures day_stopped { ExampleDayStopped }
-    ensures display { ExampleDisplay }
-    ensures display_lost { ExampleDisplayLost }
-    ensures outputs { ExampleOutputs }
-    ensures lost_serving { ExampleLostServing }
-{}

@@ -1,6 +1,5 @@
 //! Laws of the requests that wait for a terminal.
 ghost use Rattle.gw_owes.specs.WaitingCauses.{EachFirstIsRefusedExactly, EachWaitingReplyHasCause};
-ghost use Rattle.gw_owes.specs.WaitingExample.{ExampleBusyQueue, ExampleDeadlineOrder, ExampleLogoutMeanwhile, ExampleOtherAborts, ExampleQueue, ExampleQueueRoom, ExampleRefusedInOneGo, ExampleReversalRefused, ExampleTillTakesItsOwn, ExampleDeadline, ExampleWaitingAgain, ExampleWaitingPremises};
 ghost use Rattle.gw_owes.specs.WaitingLaws.{EachFirstIsNext, EachGoneKeepsWaits, EachLinkKeepsWaits, EachMomentKeepsWaits, EachNextKeepsInOrder, EachRowKeepsWaits, EachTakesItsOwn, EachThatMayJoins, NewCoreHasNoneWaiting, StatusOfWaitingIsInProgress, WaitingKeyIsReplied};
 
 /// A request that may waits once, as the last for its terminal, under a key that is unknown; a repeat and a TransactionStatus get that
@@ -23,28 +22,6 @@ pub fn law_waits()
     gw_ledger::law_within();
     gw_ledger::law_named();
     gw_ledger::law_fits();
-}
-
-/// Examples, which are computed: payments that wait, one of which is aborted, and the next one's beginning once its terminal is ready; a
-/// queue that is full, and too few slots; a repeat of one that waits, and other requests under its key; deadlines, in their order; a till
-/// that goes, another that aborts, and a Logout meanwhile; those that are refused once their terminal is ready; and premises of these
-/// laws, which hold.
-pub fn law_waiting_examples()
-    ensures queue { ExampleQueue }
-    ensures busy { ExampleBusyQueue }
-    ensures room { ExampleQueueRoom }
-    ensures again { ExampleWaitingAgain }
-    ensures too_long { ExampleDeadline }
-    ensures deadlines { ExampleDeadlineOrder }
-    ensures gone { ExampleTillTakesItsOwn }
-    ensures other_till { ExampleOtherAborts }
-    ensures logout { ExampleLogoutMeanwhile }
-    ensures one_go { ExampleRefusedInOneGo }
-    ensures reversals { ExampleReversalRefused }
-    ensures premises { ExampleWaitingPremises }
-{
-    law_waits();
-    gw_ledger::law_examples();
 }
 
 /// What a till gets for a request as it leaves its queue without being begun is always a Failure, the only call, and each has its cause:
