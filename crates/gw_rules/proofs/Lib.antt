@@ -10,7 +10,6 @@ pub mod ChunkExampleLemmas
 pub mod ChunkLemmas
 pub mod CourseLemmas
 pub mod CrowdLemmas
-pub mod CutCauseExampleLemmas
 pub mod CutCauseLemmas
 pub mod CutLemmas
 pub mod DayLogLemmas
@@ -48,11 +47,11 @@ pub mod PaymentLogLemmas
 pub mod PaymentTextLemmas
 pub mod PendingLemmas
 pub mod PrefixLemmas
-pub mod ReadyQueueLemmas
 pub mod QueueDueLemmas
 pub mod QueueFifoLemmas
 pub mod QueueListLemmas
 pub mod QueueMoveLemmas
+pub mod ReadyQueueLemmas
 pub mod RecordOrderLemmas
 pub mod RecordRowLemmas
 pub mod RecoveryLogLemmas
@@ -75,9 +74,9 @@ pub mod StopLogLemmas
 pub mod TerminalLogLemmas
 pub mod TestedLemmas
 pub mod TextLemmas
-pub mod TranscriptLogLemmas
 pub mod TillLawLemmas
 pub mod TillRowLemmas
+pub mod TranscriptLogLemmas
 pub mod TrickleExampleLemmas
 pub mod TripleLemmas
 pub mod UnlawfulLemmas

@@ -1,37 +1,30 @@
 -- The example log of a recovery.
-use Rattle.std.proofs.Common.{◌≡◌, List, [], ◌∷◌, ◌++◌, refl, true, inl, inr, arith}
-use Rattle.std.specs.Prelude.{pos, slice_get, Some, codes}
+use Rattle.std.proofs.Common.{◌≡◌, List, [], ◌∷◌, ◌++◌, refl, true, arith}
+use Rattle.std.specs.Prelude.{pos, codes}
 use Rattle.std.specs.Str.{is_utf8, chars}
 use lib.Utf8.{encode}
 use Rattle.json_text.specs.Canonical.{canonical}
 use Rattle.sale_frame.specs.Grammar.{frame}
-use Rattle.gw_base.specs.declared.figures.Figures.{Figures}
 use Rattle.gw_bytes.specs.Bytes.{AreBytes}
 use Rattle.gw_site.specs.Image.{Image}
 use Rattle.gw_site.specs.declared.turn.Turn.TheVariants.{Start, Polled, HeardPt, Linked, SentPt, Synced, Crash}
 use Rattle.gw_site.proofs.ImageLemmas.{file_image}
 use Rattle.zvt_apdu.specs.DecodeStream.{decode_apdus, decode_apdus_within}
-use Rattle.zvt_apdu.proofs.DecodeStreamLemmas.{split_is}
 use Rattle.zvt_bmp.specs.Decode.{decode_field_value, decode_status_field, decode_status_within, decode_status}
-use Rattle.zvt_msg.specs.Message.{Ack, Completion}
 use Rattle.zvt_msg.specs.MessageDecode.{decode_pt_message}
 use Rattle.jrn_record.specs.declared.records.Record.TheVariants.{Outcome}
 use Rattle.gw_ledger.specs.History.{history}
 use Rattle.gw_owes.specs.Calls.{WriteBody, WriteGate}
 use Rattle.gw_owes.specs.ReadAs.{IsReadAs}
-use Rattle.gw_owes.specs.TerminalExample.{ack, completion}
-use Rattle.gw_owes.specs.declared.terminal.Standing.TheVariants.{Enquiring, Ready}
-use Rattle.gw_owes.specs.declared.terminal.Terminal.{Terminal}
-use Rattle.gw_rules.specs.DialogueLaws.{EndsAlong, HasStanding, IsReport, view_along}
-use Rattle.gw_rules.specs.Lawful.{IsChunk, IsCourse, turns_of}
+use Rattle.gw_owes.specs.TerminalExample.{ack}
+use Rattle.gw_rules.specs.Lawful.{IsChunk, IsCourse}
 use Rattle.gw_rules.specs.PaymentLogExample.{payment_request, logged_outcome, keep_moves, ready_none_log, ready_none_course, begun_log, begun_course}
-use Rattle.gw_rules.specs.RecoveryLogExample.{open_status_request, resolved_status_request, asked_status, open_status_reply, resolved_status_reply, intent_file, later_run_course, open_status_course, enquired_later_course, open_log, open_course, open_view, report_bytes, resolving_moves, OpenIsReported, resolved_status_course, RecoveryIsLawful}
+use Rattle.gw_rules.specs.RecoveryLogExample.{open_status_request, resolved_status_request, asked_status, open_status_reply, resolved_status_reply, intent_file, later_run_course, open_status_course, enquired_later_course, open_course, open_view, report_bytes, resolving_moves, resolved_status_course, RecoveryIsLawful}
 use Rattle.gw_rules.specs.RowExample.{terminal_setup, register_bytes}
 use Rattle.gw_rules.specs.TerminalLogExample.{items_begin}
 use Rattle.gw_rules.specs.View.{View, Move, Begin, Make, view_from, at_first}
 use Rattle.gw_rules.proofs.CourseLemmas.{course-append}
-use Rattle.gw_rules.proofs.PaymentLogLemmas.{ready_none_view, ready-none-lawful, begun_view, begun-lawful, found}
-use Rattle.gw_rules.proofs.RestLemmas.{lasts-tested}
+use Rattle.gw_rules.proofs.PaymentLogLemmas.{ready_none_view, ready-none-lawful, begun_view, begun-lawful}
 use Rattle.gw_rules.proofs.RowExampleLemmas.{formed}
 use Rattle.gw_rules.proofs.TestedLemmas.{course-tested}
 use Rattle.gw_rules.proofs.TextLemmas.{bytes-tested, ident-tested, is_spellable, asked_tree, status-read}
@@ -145,7 +138,7 @@ later-lawful =
     course-append begun_view crash_moves (relinked_moves ++ open_status_course ++ enquired_later_course) crash-lawful
     (course-append started_view relinked_moves (open_status_course ++ enquired_later_course) relinked-lawful (course-append relinked_view open_status_course enquired_later_course open-status-lawful enquired-later-lawful))
 
-open-lawful : IsCourse at_first open_course
+pub open-lawful : IsCourse at_first open_course
 open-lawful = course-append at_first ready_none_course (begun_course ++ later_moves) ready-none-lawful (course-append ready_none_view begun_course later_moves begun-lawful later-lawful)
 
 -- ---- the terminal reports
@@ -184,51 +177,8 @@ kept-lawful = (
   ),
 )
 
-resolving-lawful : IsCourse open_view (Make (HeardPt 0 report_bytes) ∷ resolving_moves)
+pub resolving-lawful : IsCourse open_view (Make (HeardPt 0 report_bytes) ∷ resolving_moves)
 resolving-lawful = course-append open_view reported_moves kept_moves reported-lawful kept-lawful
-
-abbrev open_terminal : Terminal
-open_terminal = found (slice_get open_view.scene.core.terminals 0)
-
-abbrev reported : Figures
-reported = record { number = 123; receipt = 17; amount = 1099 }
-
-open-ends : EndsAlong (IsReport 123) open_log open_view resolving_moves 0 open_terminal Enquiring
-unfolding decode_apdus decode_apdus_within decode_pt_message decode_status decode_status_within decode_status_field decode_field_value history payment_request open_status_request
-open-ends = record {
-  chunk = report_bytes;
-  new = (decode_apdus report_bytes).apdus;
-  left = [];
-  before = record { course = open_course; log_is = refl; lawful = open-lawful; view_is = refl };
-  lawful = resolving-lawful;
-  round = (refl, (refl, (refl, (refl, (refl, (refl, tt))))));
-  lasts = lasts-tested 0 (turns_of resolving_moves) refl;
-  found = refl;
-  standing_is = refl;
-  said = record {
-    before = (decode_apdus (ack ++ completion)).apdus;
-    rest = [];
-    spelled = split_is (ack ++ completion) (bytes-tested (ack ++ completion) refl);
-    all = split_is ((ack ++ completion) ++ report_bytes) (bytes-tested ((ack ++ completion) ++ report_bytes) refl);
-  };
-  ends = (Ack, refl, inr (refl, (_, refl, inr (refl, (Completion, refl, inl (Some reported, 0, refl))))));
-  may_poll = record { running = refl; calls = refl; items = refl };
-}
-
-open-ready : HasStanding (view_along open_view 0 report_bytes resolving_moves).scene.core 0 (Ready 123)
-unfolding decode_apdus decode_apdus_within decode_pt_message decode_status decode_status_within decode_status_field decode_field_value history payment_request open_status_request
-open-ready = (found (slice_get (view_along open_view 0 report_bytes resolving_moves).scene.core.terminals 0), refl, refl)
-
-pub open-is-reported : OpenIsReported
-unfolding open-ends history payment_request open_status_request
-open-is-reported = record {
-  terminal = open_terminal;
-  ends = open-ends;
-  chunk_is = refl;
-  opened = refl;
-  least = refl;
-  ready = open-ready;
-}
 
 -- ---- the till asks again
 

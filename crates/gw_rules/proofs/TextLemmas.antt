@@ -20,8 +20,7 @@ use Rattle.json_text.specs.Canonical.{canonical}
 use Rattle.json_text.proofs.CanonicalLemmas.{spellable_written}
 use Rattle.sale_frame.specs.Grammar.{frame}
 use Rattle.sale_values.specs.declared.header.Header.{Header}
-use Rattle.sale_values.specs.declared.names.Class.TheVariants.{Service, Device}
-use Rattle.sale_values.specs.declared.names.Kind.TheVariants.{Response}
+use Rattle.sale_values.specs.declared.names.Class.TheVariants.{Service}
 use Rattle.sale_values.specs.declared.request.Incoming.TheVariants as incoming
 use Rattle.sale_values.specs.declared.request.Reference.{Reference}
 use Rattle.sale_values.specs.declared.request.SaleRequest.TheVariants as requests
@@ -29,16 +28,15 @@ use Rattle.sale_values.specs.MemberShapes.{text_member, only}
 use Rattle.sale_values.specs.Money.{money_text}
 use Rattle.sale_values.proofs.MoneyLemmas.{money_number}
 use Rattle.sale_msg.specs.declared.category.Category.TheVariants as categories
-use Rattle.sale_msg.specs.declared.table.Envelope.TheVariants as envelopes
 use Rattle.sale_msg.specs.Form.{IsLetter}
 use Rattle.sale_msg.specs.Path.{tree_at}
 use Rattle.sale_msg.specs.Table.{rows_of, part_rows}
 use Rattle.sale_msg.specs.Flaw.{IsMet, AreMet}
 use Rattle.sale_msg.specs.Grammar.{IsTillMessage, HeaderHolds, Asks, parts_of}
 use Rattle.sale_reply.specs.Reply.{message_tree, header_tree, result_tree}
-use Rattle.gw_owes.specs.ReadAs.{IsReadAs, Request, Silent}
+use Rattle.gw_owes.specs.ReadAs.{IsReadAs, Request}
 use Rattle.gw_owes.specs.Reply.{reply_value_tree, reply_value_bytes}
-use Rattle.gw_rules.specs.Example.{example_setup, few_setup, status_request, status_reply_bytes, silent_message, status_header, status_asked, not_found}
+use Rattle.gw_rules.specs.Example.{example_setup, status_request, status_reply_bytes, status_header, status_asked, not_found}
 use Rattle.gw_rules.proofs.StageLemmas.{no-true}
 
 -- ---- what holds of each number in a list is tested by computing
@@ -252,75 +250,6 @@ reply-canonical = refl
 pub reply-bytes : frame status_reply_bytes ≡ reply_value_bytes not_found
 reply-bytes = ap frame reply-canonical
 
--- ---- the silent message
-
-abbrev silent_body : Tree
-silent_body = only (codes "MessageHeader") (object
-    (text_member (codes "ProtocolVersion") (codes "3.0")
-    (text_member (codes "MessageClass") (codes "Device")
-    (text_member (codes "MessageCategory") (codes "Display")
-    (text_member (codes "MessageType") (codes "Response")
-    (text_member (codes "ServiceID") (codes "1")
-    (text_member (codes "DeviceID") (codes "1")
-    (text_member (codes "SaleID") (codes "S1")
-    (text_member (codes "POIID") (codes "T1") no_members)))))))))
-
-abbrev silent_tree : Tree
-silent_tree = only (codes "SaleToPOIResponse") silent_body
-
-silent-canonical : silent_message ≡ canonical silent_tree
-unfolding silent_message
-silent-canonical = refl
-
-silent-spellable : is_spellable 0 silent_tree ≡ true
-unfolding is_utf8 chars encode
-silent-spellable = refl
-
-silent-spelled : Spells silent_tree silent_message
-silent-spelled = subst (Spells silent_tree) (sym silent-canonical) (spellable_written silent_tree (spellable-tree 0 silent_tree silent-spellable))
-
-abbrev silent_header : Header
-silent_header = record { class = Device; category = codes "Display"; kind = Response; service = Some (codes "1"); device = Some (codes "1"); sale = codes "S1"; poi = codes "T1" }
-
-silent-holds : HeaderHolds silent_body silent_header
-unfolding tree_at
-silent-holds = record { class = refl; category = refl; message_type = refl; service = refl; device = refl; sale = refl; poi = refl }
-
-silent-is : IsTillMessage silent_tree incoming.Silent
-unfolding IsMet tree_at
-silent-is = (
-  envelopes.Response,
-  silent_body,
-  silent_header,
-  record {
-    under = (refl, refl);
-    header_is = record {
-      members = (
-        refl,
-        (
-          (codes "0", refl),
-          (
-            (Device, refl),
-            (
-              (omega arith, omega arith, letters-tested (codes "Display") refl),
-              (
-                (Response, refl),
-                (ident-tested 10 (codes "1") refl, (ident-tested 10 (codes "1") refl, (ident-tested 40 (codes "S1") refl, (ident-tested 40 (codes "T1") refl, tt)))),
-              ),
-            ),
-          ),
-        ),
-      );
-      values = silent-holds;
-    };
-    silent = inl refl;
-  },
-)
-
--- it is read as silent
-pub silent-read : IsReadAs silent_message Silent
-silent-read = record { tree = silent_tree; spelled = silent-spelled; read = silent-is }
-
 -- ---- the setup
 
 -- the setup lies within the limits
@@ -334,6 +263,3 @@ setup-formed = record {
   each = All-from_recursion IsPt [] tt;
   distinct = tt;
 }
-
-pub few-formed : IsSetup few_setup
-few-formed = record { name = setup-formed.name; line = setup-formed.line; wait = setup-formed.wait; slots = (omega arith, omega arith); count = setup-formed.count; each = setup-formed.each; distinct = tt }

@@ -6,16 +6,14 @@ use Rattle.gw_site.specs.declared.turn.Turn.{Turn}
 use Rattle.gw_site.specs.declared.turn.Turn.TheVariants.{Start, Polled, HeardPt, SentPt, Stopped}
 use Rattle.zvt_apdu.specs.Grammar.{ApduValue}
 use Rattle.gw_owes.specs.TerminalExample.{ack, completion, enquiry_sent}
-use Rattle.gw_owes.specs.declared.terminal.Standing.TheVariants.{Registering}
-use Rattle.gw_owes.specs.declared.terminal.Terminal.{Terminal}
 use Rattle.gw_rules.specs.ChunkLaws.{registering_terminal}
-use Rattle.gw_rules.specs.DialogueLaws.{EndsWith, EndsAlong, IsDone, IsEnquiredIn}
-use Rattle.gw_rules.specs.Lawful.{IsLawful, turns_of}
+use Rattle.gw_rules.specs.DialogueLaws.{EndsWith, IsDone, IsEnquiredIn}
+use Rattle.gw_rules.specs.Lawful.{IsLawful}
 use Rattle.gw_rules.specs.LinkLaws.{EndsNone, HasSaid}
 use Rattle.gw_rules.specs.RowExample.{example_pt, terminal_setup, register_bytes}
 use Rattle.gw_rules.specs.SilenceLaws.{SaysNothingIn, linked_turns}
-use Rattle.gw_rules.specs.TerminalLogExample.{before_link, linked_log, linked_course, items_begin}
-use Rattle.gw_rules.specs.View.{View, Move, Begin, Make, view_from, at_first}
+use Rattle.gw_rules.specs.TerminalLogExample.{before_link, linked_course, items_begin}
+use Rattle.gw_rules.specs.View.{Move, Begin, Make}
 
 -- ---- a lawful log
 
@@ -49,26 +47,10 @@ pub record ExampleDoneAtOnce : Type 0 where
 
 -- ---- a lawful course
 
--- the log up to the rest
-abbrev pub first_byte_log : List Turn
-first_byte_log = linked_log ++ Polled (pos 1) ∷ HeardPt 0 (0x80 ∷ []) ∷ Polled (pos 2) ∷ []
-
 -- its course
 abbrev pub first_byte_course : List Move
 first_byte_course = linked_course ++ Make (Polled (pos 1)) ∷ Make (HeardPt 0 (0x80 ∷ [])) ∷ (items_begin 2 ++ Make (Polled (pos 2)) ∷ [])
 
--- the view at its end
-abbrev pub first_byte_view : View
-first_byte_view = view_from at_first first_byte_course
-
 -- the moves after the rest: three items of the Ack, the first two of the Completion, each of which owes a call, and then what is left
 abbrev pub enquiring_moves : List Move
 enquiring_moves = items_begin 4 ++ Make (SentPt 0 ack true) ∷ Begin ∷ Make (SentPt 0 enquiry_sent true) ∷ items_begin 3
-
--- the premise of the law of courses holds: with the rest of the bytes the terminal, which registers, ends its registration as done; and so does what the law says
-pub record ExampleDone : Type 0 where
-  pub terminal : Terminal
-  pub ends : EndsAlong IsDone first_byte_log first_byte_view enquiring_moves 0 terminal Registering
-  pub chunk_is : ends.chunk ≡ rest_chunk
-  pub new_are : ends.new ≡ both_apdus
-  pub enquired : IsEnquiredIn terminal.pt 0 (turns_of enquiring_moves)

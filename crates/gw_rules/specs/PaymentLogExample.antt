@@ -1,8 +1,8 @@
--- Example logs of a payment, from the start on: from the till's bytes to its reply, and one whose key stays open as the terminal's link is lost, until the terminal reports. Each is along a course that the checker computes.
-use Rattle.std.specs.Prelude.{◌≡◌, ℕ, pos, true, List, [], ◌∷◌, ◌++◌, slice_get, Some, None, codes}
+-- Example logs of a payment, from the start on: one that is begun, and one whose key stays open as the terminal's link is lost, until the terminal reports. Each is along a course that the checker computes.
+use Rattle.std.specs.Prelude.{◌≡◌, ℕ, pos, true, List, [], ◌∷◌, ◌++◌, None, codes}
 use Rattle.sale_frame.specs.Grammar.{frame}
 use Rattle.gw_site.specs.declared.turn.Turn.{Turn}
-use Rattle.gw_site.specs.declared.turn.Turn.TheVariants.{Polled, Opened, HeardTill, HeardPt, Lost, CutPt, Linked, SentTill, SentPt, Synced, Stopped}
+use Rattle.gw_site.specs.declared.turn.Turn.TheVariants.{Polled, Opened, HeardTill, HeardPt, Lost, Linked, SentTill, SentPt, Synced, Stopped}
 use Rattle.sale_values.specs.declared.request.SaleRequest.TheVariants as requests
 use Rattle.jrn_log.specs.JournalTurns.{body_write, gate_write}
 use Rattle.jrn_record.specs.Grammar.{record_body}
@@ -14,19 +14,13 @@ use Rattle.gw_owes.specs.PaymentExample.{till_header, ask_of, paid_header, inten
 use Rattle.gw_owes.specs.ReadAs.{ReadAs, Request}
 use Rattle.gw_owes.specs.Reply.{ReplyValue, Finished, reply_value_bytes}
 use Rattle.gw_owes.specs.TerminalExample.{ack, completion, abort, approved_status, enquiry_sent}
-use Rattle.gw_owes.specs.declared.terminal.Standing.TheVariants.{Ready, Serving}
-use Rattle.gw_owes.specs.declared.terminal.Service.TheVariants.{Transaction}
-use Rattle.gw_owes.specs.declared.terminal.Terminal.{Terminal}
-use Rattle.gw_owes.specs.RecordLaws.{HasNoneOpen, IsServedOpen}
+use Rattle.gw_owes.specs.declared.terminal.Standing.TheVariants.{Ready}
 use Rattle.sale_reply.specs.declared.reply.Told.{Told as ResultBody}
 use Rattle.sale_reply.specs.declared.reply.Told.TheVariants.{PaymentApproved}
 use Rattle.gw_base.specs.declared.currency.Currency.TheVariants.{Eur}
-use Rattle.gw_rules.specs.Lawful.{Stands}
-use Rattle.gw_rules.specs.RecordOrder.{IsBetweenItems}
 use Rattle.gw_rules.specs.RowExample.{register_bytes}
-use Rattle.gw_rules.specs.SilenceLaws.{IsSilentAlong}
 use Rattle.gw_rules.specs.TerminalLogExample.{items_begin, enquired_log, enquired_course, LeavesStanding}
-use Rattle.gw_rules.specs.View.{View, Move, Begin, Read, Make, view_from, at_first}
+use Rattle.gw_rules.specs.View.{Move, Begin, Read, Make, view_from, at_first}
 
 -- ---- what the till asks, and what is kept
 
@@ -85,23 +79,6 @@ abbrev pub begun_course : List Move
 begun_course =
     Make (Polled (pos 3)) ∷ Make (Opened 1) ∷ (items_begin 2 ++ Make (Polled (pos 3)) ∷ Make (HeardTill 1 (frame payment_request)) ∷ Read asked_payment ∷ Begin ∷ Begin ∷ (keep_moves 0 (Intent logged_intent) ++ Make (SentPt 0 authorise_sent true) ∷ items_begin 2))
 
--- ---- it is approved
-
--- the terminal acknowledges the payment, reports it as approved, and completes it: the Outcome is kept, and then the till gets its reply
-abbrev pub approved_log : List Turn
-approved_log =
-    Polled (pos 4) ∷ HeardPt 0 (ack ++ approved_status ++ completion) ∷ SentPt 0 ack true ∷ SentPt 0 ack true ∷ (keep_turns 1 (Outcome (logged_outcome 4)) ++ SentTill 1 (reply_value_bytes (logged_reply 4)) true ∷ Polled (pos 5) ∷ Stopped ∷ [])
-
--- its course
-abbrev pub approved_course : List Move
-approved_course =
-    Make (Polled (pos 4)) ∷ Make (HeardPt 0 (ack ++ approved_status ++ completion)) ∷ (items_begin 4 ++ Make (SentPt 0 ack true) ∷ (items_begin 3 ++ Make (SentPt 0 ack true) ∷ Begin ∷ (keep_moves 1 (Outcome (logged_outcome 4)) ++ Make (SentTill 1 (reply_value_bytes (logged_reply 4)) true) ∷ (items_begin 3 ++ Make (Polled (pos 5)) ∷ Make Stopped ∷ []))))
-
--- the log is lawful; the terminal is ready with the payment's trace number, and both records are kept
-pub record PaymentIsLawful : Type 0 where
-  pub leaves : LeavesStanding (ready_none_log ++ begun_log ++ approved_log) (ready_none_course ++ begun_course ++ approved_course) (Ready 123)
-  pub kept_is : (view_from at_first (ready_none_course ++ begun_course ++ approved_course)).scene.kept ≡ Intent logged_intent ∷ Outcome (logged_outcome 4) ∷ []
-
 -- ---- its key stays open until the terminal reports
 
 -- The terminal's link is lost as it serves the payment: five seconds later it is linked again, registers and is enquired.
@@ -132,48 +109,3 @@ lost_and_resolved_course = ready_none_course ++ begun_course ++ enquired_again_c
 pub record ResolvedIsLawful : Type 0 where
   pub leaves : LeavesStanding (ready_none_log ++ begun_log ++ enquired_again_log ++ resolved_log) lost_and_resolved_course (Ready 123)
   pub kept_is : (view_from at_first lost_and_resolved_course).scene.kept ≡ Intent logged_intent ∷ Outcome (logged_outcome 11) ∷ []
-
--- ---- what other laws say of them
-
--- the view once the payment is begun
-abbrev pub serving_view : View
-serving_view = view_from at_first (ready_none_course ++ begun_course)
-
--- the log is lawful up to there, and ends between items; the terminal serves the payment of slot 0, which is its open key
-pub record BegunIsServedOpen : Type 0 where
-  pub stands : Stands (ready_none_log ++ begun_log) serving_view
-  pub between : IsBetweenItems serving_view
-  pub terminal : Terminal
-  pub found : slice_get serving_view.scene.core.terminals 0 ≡ Some terminal
-  pub standing_is : terminal.standing ≡ Serving (Transaction 0) 0
-  pub served : IsServedOpen serving_view.scene.kept terminal.pt.poi 0 0
-
--- the terminal's messages until the till has its reply
-abbrev pub replied_log : List Turn
-replied_log = Polled (pos 4) ∷ HeardPt 0 (ack ++ approved_status ++ completion) ∷ SentPt 0 ack true ∷ SentPt 0 ack true ∷ (keep_turns 1 (Outcome (logged_outcome 4)) ++ SentTill 1 (reply_value_bytes (logged_reply 4)) true ∷ [])
-
--- their course
-abbrev pub replied_course : List Move
-replied_course =
-    Make (Polled (pos 4)) ∷ Make (HeardPt 0 (ack ++ approved_status ++ completion)) ∷ (items_begin 4 ++ Make (SentPt 0 ack true) ∷ (items_begin 3 ++ Make (SentPt 0 ack true) ∷ Begin ∷ (keep_moves 1 (Outcome (logged_outcome 4)) ++ Make (SentTill 1 (reply_value_bytes (logged_reply 4)) true) ∷ [])))
-
--- the view then
-abbrev pub replied_view : View
-replied_view = view_from at_first (ready_none_course ++ begun_course ++ replied_course)
-
--- the log is lawful up to there, and ends between items; the terminal is ready with 123, and none of its keys is open
-pub record PaidHasNoneOpen : Type 0 where
-  pub stands : Stands (ready_none_log ++ begun_log ++ replied_log) replied_view
-  pub between : IsBetweenItems replied_view
-  pub terminal : Terminal
-  pub found : slice_get replied_view.scene.core.terminals 0 ≡ Some terminal
-  pub standing_is : terminal.standing ≡ Ready 123
-  pub none_open : HasNoneOpen replied_view.scene.kept terminal.pt.poi 123
-
--- five seconds after the payment was sent, a poll brings nothing: the terminal is cut
-abbrev pub late_moves : List Move
-late_moves = Begin ∷ Make (CutPt 0) ∷ Begin ∷ []
-
--- the terminal that serves the payment was silent
-abbrev pub PaymentIsSilent : Type 0
-PaymentIsSilent = IsSilentAlong (ready_none_log ++ begun_log) serving_view [] late_moves (pos 8) 0

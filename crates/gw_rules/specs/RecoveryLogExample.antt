@@ -11,11 +11,8 @@ use Rattle.gw_owes.specs.PaymentExample.{till_header, paid_header}
 use Rattle.gw_owes.specs.ReadAs.{ReadAs, Request}
 use Rattle.gw_owes.specs.Replies.{header_of_reply, failure_reply}
 use Rattle.gw_owes.specs.Reply.{ReplyValue, Repeated, reply_value_bytes}
-use Rattle.gw_owes.specs.Reports.{on_record, least_reported}
 use Rattle.gw_owes.specs.TerminalExample.{ack, completion, approved_status, enquiry_sent}
-use Rattle.gw_owes.specs.declared.terminal.Standing.TheVariants.{Enquiring, Ready}
-use Rattle.gw_owes.specs.declared.terminal.Terminal.{Terminal}
-use Rattle.gw_rules.specs.DialogueLaws.{EndsAlong, HasStanding, IsReport, view_along}
+use Rattle.gw_owes.specs.declared.terminal.Standing.TheVariants.{Ready}
 use Rattle.gw_rules.specs.PaymentLogExample.{logged_intent, logged_outcome, logged_result, keep_turns, keep_moves, ready_none_log, ready_none_course, begun_log, begun_course}
 use Rattle.gw_rules.specs.RowExample.{terminal_setup, register_bytes}
 use Rattle.gw_rules.specs.TerminalLogExample.{items_begin, LeavesStanding}
@@ -99,15 +96,6 @@ resolved_later_log = HeardPt 0 report_bytes ∷ SentPt 0 ack true ∷ SentPt 0 a
 -- the moves after what it says
 abbrev pub resolving_moves : List Move
 resolving_moves = items_begin 4 ++ Make (SentPt 0 ack true) ∷ (items_begin 3 ++ Make (SentPt 0 ack true) ∷ Begin ∷ (keep_moves 1 (Outcome (logged_outcome 6)) ++ items_begin 3))
-
--- As the terminal reports, the payment is open, with the number 0 before it, which is the least that may be reported. What it says ends the enquiry with the report of the number 123, and with that the terminal is ready.
-pub record OpenIsReported : Type 0 where
-  pub terminal : Terminal
-  pub ends : EndsAlong (IsReport 123) open_log open_view resolving_moves 0 terminal Enquiring
-  pub chunk_is : ends.chunk ≡ report_bytes
-  pub opened : (on_record open_view.scene.kept terminal.pt.poi).opened ≡ Some (record { slot = 0; intent = logged_intent; result = None })
-  pub least : least_reported (on_record open_view.scene.kept terminal.pt.poi) ≡ 0
-  pub ready : HasStanding (view_along open_view 0 ends.chunk resolving_moves).scene.core 0 (Ready 123)
 
 -- ---- the till asks again
 

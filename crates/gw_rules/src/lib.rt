@@ -3,30 +3,23 @@
 
 mod queue_laws;
 
-ghost use Rattle.gw_rules.specs.Example.{BadFrameIsLawful, CrashLeavesNoOther, CrashedIsLawful, CrowdedIsLawful, DiskFailureEnds, FailedSendIsLawful, GateEndsLooking, LooksMayFail, NoRunWhereNotOpened, NothingToLookAt, NothingToLookAtLater, PollBeforeCut, PollBeforeReply, PollEndsLooking, PollWhileCrowded, RefusedIsNotPolled, RestartedIsLawful, SilentIsLawful, StatusIsLawful, UnaskedReply};
 ghost use Rattle.gw_rules.specs.JournalFiles.{EachHasJournalFiles, KeepingHasJournal, KeepingLeavesJournals, KeptFileIsJournal, OpenedHasJournal, OpeningHasJournal, OpeningLeavesJournalFiles};
 ghost use Rattle.gw_rules.specs.KeptExample.{FlightIsKept, UnsyncedKeepsNone};
 ghost use Rattle.gw_rules.specs.KeptLaws.{EachImageHasKept, EachKeepsFile, EachKeepsJournalFiles, EachRoundHasJournal, EachStartOpensJournal, FullOnlyWithFewerSlots, HandedInKeepsFiles, KeepingKeepsFiles, LongOnlyWithFewerSlots, NeverBad, NeverTruncated, NoneKeptIsLost, OpeningKeepsFiles};
 ghost use Rattle.gw_rules.specs.LedgerRules.{EachFileFolds, EachImageFolds, EachLawfulHasKept, EachLawfulKeepsJournal, LawfulRefusedOnlyWithFewerSlots, RefusedAtLimits, RefusedOnlyWithFewerSlots};
 ghost use Rattle.gw_rules.specs.RecordOrder.{EachItemWasRead, EachLogComesInOrder, EachLogFolds, EachLogImageFolds, EachLogIsInOrder, EachLogLeavesSlots, DayServedIsUnknown, ReadyHasNoneOpen, ServedIsOpen};
-ghost use Rattle.gw_rules.specs.PaymentLogExample.{BegunIsServedOpen, PaidHasNoneOpen, PaymentIsLawful, PaymentIsSilent, ResolvedIsLawful};
-ghost use Rattle.gw_rules.specs.RecoveryLogExample.{OpenIsReported, RecoveryIsLawful};
-ghost use Rattle.gw_rules.specs.RowExample.{BothAreItems, ClosedGateDrops, FailedSendCutsLink, FailedSyncCrashes, GateIsInFlight, GoneTillIsForgotten, LinkIsDueAgain, LinkRegisters, LostEndOfDayReplies, LostIsDue, LostTransactionKeepsAsker, OpenGateKeeps, PollBeforeUnframedCut, RowItemsComeFirst, SendingsAreSpelled, StartLeavesFlight, SyncKeeps, UnframedIsLawful, UnlinkedIsLawful, WaitsByDeadline};
 ghost use Rattle.gw_rules.specs.ActExample.{LongerIsRead, NothingBeforeSync, OpeningIsDue, OwedBytesAreSent};
 ghost use Rattle.gw_rules.specs.ActLaws.{OneCallIsDue, OneCallIsOwed, TurnsAreOfSteps};
 ghost use Rattle.gw_rules.specs.AloneExample.{OutsideLeavesOther, TooLongEndsOwnLink};
-ghost use Rattle.gw_rules.specs.CauseExample.{OutsideIsCause, OutsideIsCut, PollBeforeOutsideCut, PollBeforeTooLongCut, SplitReport, TooLongIsCause, TooLongIsCut};
 ghost use Rattle.gw_rules.specs.ChunkExample.{PollBeforeSplitEnquiry, SplitIsEnquired};
 ghost use Rattle.gw_rules.specs.ChunkLaws.{DoneAtOnceIsEnquired};
-ghost use Rattle.gw_rules.specs.CutCauseExample.{ExampleDeclinedCut, ExampleFailedCut, ExampleLateCut, ExampleOutsideCut, ExampleTooLongCut, ExampleUnclearCut};
 ghost use Rattle.gw_rules.specs.CutCauses.{EachPtCutHasCause, FailedSendCuts};
 ghost use Rattle.gw_rules.specs.DayLogs.{CutDayFails, EachDayKeptWasCompleted, LostDayFails};
 ghost use Rattle.gw_rules.specs.DialogueLaws.{DoneRegistrationIsEnquired, ReportMakesReady};
-ghost use Rattle.gw_rules.specs.DoneExample.{ExampleDone, ExampleDoneAtOnce};
+ghost use Rattle.gw_rules.specs.DoneExample.{ExampleDoneAtOnce};
 ghost use Rattle.gw_rules.specs.LinkLaws.{DueIsTried, EachUsesLinks, EnquiryFollowsRegistration, LinkedRegisters, OutsideCuts, SilentEnquiryIsCut, TriedOnceRested, UnfinishedRegistrationIsCut};
 ghost use Rattle.gw_rules.specs.OutsideLaws.{OutsideIsAlone, TooLongIsAlone};
 ghost use Rattle.gw_rules.specs.SilenceLaws.{SilentDialogueIsCut, SilentRegistrationIsCut};
-ghost use Rattle.gw_rules.specs.TerminalLogExample.{DeclinedIsLawful, DoneIsEnquired, DoneThenSilentIsCut, DueAgainIsLawful, EnquiryAfterCut, EnquiryBeforeRegistration, LinkTooEarly, PollBeforeEnquiry, PollBeforeLink, PollBeforeSilentCut, ReadyIsLawful, SilentEnquiryIsLawful, SilentRegistrationIsLawful, UnacknowledgedIsLawful, UnfinishedIsCut};
 ghost use Rattle.gw_rules.specs.StopLogs.{EachStopIsWishedOnce, ExampleStops, StopIsSentOnce};
 ghost use Rattle.gw_rules.specs.Laws.{BadFrameCuts, CallsEndInOne, CrowdedCuts, EachHasOneLeanCourse, EachHeardIsBytes, PrefixIsLawful, PtBytesBring, RestartIsLawful, SetupIsWithinLimits, TillBytesBring};
 ghost use Rattle.gw_rules.specs.TranscriptLaws.{ClearOwesItsCalls, EachCommandWasSent, EachLogFollowsTranscript, EachMessageWasSaid, EachPollFollowsTranscript, ExampleLogTranscript};
@@ -307,127 +300,6 @@ pub fn law_records_in_order()
     gw_owes::law_waits();
 }
 
-/// A request gets its reply, and nothing is sent and no poll comes instead; where the send of the reply fails, the till is
-/// cut; a message may get no reply; a till is cut where bytes that begin no frame come after its request, and where 64 others
-/// are there.
-pub fn law_till_examples()
-    ensures status { StatusIsLawful }
-    ensures unasked_reply { UnaskedReply }
-    ensures poll_before_reply { PollBeforeReply }
-    ensures failed_send { FailedSendIsLawful }
-    ensures poll_before_cut { PollBeforeCut }
-    ensures silent { SilentIsLawful }
-    ensures bad_frame { BadFrameIsLawful }
-    ensures crowded { CrowdedIsLawful }
-    ensures poll_while_crowded { PollWhileCrowded }
-{}
-
-/// A run may begin in the middle of another; a power failure leaves an image of the file and nothing else; a call on the
-/// disk fails only where the file is looked at or a sync is owed, and a look may fail whether the file is refused or not,
-/// until the first poll or the first gate. A run whose file is refused syncs it and makes no poll. After such a failure nothing comes
-/// before a power failure, and where the site can't be opened there is no run.
-pub fn law_run_examples()
-    ensures restarted { RestartedIsLawful }
-    ensures crashed { CrashedIsLawful }
-    ensures no_other_file { CrashLeavesNoOther }
-    ensures nothing_to_look_at { NothingToLookAt }
-    ensures nothing_later { NothingToLookAtLater }
-    ensures looks { LooksMayFail }
-    ensures poll_ends { PollEndsLooking }
-    ensures gate_ends { GateEndsLooking }
-    ensures refused { RefusedIsNotPolled }
-    ensures disk_failure { DiskFailureEnds }
-    ensures not_opened { NoRunWhereNotOpened }
-{}
-
-/// A link that can't be made isn't tried again at once, so that one poll follows the other; and a till whose bytes begin no
-/// frame is cut before the next. The items of a row come before those that were to come. A link that is owed and made registers the terminal; one that
-/// isn't made, is cut after a failed send, or is lost, is due five seconds later. Where it is lost in an end of day the till has
-/// its reply, and where it is lost in a payment or a reversal the till is remembered. Each APDU that is heard is three items; how
-/// it is acknowledged or refused is spelled. A till that is gone is forgotten, and requests wait by their deadlines.
-pub fn law_terminal_examples()
-    ensures unlinked { UnlinkedIsLawful }
-    ensures unframed { UnframedIsLawful }
-    ensures poll_before_cut { PollBeforeUnframedCut }
-    ensures row_items { RowItemsComeFirst }
-    ensures registers { LinkRegisters }
-    ensures due_again { LinkIsDueAgain }
-    ensures failed_send { FailedSendCutsLink }
-    ensures lost { LostIsDue }
-    ensures lost_end_of_day { LostEndOfDayReplies }
-    ensures lost_transaction { LostTransactionKeepsAsker }
-    ensures heard { BothAreItems }
-    ensures sendings { SendingsAreSpelled }
-    ensures gone_till { GoneTillIsForgotten }
-    ensures waits { WaitsByDeadline }
-{}
-
-/// The way of a terminal to ready: its link, its registration, the enquiry, and what that reports. A link that can't be made is
-/// tried again five seconds later; a registration that is declined or isn't done in time, and a registration or an enquiry that isn't
-/// acknowledged in time, are cut; and where the acknowledgement of an APDU can't be sent, neither it nor the one after it is handled. No poll
-/// comes before the link of a terminal that is due, and none is made before it is; nothing but the registration follows a link; no
-/// poll comes before a silent terminal is cut at its deadline, or before the enquiry of one whose registration is done; and after a
-/// cut nothing is sent to it.
-pub fn law_terminal_logs()
-    ensures ready { ReadyIsLawful }
-    ensures due_again { DueAgainIsLawful }
-    ensures declined { DeclinedIsLawful }
-    ensures silent_enquiry { SilentEnquiryIsLawful }
-    ensures silent_registration { SilentRegistrationIsLawful }
-    ensures done { DoneIsEnquired }
-    ensures done_then_silent { DoneThenSilentIsCut }
-    ensures unfinished { UnfinishedIsCut }
-    ensures unacknowledged { UnacknowledgedIsLawful }
-    ensures poll_before_silent_cut { PollBeforeSilentCut }
-    ensures poll_before_enquiry { PollBeforeEnquiry }
-    ensures poll_before_link { PollBeforeLink }
-    ensures link_too_early { LinkTooEarly }
-    ensures early_enquiry { EnquiryBeforeRegistration }
-    ensures sent_after_cut { EnquiryAfterCut }
-{}
-
-/// A terminal that has said an APDU outside the grammar, and one that has begun an APDU above the limit, are cut, and no poll comes
-/// before; a terminal whose enquiry is ended by the second part of a Completion, with the report that came before, is ready; and one
-/// whose registration is ended as done by a part of its Ack and its Completion is enquired.
-pub fn law_cause_examples()
-    ensures outside { OutsideIsCut }
-    ensures outside_cause { OutsideIsCause }
-    ensures poll_before_outside { PollBeforeOutsideCut }
-    ensures too_long { TooLongIsCut }
-    ensures too_long_cause { TooLongIsCause }
-    ensures poll_before_too_long { PollBeforeTooLongCut }
-    ensures report { SplitReport }
-    ensures done { ExampleDone }
-{}
-
-/// For each cause of a cut there is a lawful log after which a terminal is cut for it: a message that leaves its registration unclear,
-/// and one that declines it; an APDU outside the grammar, and one above the limit; a deadline; and a send that has failed.
-pub fn law_cut_cause_examples()
-    ensures unclear { ExampleUnclearCut }
-    ensures declined { ExampleDeclinedCut }
-    ensures outside { ExampleOutsideCut }
-    ensures too_long { ExampleTooLongCut }
-    ensures late { ExampleLateCut }
-    ensures failed_send { ExampleFailedCut }
-{}
-
-/// A payment, from the bytes of the till that asks for it to the reply: its Intent is kept before its terminal is asked, with the write and
-/// the sync of its body and then those of its gate, and its Outcome is kept so before the till gets its reply. At the end both are kept, and
-/// the terminal is ready with the payment's trace number. Once it is begun it is the terminal's one open key, and once it is paid none is
-/// open. Where the terminal sends nothing, it was silent at its deadline. Two logs more, of payments that break off. In one the terminal's
-/// link is lost, and the payment stays open until the terminal is linked again and reports: its Outcome is kept then, and the till gets its
-/// reply. In the other the power fails once the command was sent: a TransactionStatus of a later run is replied with `InProgress` before
-/// the terminal reports, and with the success, repeated, after that. As it reports there the payment is open, and it is ready after it.
-pub fn law_payment_logs()
-    ensures paid { PaymentIsLawful }
-    ensures resolved { ResolvedIsLawful }
-    ensures recovered { RecoveryIsLawful }
-    ensures reported { OpenIsReported }
-    ensures served { BegunIsServedOpen }
-    ensures none_open { PaidHasNoneOpen }
-    ensures silent { PaymentIsSilent }
-{}
-
 /// Along each lawful course `06 B0` is owed to a terminal, and sent to it, only where its link has carried, since its last command but
 /// stops, an Ack and a stop that a till wished, and no stop: so it is sent only once an Ack has come since the command of what is served,
 /// which may be the late one of a stop before, only after an Abort of a till, and once a dialogue. That a till has said the Abort, and the terminal the Ack, each in a round of the
@@ -453,14 +325,3 @@ pub fn law_day_logs()
     gw_owes::law_records();
     gw_owes::law_waits();
 }
-
-/// A record is in flight once its gate is written, and kept once that is synced. A start leaves it in flight; a power failure
-/// leaves it exactly where it leaves the gate open.
-pub fn law_record_examples()
-    ensures in_flight { GateIsInFlight }
-    ensures kept { SyncKeeps }
-    ensures start { StartLeavesFlight }
-    ensures failed_sync { FailedSyncCrashes }
-    ensures closed { ClosedGateDrops }
-    ensures opened { OpenGateKeeps }
-{}

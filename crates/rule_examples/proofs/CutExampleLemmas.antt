@@ -10,7 +10,7 @@ use Rattle.gw_owes.specs.Calls.{OwedCall, SendPt, LinkPt, CutPt as OwedCutPt}
 use Rattle.gw_owes.specs.Items.{RoundItem}
 use Rattle.gw_owes.specs.TerminalExample.{ack, completion, enquiry_sent}
 use Rattle.gw_rules.specs.AloneExample.{both_linked_moves}
-use Rattle.gw_rules.specs.CutCauseExample.{unacknowledged_done_log, unacknowledged_done_course}
+use Rattle.rule_examples.specs.CutCauseExample.{unacknowledged_done_log, unacknowledged_done_course}
 use Rattle.gw_rules.specs.Lawful.{first_call, may_begin, AllowedTurn}
 use Rattle.gw_rules.specs.TerminalLogExample.{linked_log, items_begin}
 use Rattle.gw_rules.specs.View.{View, Begin, Make, after, after_turn, at_first}
@@ -20,7 +20,8 @@ use Rattle.gw_rules.proofs.LinkLawLemmas.{same-call}
 use Rattle.gw_rules.proofs.PrefixLemmas.{Along, along, lawful-along}
 use Rattle.gw_rules.proofs.StageLemmas.{no-true, no-call}
 use Rattle.gw_rules.proofs.TerminalLogLemmas.{after_start, from-start}
-use Rattle.gw_rules.proofs.UnlawfulLemmas.{take-next, take-owed, begin-next, no-poll-item, no-poll-call}
+use Rattle.gw_rules.proofs.UnlawfulLemmas.{take-owed, begin-next}
+use Rattle.rule_examples.proofs.UnlawfulLemmas.{take-next, no-poll-item, no-poll-call}
 use Rattle.rule_examples.specs.CutExample.{both_silent_log, both_silent_course, both_cut_course, BothAreCut, BothAreLinkedAgain, OtherIsNotCutFirst, PollBeforeOtherCut, UnacknowledgedDoneIsCut, EnquiryUnacknowledged}
 
 -- ---- what is lawful

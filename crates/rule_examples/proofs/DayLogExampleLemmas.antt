@@ -15,12 +15,14 @@ use Rattle.gw_owes.specs.Replies.{failure_reply}
 use Rattle.gw_owes.specs.TerminalExample.{ack, completion}
 use Rattle.gw_rules.specs.DayLogExample.{day_request, day_header, intermediate, shown_status, logged_settled, totals_reply, hello_reply}
 use Rattle.gw_rules.specs.Lawful.{IsCourse}
-use Rattle.gw_rules.specs.PaymentLogExample.{payment_request, ready_none_course, begun_course, replied_course, replied_view}
+use Rattle.gw_rules.specs.PaymentLogExample.{payment_request, ready_none_course, begun_course}
+use Rattle.rule_examples.specs.PaymentLogExample.{replied_course, replied_view}
 use Rattle.gw_rules.specs.RowExample.{example_pt}
 use Rattle.gw_rules.specs.View.{View, Move, view_from, at_first}
 use Rattle.gw_rules.proofs.CourseLemmas.{course-append}
 use Rattle.gw_rules.proofs.DayTextLemmas.{day-chunk, day-read}
-use Rattle.gw_rules.proofs.PaymentLogLemmas.{ready_none_view, ready-none-lawful, begun_view, begun-lawful, replied-lawful}
+use Rattle.gw_rules.proofs.PaymentLogLemmas.{ready_none_view, ready-none-lawful, begun_view, begun-lawful}
+use Rattle.rule_examples.proofs.PaymentLogLemmas.{replied-lawful}
 use Rattle.gw_rules.proofs.TextLemmas.{bytes-tested}
 use Rattle.rule_examples.specs.DayLogExample.{day_begun_course, day_said_course, day_kept_course, DayIsLawful, day_lost_course, LostDayIsLawful, DisplayIsLawful}
 

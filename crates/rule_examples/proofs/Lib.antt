@@ -1,5 +1,15 @@
 -- The proof that the logs of the examples are lawful.
+pub mod CauseExampleLemmas
+pub mod CutCauseExampleLemmas
 pub mod CutExampleLemmas
 pub mod DayLogExampleLemmas
+pub mod DoneExampleLemmas
+pub mod ExampleLemmas
+pub mod PaymentLogLemmas
 pub mod QueueExampleLemmas
+pub mod RecoveryLogLemmas
+pub mod RowExampleLemmas
+pub mod TerminalLogLemmas
+pub mod TextLemmas
 pub mod TillLogExampleLemmas
+pub mod UnlawfulLemmas

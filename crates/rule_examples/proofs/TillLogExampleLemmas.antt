@@ -12,12 +12,14 @@ use Rattle.gw_owes.specs.Replies.{failure_reply}
 use Rattle.gw_owes.specs.TerminalExample.{ack}
 use Rattle.gw_rules.specs.DayLogExample.{day_request, day_header, intermediate}
 use Rattle.gw_rules.specs.Lawful.{IsCourse}
-use Rattle.gw_rules.specs.PaymentLogExample.{payment_request, logged_outcome, ready_none_course, begun_course, replied_course, replied_view}
+use Rattle.gw_rules.specs.PaymentLogExample.{payment_request, logged_outcome, ready_none_course, begun_course}
+use Rattle.rule_examples.specs.PaymentLogExample.{replied_course, replied_view}
 use Rattle.gw_rules.specs.RowExample.{example_pt}
 use Rattle.gw_rules.specs.View.{View, view_from, at_first}
 use Rattle.gw_rules.proofs.CourseLemmas.{course-append}
 use Rattle.gw_rules.proofs.DayTextLemmas.{day-chunk, day-read}
-use Rattle.gw_rules.proofs.PaymentLogLemmas.{ready_none_view, ready-none-lawful, begun_view, begun-lawful, replied-lawful}
+use Rattle.gw_rules.proofs.PaymentLogLemmas.{ready_none_view, ready-none-lawful, begun_view, begun-lawful}
+use Rattle.rule_examples.proofs.PaymentLogLemmas.{replied-lawful}
 use Rattle.gw_rules.proofs.TestedLemmas.{course-tested}
 use Rattle.gw_rules.proofs.TextLemmas.{bytes-tested}
 use Rattle.rule_examples.specs.TillLogExample.{shown_first, shown_course, gone_course, closed_said_course, closed_kept_course, ClosedTillIsLawful, day_unsent_course, UnsentDayIsLawful}

@@ -6,7 +6,7 @@ use Rattle.gw_owes.specs.declared.terminal.Standing.{Standing}
 use Rattle.gw_owes.specs.declared.terminal.Standing.TheVariants.{Unlinked, Registering}
 use Rattle.gw_owes.specs.TerminalExample.{enquiry_sent}
 use Rattle.gw_rules.specs.AloneExample.{two_setup, other_standing, both_linked, both_linked_moves}
-use Rattle.gw_rules.specs.CutCauseExample.{unacknowledged_done_log, unacknowledged_done_course}
+use Rattle.rule_examples.specs.CutCauseExample.{unacknowledged_done_log, unacknowledged_done_course}
 use Rattle.gw_rules.specs.Example.{IsCourseAlong, IsUnlawfulAfter, began, began_moves}
 use Rattle.gw_rules.specs.RowExample.{first_standing}
 use Rattle.gw_rules.specs.TerminalLogExample.{items_begin, LeavesStanding}

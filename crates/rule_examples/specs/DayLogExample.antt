@@ -8,12 +8,13 @@ use Rattle.sale_values.specs.declared.request.SaleRequest.TheVariants as request
 use Rattle.jrn_record.specs.declared.records.Record.TheVariants.{Intent, Outcome, Settled}
 use Rattle.gw_owes.specs.Items.{Serve}
 use Rattle.gw_owes.specs.Replies.{failure_reply}
-use Rattle.gw_owes.specs.Reply.{Display, reply_value_bytes}
+use Rattle.gw_owes.specs.Reply.{reply_value_bytes}
 use Rattle.gw_owes.specs.TerminalExample.{ack, completion}
 use Rattle.gw_owes.specs.declared.terminal.Standing.TheVariants.{Unlinked, Ready}
 use Rattle.gw_rules.specs.DayLogExample.{day_request, day_header, asked_day, day_sent, intermediate, shown_status, logged_settled, totals_reply, hello, hello_cashier, display_header, hello_sent, hello_reply}
-use Rattle.gw_rules.specs.PaymentLogExample.{logged_intent, logged_outcome, keep_turns, keep_moves, ready_none_log, ready_none_course, begun_log, begun_course, replied_log, replied_course, replied_view}
-use Rattle.gw_rules.specs.RowExample.{LeadsToStanding}
+use Rattle.gw_rules.specs.PaymentLogExample.{logged_intent, logged_outcome, keep_turns, keep_moves, ready_none_log, ready_none_course, begun_log, begun_course}
+use Rattle.rule_examples.specs.PaymentLogExample.{replied_log, replied_course, replied_view}
+use Rattle.rule_examples.specs.RowExample.{LeadsToStanding}
 use Rattle.gw_rules.specs.TerminalLogExample.{items_begin, LeavesStanding}
 use Rattle.gw_rules.specs.View.{View, Move, Begin, Read, Make, view_from, at_first}
 

@@ -13,7 +13,8 @@ use Rattle.gw_owes.specs.TerminalExample.{ack, completion, approved_status}
 use Rattle.gw_owes.specs.declared.terminal.Standing.TheVariants.{Unlinked, Ready}
 use Rattle.gw_owes.specs.declared.terminal.Terminal.{Terminal}
 use Rattle.gw_rules.specs.DayLogExample.{day_request, day_header, asked_day, intermediate}
-use Rattle.gw_rules.specs.PaymentLogExample.{logged_intent, logged_outcome, keep_turns, keep_moves, ready_none_log, ready_none_course, begun_log, begun_course, replied_log, replied_course}
+use Rattle.gw_rules.specs.PaymentLogExample.{logged_intent, logged_outcome, keep_turns, keep_moves, ready_none_log, ready_none_course, begun_log, begun_course}
+use Rattle.rule_examples.specs.PaymentLogExample.{replied_log, replied_course}
 use Rattle.gw_rules.specs.TerminalLogExample.{items_begin, LeavesStanding}
 use Rattle.gw_rules.specs.View.{Move, Begin, Read, Make, view_from, at_first}
 

@@ -1,7 +1,8 @@
 -- Proof of the contract of `law_till_examples`.
-use Rattle.gw_rules.proofs.ExampleLemmas.{status-lawful, failed-send-lawful, silent-lawful, bad-frame-lawful, crowded-lawful}
-use Rattle.gw_rules.proofs.UnlawfulLemmas.{unasked-reply, poll-before-reply, poll-before-cut, poll-while-crowded}
-use Rattle.gw_rules.proofs.law_till_examples.Goals as goal
+use Rattle.gw_rules.proofs.ExampleLemmas.{status-lawful}
+use Rattle.rule_examples.proofs.ExampleLemmas.{failed-send-lawful, silent-lawful, bad-frame-lawful, crowded-lawful}
+use Rattle.rule_examples.proofs.UnlawfulLemmas.{unasked-reply, poll-before-reply, poll-before-cut, poll-while-crowded}
+use Rattle.rule_examples.proofs.law_till_examples.Goals as goal
 
 pub returns-clause-status : goal.returns-clause-status
 returns-clause-status c = status-lawful

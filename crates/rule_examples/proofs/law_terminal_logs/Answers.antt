@@ -1,6 +1,7 @@
 -- Proof of the contract of `law_terminal_logs`.
-use Rattle.gw_rules.proofs.TerminalLogLemmas.{silent-registration-lawful, done-enquired, done-then-silent-cut, unfinished-cut, poll-before-silent-cut, poll-before-enquiry, ready-lawful, due-again-lawful, declined-lawful, silent-enquiry-lawful, unacknowledged-lawful, poll-before-link, link-too-early, enquiry-before-registration, enquiry-after-cut}
-use Rattle.gw_rules.proofs.law_terminal_logs.Goals as goal
+use Rattle.gw_rules.proofs.TerminalLogLemmas.{ready-lawful}
+use Rattle.rule_examples.proofs.TerminalLogLemmas.{silent-registration-lawful, done-enquired, done-then-silent-cut, unfinished-cut, poll-before-silent-cut, poll-before-enquiry, due-again-lawful, declined-lawful, silent-enquiry-lawful, unacknowledged-lawful, poll-before-link, link-too-early, enquiry-before-registration, enquiry-after-cut}
+use Rattle.rule_examples.proofs.law_terminal_logs.Goals as goal
 
 pub returns-clause-ready : goal.returns-clause-ready
 returns-clause-ready c = ready-lawful

@@ -1,6 +1,6 @@
 -- Proof of the contract of `law_cut_cause_examples`.
-use Rattle.gw_rules.proofs.CutCauseExampleLemmas.{unclear-cut, declined-cut, outside-cut-cause, too-long-cut-cause, late-cut, failed-cut}
-use Rattle.gw_rules.proofs.law_cut_cause_examples.Goals as goal
+use Rattle.rule_examples.proofs.CutCauseExampleLemmas.{unclear-cut, declined-cut, outside-cut-cause, too-long-cut-cause, late-cut, failed-cut}
+use Rattle.rule_examples.proofs.law_cut_cause_examples.Goals as goal
 
 pub returns-clause-unclear : goal.returns-clause-unclear
 returns-clause-unclear c = unclear-cut

@@ -1,6 +1,6 @@
 -- Proof of the contract of `law_terminal_examples`.
-use Rattle.gw_rules.proofs.RowExampleLemmas.{unlinked-lawful, unframed-lawful, poll-before-unframed-cut, row-items-come-first, link-registers, link-is-due-again, failed-send-cuts-link, lost-is-due, lost-end-of-day-replies, lost-transaction-keeps-asker, both-are-items, sendings-are-spelled, gone-till-is-forgotten, sorted-waits}
-use Rattle.gw_rules.proofs.law_terminal_examples.Goals as goal
+use Rattle.rule_examples.proofs.RowExampleLemmas.{unlinked-lawful, unframed-lawful, poll-before-unframed-cut, row-items-come-first, link-registers, link-is-due-again, failed-send-cuts-link, lost-is-due, lost-end-of-day-replies, lost-transaction-keeps-asker, both-are-items, sendings-are-spelled, gone-till-is-forgotten, sorted-waits}
+use Rattle.rule_examples.proofs.law_terminal_examples.Goals as goal
 
 pub returns-clause-unlinked : goal.returns-clause-unlinked
 returns-clause-unlinked c = unlinked-lawful

@@ -1,7 +1,7 @@
 -- Proof of the contract of `law_run_examples`.
-use Rattle.gw_rules.proofs.ExampleLemmas.{restarted-lawful, crashed-lawful, looks-may-fail, refused-not-polled, disk-failure-ends, no-run-where-not-opened}
-use Rattle.gw_rules.proofs.UnlawfulLemmas.{crash-leaves-no-other, nothing-to-look-at, nothing-to-look-at-later, poll-ends-looking, gate-ends-looking}
-use Rattle.gw_rules.proofs.law_run_examples.Goals as goal
+use Rattle.rule_examples.proofs.ExampleLemmas.{restarted-lawful, crashed-lawful, looks-may-fail, refused-not-polled, disk-failure-ends, no-run-where-not-opened}
+use Rattle.rule_examples.proofs.UnlawfulLemmas.{crash-leaves-no-other, nothing-to-look-at, nothing-to-look-at-later, poll-ends-looking, gate-ends-looking}
+use Rattle.rule_examples.proofs.law_run_examples.Goals as goal
 
 pub returns-clause-restarted : goal.returns-clause-restarted
 returns-clause-restarted c = restarted-lawful

@@ -1,7 +1,8 @@
 -- Proof of the contract of `law_cause_examples`.
-use Rattle.gw_rules.proofs.CauseExampleLemmas.{outside-cut, outside-cause, poll-before-outside-cut, too-long-cut, too-long-cause, poll-before-too-long-cut, split-report}
-use Rattle.gw_rules.proofs.DoneExampleLemmas.{done}
-use Rattle.gw_rules.proofs.law_cause_examples.Goals as goal
+use Rattle.gw_rules.proofs.CauseExampleLemmas.{outside-cause, too-long-cut}
+use Rattle.rule_examples.proofs.CauseExampleLemmas.{outside-cut, poll-before-outside-cut, too-long-cause, poll-before-too-long-cut, split-report}
+use Rattle.rule_examples.proofs.DoneExampleLemmas.{done}
+use Rattle.rule_examples.proofs.law_cause_examples.Goals as goal
 
 pub returns-clause-outside : goal.returns-clause-outside
 returns-clause-outside c = outside-cut

@@ -13,13 +13,16 @@ use Rattle.gw_owes.specs.Items.{Greet, Handle, Oversized, Late}
 use Rattle.gw_owes.specs.TerminalExample.{ack, abort, completion}
 use Rattle.gw_owes.specs.TerminalLaws.{BreaksDialogue, IsLateAt}
 use Rattle.gw_owes.specs.declared.terminal.Terminal.{Terminal}
-use Rattle.gw_rules.specs.CauseExample.{outside_log, outside_course, outside_apdu, too_long_log}
-use Rattle.gw_rules.specs.CutCauseExample.{known_along, unclear_log, unclear_course, completion_apdu, ExampleUnclearCut, aborted_log, aborted_course, abort_apdu, ExampleDeclinedCut, ExampleOutsideCut, oversized_course, ExampleTooLongCut, late_log, late_course, ExampleLateCut, unsent_log, unacknowledged_done_log, unacknowledged_done_course, ExampleFailedCut}
+use Rattle.gw_rules.specs.CauseExample.{outside_log, outside_apdu, too_long_log}
+use Rattle.rule_examples.specs.CauseExample.{outside_course}
+use Rattle.gw_rules.specs.CutCauseExample.{completion_apdu}
+use Rattle.rule_examples.specs.CutCauseExample.{known_along, unclear_log, unclear_course, ExampleUnclearCut, aborted_log, aborted_course, abort_apdu, ExampleDeclinedCut, ExampleOutsideCut, oversized_course, ExampleTooLongCut, late_log, late_course, ExampleLateCut, unsent_log, unacknowledged_done_log, unacknowledged_done_course, ExampleFailedCut}
 use Rattle.gw_rules.specs.CutCauses.{HasSaidApdu, BeginsCut, SendFailed, SaidOutside, BegunTooLong, BrokeDialogue, DeadlineCame}
 use Rattle.gw_rules.specs.RowExample.{example_pt, terminal_setup}
 use Rattle.gw_rules.specs.TerminalLogExample.{linked_log, items_begin}
 use Rattle.gw_rules.specs.View.{Move, Begin, Make, view_from, at_first}
-use Rattle.gw_rules.proofs.CauseExampleLemmas.{outside-cause, too-long-cause}
+use Rattle.gw_rules.proofs.CauseExampleLemmas.{outside-cause}
+use Rattle.rule_examples.proofs.CauseExampleLemmas.{too-long-cause}
 use Rattle.gw_rules.proofs.PrefixLemmas.{lawful-along}
 use Rattle.gw_rules.proofs.TerminalLogLemmas.{after_start, from-start}
 use Rattle.gw_rules.proofs.TextLemmas.{bytes-tested}

@@ -1,6 +1,6 @@
 -- Proof of the contract of `law_record_examples`.
-use Rattle.gw_rules.proofs.RowExampleLemmas.{gate-in-flight, sync-keeps, start-leaves-flight, failed-sync-crashes, closed-gate-drops, open-gate-keeps}
-use Rattle.gw_rules.proofs.law_record_examples.Goals as goal
+use Rattle.rule_examples.proofs.RowExampleLemmas.{gate-in-flight, sync-keeps, start-leaves-flight, failed-sync-crashes, closed-gate-drops, open-gate-keeps}
+use Rattle.rule_examples.proofs.law_record_examples.Goals as goal
 
 pub returns-clause-in_flight : goal.returns-clause-in_flight
 returns-clause-in_flight c = gate-in-flight
