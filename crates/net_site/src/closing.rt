@@ -1,9 +1,8 @@
 //! Connections of tills that are closed, while what waits for them goes out.
 ghost use Rattle.std.specs.Prelude.{◌≤◌, vec_capacity};
 
-use crate::connection::{self, Received};
+use crate::connection;
 use crate::queue::Queue;
-use gw_bytes::LONGEST_CHUNK;
 use std::alloc::{AllocError, Global};
 use std::net::{Shutdown, TcpStream};
 
@@ -32,11 +31,7 @@ impl Closing {
         if self.queue.is_empty() && self.stream.shutdown(Shutdown::Write).is_err() {
             return false;
         }
-        let mut buf = [0; LONGEST_CHUNK];
-        match connection::hear(&self.stream, &mut buf) {
-            Received::Bytes(_) | Received::NotYet => true,
-            Received::End => false,
-        }
+        connection::skip(&self.stream) || !self.queue.is_empty()
     }
 }
 

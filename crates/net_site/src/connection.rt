@@ -115,6 +115,25 @@ pub(crate) fn hear(stream: &TcpStream, buf: &mut [u8; LONGEST_CHUNK]) -> Receive
     }
 }
 
+/// Reads and drops what has come, some 64 kilobytes at most. False once the connection has ended.
+pub(crate) fn skip(stream: &TcpStream) -> bool {
+    let mut reader = stream;
+    let mut buf = [0; LONGEST_CHUNK];
+    for _ in 0..16 {
+        match reader.read(&mut buf) {
+            Ok(0) => return false,
+            Ok(_) => {}
+            Err(error) => {
+                return match error.kind() {
+                    ErrorKind::WouldBlock | ErrorKind::Interrupted => true,
+                    _ => false,
+                };
+            }
+        }
+    }
+    true
+}
+
 /// Writes what the socket takes at once, and returns how many bytes that is.
 pub(crate) fn write(stream: &TcpStream, bytes: &[u8]) -> io::Result<usize>
     ensures { IfOk result (λ count. count ≤ length bytes.now) }
