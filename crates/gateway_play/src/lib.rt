@@ -6,6 +6,6 @@ mod files;
 mod replay;
 mod rows;
 
-pub use files::{check_file_row, check_runs, push_run, site_of};
-pub use replay::{check, compare, ended, replayed, words_of};
+pub use files::{check_runs, log_text, push_run, run_all, site_of};
+pub use replay::{check, compare, difference, ended, replayed, words_of};
 pub use rows::{check_after, check_row, check_rows, check_to_end};

@@ -26,19 +26,27 @@ pub fn ended(
     Ok(top(alloc, &words, &mut NoSite::new(), input, out))
 }
 
-/// A text is this one; else the failure names the row and the first line that is another.
-pub fn check_text(row: &str, found: &str, wanted: &str) -> Result<(), Fail> {
+/// The first line of a text that differs from the one that is wanted, and that one.
+pub fn difference<'a>(found: &'a str, wanted: &'a str) -> Option<(&'a str, &'a str)> {
     if found == wanted {
-        return Ok(());
+        return None;
     }
     let mut lines = found.split('\n');
     for line in wanted.split('\n') {
         let other = lines.next().unwrap_or("nothing");
         if other != line {
-            return Err(Fail::new(format_args!("{other} in place of {line}, of {row}")));
+            return Some((other, line));
         }
     }
-    Err(Fail::new(format_args!("more lines than are wanted, of {row}")))
+    Some(("more lines", "none"))
+}
+
+/// A text is this one; else the failure names the row and the first line that is another.
+pub fn check_text(row: &str, found: &str, wanted: &str) -> Result<(), Fail> {
+    match difference(found, wanted) {
+        None => Ok(()),
+        Some((other, line)) => Err(Fail::new(format_args!("{other} in place of {line}, of {row}"))),
+    }
 }
 
 /// A call has ended with this status, and has written this.
