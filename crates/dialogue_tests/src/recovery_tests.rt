@@ -2,7 +2,7 @@
 //! file, the terminal plays on, and what tills get in the end agrees with its book.
 //!
 //! The terminal is a played one. A script is played from its start, again and again, each time with what the terminal has sent at the log of
-//! the time before. No line of a script is taken before the first poll of a run, so the power fails in no opening here; `gateway_rows` has
+//! the time before. No line of a script is taken before the first poll of a run, so the power fails in no opening here; `gateway_tests` has
 //! those.
 use gateway_play::replayed;
 use gw_base::{Currency, Ident, Pt, Text};

@@ -1,11 +1,6 @@
-//! Lines of displays and device requests, in the tables of rows: what a till shows at a terminal, and what it is to show and print itself.
+//! Lines of displays and device requests: what a till shows at a terminal, and what it is to show and print itself.
 //!
 //! They are those of till S1 at terminal T1. A ServiceID is one digit.
-//! - `display TILL SERVICE TEXT` is a Display of one text for the customer, and `> displayed TILL SERVICE RESULT` its reply: RESULT is
-//!   `Success` or the condition of a failure;
-//! - `> shows TILL SERVICE NUMBER CODE` is the device request of this number by which the till shows an intermediate status, and
-//!   `> prints TILL SERVICE NUMBER TEXTS` the one by which it prints lines, where TEXTS is its `OutputText`: SERVICE is the ServiceID of the
-//!   request that the terminal serves.
 use crate::tables::{halves, push_form};
 use std::alloc::AllocError;
 

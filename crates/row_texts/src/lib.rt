@@ -1,4 +1,4 @@
-//! The texts of rows of whole scripts: what a script and its log have for each line, and files in words.
+//! The texts of cases of whole scripts: what a script and its log have for each short line, and files in words.
 //! Only tests call it, and its functions have no contracts.
 #![tactic(auto)]
 

@@ -1,24 +1,6 @@
-//! Lines of payments, reversals, reconciliations and aborts, in the tables of rows: what a till asks, which records are kept, and what the
-//! till gets.
+//! Lines of payments, reversals, reconciliations and Aborts: what a till asks, which records are kept, and what the till gets.
 //!
 //! They are those of till S1 at terminal T1, in euros, at 2025-03-07T10:11:04Z. A ServiceID and a slot are one digit.
-//! - `pay TILL SERVICE AMOUNT` is a payment, `reverse TILL SERVICE TRANSACTION` the reversal of what has this TransactionID, and
-//!   `reverse_amount TILL SERVICE TRANSACTION AMOUNT` the same of this amount; `reconcile TILL SERVICE TYPE` is a reconciliation of this
-//!   type; `status TILL SERVICE REFERENCE` asks what became of one;
-//! - `abort TILL SERVICE REFERENCE` is an Abort, and `> rejected TILL DETAILS` the event that rejects it;
-//! - `> intent SLOT SERVICE AMOUNT BEFORE` keeps its Intent: the amount is in minor units, and BEFORE is the trace number before;
-//! - `> reversal SLOT SERVICE AMOUNT BEFORE ORIGINAL` keeps the Intent of a reversal, where ORIGINAL is the slot of the payment's Intent;
-//! - `> approved SLOT OF TRACE RECEIPT AMOUNT` and `> declined SLOT OF REASON` keep its Outcome, where OF is the slot of the Intent;
-//! - `> settled SLOT HOW SERVICE` keeps the Settled of a reconciliation, where HOW is 1 for one of the till's own and 2 for an end of day;
-//! - `> first ..` before the words of such a line is the first write for it alone;
-//! - `> result TILL SERVICE RESULT TRANSACTION AMOUNT` is the reply to a payment once it has ended, and `> reversed ..` with the same
-//!   words that to a reversal: RESULT is `Success`, `Partial` or the condition of a failure, which has no amount;
-//! - `> totals TILL SERVICE TYPE COUNT AMOUNT COUNT AMOUNT` is the reply to a reconciliation: the payments, and then the reversals;
-//! - `> repeats TILL SERVICE REFERENCE RESULT TRANSACTION AMOUNT`, `> repeats_reversed ..` and `> repeats_totals ..` are the reply to `status`
-//!   that repeats it;
-//! - `> fails CATEGORY TILL SERVICE CONDITION` is any other failure.
-//!
-//! `display_lines` has those of displays and device requests.
 use crate::display_lines::push_displayed;
 use crate::tables::{halves, push_form, push_times};
 use std::alloc::{AllocError, Global};

@@ -1,15 +1,8 @@
-//! Tables of rows, as texts.
+//! Short lines of cases, written out as the lines of a script and of its log. `script_tests/data/beginnings.txt` says at its head what each means.
 //!
-//! Rows are divided by an empty line. A line that begins with `> ` is one of the log, in which each line that polls has its moment
-//! and its event besides. The others are the script's; one after `~ ` brings no event. Messages between till S1 and
-//! terminal T1 have lines of their own:
-//! - `ask CATEGORY BODY` is a request of the till, and `> reply CLASS CATEGORY BODY` what it gets;
-//! - `chunk TILL LINE & LINE` is more than one request of a till that come at once, and have the lines of requests;
-//! - `diagnosis` asks for the state of the terminal, and gets `> state STATE`;
-//! - `> reject SALE POI DETAILS` is the event that rejects a message;
-//! - `> start` is a start, and the opening of the journal on no file, and `> restart` the same on one with records.
-//!
-//! `payment_lines` has those of payments, reversals, reconciliations and aborts, and `display_lines` those of displays and device requests.
+//! A line that begins with `> ` is one of the log, in which each line that polls has its moment and its event besides. The others are the script's; one
+//! after `~ ` brings no event. `payment_lines` has the lines of payments, reversals, reconciliations and Aborts, and `display_lines` those of
+//! displays and device requests.
 use crate::display_lines::push_display;
 use crate::payment_lines::{push_asked, push_paid};
 use std::alloc::{AllocError, Global};
