@@ -9,8 +9,10 @@ pub(crate) struct Case {
     pub(crate) words: String,
     pub(crate) configuration: String,
     pub(crate) script: String,
-    /// The words of the file that the disk has at first.
-    pub(crate) file: Option<String>,
+    /// The words of the file that the disk has at first; none where there is no file.
+    pub(crate) file: String,
+    /// Whether the engine runs alone, unless it serves.
+    pub(crate) is_of_runs: bool,
     /// After how many calls the power fails.
     pub(crate) calls: Option<u64>,
     /// Whether only what was linked and sent is compared.
@@ -19,6 +21,8 @@ pub(crate) struct Case {
     pub(crate) is_unread: bool,
     /// What must be found.
     pub(crate) wanted: String,
+    /// The status that must be returned.
+    pub(crate) status: u8,
     /// The moment that the script has set last.
     now: String,
     /// Whether the lines of the script add nothing to what is wanted.
@@ -33,11 +37,13 @@ impl Case {
             words: String::from_str(alloc, "replay")?,
             configuration: String::new(alloc),
             script: String::new(alloc),
-            file: None,
+            file: String::new(alloc),
+            is_of_runs: false,
             calls: None,
             only_sends: false,
             is_unread: false,
             wanted: String::new(alloc),
+            status: 0,
             now: String::from_str(alloc, "0")?,
             is_plain: false,
             is_ended: false,
@@ -53,6 +59,9 @@ impl Case {
     fn take_wanted(&mut self, alloc: Global, line: &str, logged: &str) -> Result<(), Fail> {
         if logged.starts_with("status") {
             self.is_ended = true;
+        }
+        if let Some(status) = logged.strip_prefix("status ") {
+            self.status = status.parse::<u8>()?;
         }
         if self.is_plain {
             push_form(&mut self.wanted, "%\n", &[logged])?;
@@ -112,6 +121,13 @@ impl Case {
         }
     }
 
+    /// Takes the words of the file that the disk has at first.
+    fn take_file(&mut self, alloc: Global, words: &str) -> Result<(), AllocError> {
+        self.is_of_runs = true;
+        self.file = String::from_str(alloc, words)?;
+        Ok(())
+    }
+
     /// Takes a line.
     fn take(&mut self, alloc: Global, line: &str) -> Result<(), Fail> {
         if line.is_empty() || line.starts_with('#') {
@@ -122,7 +138,7 @@ impl Case {
             "for" => {}
             "words" => self.words = String::from_str(alloc, rest)?,
             "config" => push_form(&mut self.configuration, "%\n", &[rest])?,
-            "file" => self.file = Some(String::from_str(alloc, rest)?),
+            "file" => self.take_file(alloc, rest)?,
             "stop" => self.calls = Some(rest.parse::<u64>()?),
             "plain" => self.is_plain = true,
             "only" => self.only_sends = true,

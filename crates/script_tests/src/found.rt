@@ -11,16 +11,6 @@ use std::alloc::{AllocError, Global};
 use std::str;
 use std::test::Fail;
 
-/// Appends what a call has printed, and its status where the last line doesn't say this one.
-fn push_printed(alloc: Global, found: &mut String, status: u8, out: &MemSink) -> Result<(), Fail> {
-    found.push_str(str::from_utf8(out.bytes().as_slice())?)?;
-    let last = format!(in alloc; "status {status}\n")?;
-    if !found.ends_with(last.as_str()) {
-        push_form(found, "ended with %", &[&last])?;
-    }
-    Ok(())
-}
-
 /// What the top call over a site, with this text as its input, adds to what is found.
 ///
 /// Where nothing may be read, the first read fails; so it does after the call, if the call has made none.
@@ -36,7 +26,10 @@ fn push_called<S: Site>(
     let mut input = MemSource::new(Bytes::copied(alloc, text.as_bytes())?, fails);
     let mut out = MemSink::new(alloc, None, 0);
     let status = top(alloc, &words, site, &mut input, &mut out);
-    push_printed(alloc, found, status, &out)?;
+    found.push_str(str::from_utf8(out.bytes().as_slice())?)?;
+    if status != case.status {
+        found.push_str("another status is returned\n")?;
+    }
     if case.is_unread && input.read(&mut [0; 4096]).is_ok() {
         found.push_str("the input was read\n")?;
     }
@@ -50,16 +43,17 @@ fn replayed(alloc: Global, case: &Case) -> Result<String, Fail> {
     Ok(found)
 }
 
-/// The site that plays its script.
-fn site_of_case(alloc: Global, case: &Case) -> Result<SimSite, Fail> {
-    let words = match &case.file {
-        Some(words) => words.as_str(),
-        None => "",
-    };
-    let mut site = site_of(alloc, &case.script, words)?;
-    if let Some(calls) = case.calls {
+/// Lets the power fail after so many calls, if it is to fail.
+fn stop(site: &mut SimSite, calls: Option<u64>) {
+    if let Some(calls) = calls {
         site.stop_after(calls, ImageKind::Old);
     }
+}
+
+/// The site that plays its script.
+fn site_of_case(alloc: Global, case: &Case) -> Result<SimSite, Fail> {
+    let mut site = site_of(alloc, &case.script, &case.file)?;
+    stop(&mut site, case.calls);
     Ok(site)
 }
 
@@ -73,13 +67,18 @@ fn served(alloc: Global, case: &Case) -> Result<String, Fail> {
     Ok(found)
 }
 
+/// The log of the runs over a site, and their statuses.
+fn runs_over(alloc: Global, site: &mut SimSite) -> Result<String, Fail> {
+    let statuses = run_all(alloc, site)?;
+    let mut found = log_text(alloc, site)?;
+    push_form(&mut found, "statuses%\n", &[&statuses])?;
+    Ok(found)
+}
+
 /// The log of its runs, and their statuses.
 fn runs(alloc: Global, case: &Case) -> Result<String, Fail> {
     let mut site = site_of_case(alloc, case)?;
-    let statuses = run_all(alloc, &mut site)?;
-    let mut found = log_text(alloc, &site)?;
-    push_form(&mut found, "statuses%\n", &[&statuses])?;
-    Ok(found)
+    runs_over(alloc, &mut site)
 }
 
 /// Of the lines of a log those for what was linked and sent, and that of the status.
@@ -97,7 +96,7 @@ pub(crate) fn sends_of(alloc: Global, log: &str) -> Result<String, AllocError> {
 pub(crate) fn found_of(alloc: Global, case: &Case) -> Result<String, Fail> {
     if case.is_served() {
         served(alloc, case)
-    } else if case.file.is_some() || case.calls.is_some() {
+    } else if case.is_of_runs {
         runs(alloc, case)
     } else {
         replayed(alloc, case)

@@ -4,15 +4,29 @@ use crate::case::Case;
 use crate::filling::{filled, meant, written_out};
 use crate::found::{found_of, sends_of};
 use gateway_play::difference;
-use std::alloc::Global;
+use row_texts::push_form;
+use std::alloc::{AllocError, Global};
 use std::test::Fail;
 
-/// Prints whether what is found of a case is what is wanted.
-fn print_case(rt: &impl Print, name: &str, found: &str, wanted: &str) -> Result<(), Fail> {
+/// Whether what is found of a case is what is wanted, or the first line that differs.
+fn verdict(alloc: Global, found: &str, wanted: &str) -> Result<String, AllocError> {
+    let mut verdict = String::new(alloc);
     match difference(found, wanted) {
-        None => println!(rt; "{name}: as expected")?,
-        Some((other, line)) => println!(rt; "{name}: {other} in place of {line}")?,
+        None => verdict.push_str("as expected")?,
+        Some((other, line)) => push_form(&mut verdict, "% in place of %", &[other, line])?,
     }
+    Ok(verdict)
+}
+
+/// Prints the line of a case.
+fn print_case<R: AllocGlobal + Print>(
+    rt: &R,
+    name: &str,
+    found: &str,
+    wanted: &str,
+) -> Result<(), Fail> {
+    let verdict = verdict(rt.alloc(), found, wanted)?;
+    println!(rt; "{name}: {verdict}")?;
     Ok(())
 }
 
