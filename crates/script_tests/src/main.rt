@@ -16,13 +16,14 @@ use std::fs;
 use std::test::Fail;
 
 /// The files, in the order in which they are read: a beginning holds for the files after its own too.
-const FILES: [&str; 15] = [
+const FILES: [&str; 16] = [
     "beginnings.txt",
     "words.txt",
     "lines.txt",
     "openings.txt",
     "serve.txt",
     "terminals.txt",
+    "dialogues.txt",
     "messages.txt",
     "sessions.txt",
     "payments.txt",
