@@ -62,14 +62,6 @@ pub fn compare(row: &str, ended: (u8, &MemSink), wanted: (u8, &str)) -> Result<(
     Ok(())
 }
 
-/// A replay of this script ends with this status, and has written this.
-pub fn check(alloc: Global, script: &str, output: &str, status: u8) -> Result<(), Fail> {
-    let mut input = MemSource::new(Bytes::copied(alloc, script.as_bytes())?, None);
-    let mut out = MemSink::new(alloc, None, 0);
-    let ended = ended(alloc, "replay", &mut input, &mut out)?;
-    compare(script, (ended, &out), (status, output))
-}
-
 /// What a replay of this script has written, which ends with status 0.
 pub fn replayed(alloc: Global, script: &str) -> Result<MemSink, Fail> {
     let mut input = MemSource::new(Bytes::copied(alloc, script.as_bytes())?, None);
