@@ -27,8 +27,9 @@ fn push_filled(fields: &mut String, form: &str, values: &str) -> Result<(), Allo
     let mut values = values.split(' ');
     for (number, part) in form.split('%').enumerate() {
         if number > 0 {
-            let value = values.next().unwrap_or("");
-            fields.push_str(value)?;
+            if let Some(value) = values.next() {
+                fields.push_str(value)?;
+            }
         }
         fields.push_str(part)?;
     }

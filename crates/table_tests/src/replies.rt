@@ -66,39 +66,23 @@ fn verdict_of(words: &[&str]) -> Option<Verdict> {
     }
 }
 
-/// An output that was shown at this device.
-fn shown_at(device: &str) -> Option<Shown> {
-    Some(Shown {
-        device: Ident::of(device.as_bytes())?,
-        qualify: Ident::of(b"Display")?,
-        verdict: SUCCESS,
-    })
-}
-
-/// Two outputs at these devices, of which the second has this verdict.
-fn two_outputs(
-    alloc: Global,
-    first: Shown,
-    second: Shown,
-    verdict: Verdict,
-) -> Result<OutputResults, AllocError> {
+/// Two outputs, of which the second was not shown: its device is not there.
+fn two_outputs(alloc: Global) -> Result<OutputResults, AllocError> {
     let mut outputs = Vec::new(alloc);
-    outputs.push(first)?;
-    outputs.push(second)?;
-    let mut outputs = OutputResults::new(outputs);
-    outputs.set_verdict(1, verdict);
-    Ok(outputs)
-}
-
-/// The results of two outputs: the device of each, and why the second failed.
-fn results_of(alloc: Global, words: &[&str]) -> Option<OutputResults> {
-    let [first, second, condition] = words else {
-        return None;
-    };
-    let first = shown_at(first)?;
-    let second = shown_at(second)?;
-    let verdict = failure(condition)?;
-    two_outputs(alloc, first, second, verdict).ok()
+    outputs.push(Shown {
+        device: Ident::known(b"CustomerDisplay"),
+        qualify: Ident::known(b"Display"),
+        verdict: SUCCESS,
+    })?;
+    outputs.push(Shown {
+        device: Ident::known(b"CashierDisplay"),
+        qualify: Ident::known(b"Display"),
+        verdict: Verdict {
+            condition: Some(Condition::UnavailableDevice),
+            path: None,
+        },
+    })?;
+    Ok(OutputResults::new(outputs))
 }
 
 fn fault_kind_of(name: &str) -> Option<FaultKind> {
@@ -187,15 +171,16 @@ fn print_reply(words: &[&str]) -> Option<SaleReply<'static>> {
     })
 }
 
-/// The reply to a Display: the DeviceID, and the results of two outputs.
+/// The reply to a Display with this DeviceID, of two outputs of which the second failed.
 fn display_reply(alloc: Global, words: &[&str]) -> Option<SaleReply<'static>> {
-    let [device, results @ ..] = words else {
+    let [device] = words else {
         return None;
     };
-    Some(SaleReply::Display {
-        header: device_response("Display", device)?,
-        outputs: results_of(alloc, results)?,
-    })
+    let header = device_response("Display", device)?;
+    match two_outputs(alloc) {
+        Ok(outputs) => Some(SaleReply::Display { header, outputs }),
+        Err(_) => None,
+    }
 }
 
 /// The request that shows an intermediate status.

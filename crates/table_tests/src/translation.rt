@@ -1,14 +1,16 @@
 //! What entries and requests are translated to: replies, texts, commands, and conditions of result codes.
-ghost use Rattle.std.specs.Prelude.{IfSome, IfOk};
+ghost use Rattle.std.specs.Prelude.{IfSome};
 ghost use Rattle.xlate.specs.Finished.{IsResolved};
 
 use crate::commands::push_command_line;
 use crate::records::body_of;
 use crate::replies::push_written;
 use anyhow::Context;
+use arrayvec::ArrayVec;
 use gw_base::{Condition, Currency, Ident, Pt, Text};
 use gw_ledger::{Closed, Entry, Found, Totals};
 use jrn_record::{Deal, Intent, Outcome, Record, from_body};
+use sale_reply::SaleReply;
 use std::alloc::{AllocError, Global};
 use std::str;
 use xlate::{command_of, condition_of, reply_of, transaction_text};
@@ -31,15 +33,59 @@ fn entry_of(slot: u32, intent: &[u8; 255], outcome: &[u8; 255]) -> Option<Entry>
     })
 }
 
-/// The entry of words: its slot, and after ` / ` its Intent and its Outcome.
-fn entry_in(alloc: Global, before: &str, words: &str) -> anyhow::Result<Entry>
-    ensures { IfOk result IsResolved }
-{
+/// The reply to the entry of these records, in this slot.
+fn reply_to(slot: u32, intent: &[u8; 255], outcome: &[u8; 255]) -> Option<SaleReply<'static>> {
+    match entry_of(slot, intent, outcome) {
+        Some(entry) => Some(reply_of(&Found::Entry(entry))),
+        None => None,
+    }
+}
+
+/// The text of the entry of these records, in this slot.
+fn text_of(slot: u32, intent: &[u8; 255], outcome: &[u8; 255]) -> Option<ArrayVec<u8, 24>> {
+    match entry_of(slot, intent, outcome) {
+        Some(entry) => Some(transaction_text(&entry)),
+        None => None,
+    }
+}
+
+/// Appends the reply to the entry of these records.
+fn push_reply_to(
+    alloc: Global,
+    out: &mut String,
+    slot: u32,
+    intent: &[u8; 255],
+    outcome: &[u8; 255],
+) -> anyhow::Result<()> {
+    match reply_to(slot, intent, outcome) {
+        Some(reply) => push_written(alloc, out, &reply),
+        None => anyhow::bail!("no entry"),
+    }
+}
+
+/// Appends the text of the entry of these records.
+fn push_text_of(
+    out: &mut String,
+    slot: u32,
+    intent: &[u8; 255],
+    outcome: &[u8; 255],
+) -> anyhow::Result<()> {
+    let text = text_of(slot, intent, outcome).context("no entry")?;
+    write!(out, "> {}\n", str::from_utf8(text.as_slice())?)?;
+    Ok(())
+}
+
+/// The slot of words, and after ` / ` the bodies of the Intent and of the Outcome.
+fn records_of(
+    alloc: Global,
+    before: &str,
+    words: &str,
+) -> anyhow::Result<(u32, [u8; 255], [u8; 255])> {
     let (slot, records) = words.split_once(" / ").context("no slot")?;
     let (intent, outcome) = records.split_once(" / ").context("no records")?;
     let intent = body_of(alloc, before, intent)?;
     let outcome = body_of(alloc, before, outcome)?;
-    entry_of(slot.parse()?, &intent, &outcome).context("no entry")
+    Ok((slot.parse::<u32>()?, intent, outcome))
 }
 
 /// Appends the reply to an entry.
@@ -49,15 +95,14 @@ pub fn push_reply(
     before: &str,
     words: &str,
 ) -> anyhow::Result<()> {
-    let entry = entry_in(alloc, before, words)?;
-    push_written(alloc, out, &reply_of(&Found::Entry(entry)))
+    let (slot, intent, outcome) = records_of(alloc, before, words)?;
+    push_reply_to(alloc, out, slot, &intent, &outcome)
 }
 
 /// Appends the text of an entry.
 pub fn push_text(alloc: Global, out: &mut String, before: &str, words: &str) -> anyhow::Result<()> {
-    let text = transaction_text(&entry_in(alloc, before, words)?);
-    write!(out, "> {}\n", str::from_utf8(text.as_slice())?)?;
-    Ok(())
+    let (slot, intent, outcome) = records_of(alloc, before, words)?;
+    push_text_of(out, slot, &intent, &outcome)
 }
 
 /// Totals in euros of words: the count and the sum of payments, and of reversals.
@@ -70,6 +115,18 @@ fn totals_of(words: &str) -> Option<Totals> {
     })
 }
 
+/// The reply to a reconciliation in this slot with these totals, where the record is one.
+fn reply_to_closed(slot: u32, body: &[u8; 255], totals: Totals) -> Option<SaleReply<'static>> {
+    let Ok(Record::Settled(settled)) = from_body(body) else {
+        return None;
+    };
+    Some(reply_of(&Found::Closed(Closed {
+        slot,
+        settled,
+        totals,
+    })))
+}
+
 /// Appends the reply to a reconciliation: its slot, its record and its totals.
 pub fn push_closed(
     alloc: Global,
@@ -80,15 +137,12 @@ pub fn push_closed(
     let (slot, rest) = words.split_once(" / ").context("no slot")?;
     let (record, totals) = rest.split_once(" / ").context("no totals")?;
     let body = body_of(alloc, before, record)?;
-    let Ok(Record::Settled(settled)) = from_body(&body) else {
-        anyhow::bail!("no reconciliation");
-    };
-    let closed = Closed {
-        slot: slot.parse()?,
-        settled,
-        totals: totals_of(totals).context("no totals")?,
-    };
-    push_written(alloc, out, &reply_of(&Found::Closed(closed)))
+    let slot = slot.parse::<u32>()?;
+    let totals = totals_of(totals).context("no totals")?;
+    match reply_to_closed(slot, &body, totals) {
+        Some(reply) => push_written(alloc, out, &reply),
+        None => anyhow::bail!("no reconciliation"),
+    }
 }
 
 /// A terminal with password 123456.
