@@ -27,10 +27,10 @@ fn opened(alloc: Global, site: &mut SimSite, slots: u32) -> Result<(Journal, Bod
 }
 
 /// The journal of a site's file.
-fn opened_journal(alloc: Global, site: &mut SimSite) -> Result<Journal, OpenFault>
+fn opened_journal(alloc: Global, site: &mut SimSite, slots: u32) -> Result<Journal, OpenFault>
     ensures { IfOk result (λ journal. StandsFor journal (sim_observed site.new)) }
 {
-    let (journal, _) = opened(alloc, site, SLOTS)?;
+    let (journal, _) = opened(alloc, site, slots)?;
     Ok(journal)
 }
 
@@ -53,7 +53,7 @@ fn keep(site: &mut SimSite, journal: &mut Journal, body: &[u8; 255]) -> Result<u
 
 /// The journal is opened, and keeps a body. How many of these two returned Ok before one failed.
 fn keep_one(alloc: Global, site: &mut SimSite, body: &[u8; 255]) -> usize {
-    let Ok(mut journal) = opened_journal(alloc, site) else {
+    let Ok(mut journal) = opened_journal(alloc, site, SLOTS) else {
         return 0;
     };
     if keep(site, &mut journal, body).is_err() {
@@ -189,11 +189,10 @@ fn push_file(out: &mut String, site: &mut SimSite) -> anyhow::Result<()> {
 
 /// Opens a journal of two slots and appends its sizes.
 fn push_opened(alloc: Global, out: &mut String, site: &mut SimSite) -> anyhow::Result<()> {
-    let Ok((journal, _)) = opened(alloc, site, 2) else {
-        anyhow::bail!("no journal");
-    };
-    push_sizes(out, &journal)?;
-    Ok(())
+    match opened_journal(alloc, site, 2) {
+        Ok(journal) => Ok(push_sizes(out, &journal)?),
+        Err(_) => anyhow::bail!("no journal"),
+    }
 }
 
 /// Appends the sizes of a journal of two slots before and after it keeps the second body, its file then, and its sizes as it is
