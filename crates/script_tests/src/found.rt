@@ -28,7 +28,7 @@ fn push_called<S: Site>(
     let status = top(alloc, &words, site, &mut input, &mut out);
     found.push_str(str::from_utf8(out.bytes().as_slice())?)?;
     if status != case.status {
-        found.push_str("another status is returned\n")?;
+        found.push_str("status that is returned: another\n")?;
     }
     if case.is_unread && input.read(&mut [0; 4096]).is_ok() {
         found.push_str("the input was read\n")?;
