@@ -1,6 +1,6 @@
 //! Messages of tills, read and written.
-use crate::commands::push_command_line;
 use crate::frames::push_in_two_chunks;
+use case_files::push_bytes;
 use gw_base::{Ident, Key};
 use json_text::read;
 use sale_msg::{
@@ -11,6 +11,7 @@ use sale_values::{Class, ReversalAsk};
 use std::alloc::{AllocError, Global};
 use std::str;
 use xlate::show_of;
+use zvt_msg::Command;
 
 /// A request of class Service, with ServiceID 1, SaleID S1 and POIID T1.
 fn request(alloc: Global, category: &str, body: &str) -> Result<String, AllocError> {
@@ -170,13 +171,26 @@ fn push_message(alloc: Global, out: &mut String, text: &str) -> anyhow::Result<(
     Ok(())
 }
 
+/// Appends the lines of a command that shows them.
+fn push_lines(out: &mut String, command: &Command) -> anyhow::Result<()> {
+    let Command::Show { lines } = command else {
+        anyhow::bail!("no lines");
+    };
+    out.push_str("> show")?;
+    for line in lines.as_slice() {
+        out.push_str(" ")?;
+        push_bytes(out, line.as_slice())?;
+    }
+    Ok(out.push_str("\n")?)
+}
+
 /// Appends what a terminal shows of a Display, or `> none`.
 fn push_shown(alloc: Global, out: &mut String, text: &str) -> anyhow::Result<()> {
     let Ok(Incoming::Request(_, SaleRequest::Display(outputs))) = &message(alloc, text)? else {
         anyhow::bail!("no Display");
     };
     match show_of(outputs) {
-        Some(command) => Ok(push_command_line(out, &command)?),
+        Some(command) => push_lines(out, &command),
         None => Ok(out.push_str("> none\n")?),
     }
 }

@@ -1,6 +1,6 @@
 //! The ledger of records, and what it says of till `S` and terminal `A`.
-use crate::records::{body_of, form_of};
 use anyhow::Context;
+use case_files::{body_of, form_of};
 use gw_base::{Bodies, Currency, Ident, Key};
 use gw_ledger::{Closed, Entry, Found, Ledger, LedgerFault, Totals};
 use std::alloc::{AllocError, Global};

@@ -1,7 +1,7 @@
 -- What the loop of `push_by_byte` keeps, and why it ends.
 use Rattle.std.proofs.Common.{◌≡◌}
 use Rattle.zvt_apdu.specs.Decode.{DecodedApdu, decode_apdu}
-use Rattle.table_tests.proofs.apdus.push_by_byte.Given as goal
+use Rattle.terminal_tests.proofs.apdus.push_by_byte.Given as goal
 
 -- what waits is less than an APDU
 abbrev pub invariant-loop-byte : goal.invariant-loop-byte
