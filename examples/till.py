@@ -1,7 +1,7 @@
 """A till for the gateway in one file: payments, reversals and reconciliations that survive lost connections, restarts and power failures.
 
     till = Till(("127.0.0.1", 7000), "T1", "till.json", "till-1")
-    reply = till.resume() or till.pay(1099, "EUR", "27908")
+    reply = till.resume() or till.pay(1099, "EUR", "27908")  # after a restart: is_unaccepted first
     print(reply.result, reply.condition, reply.cents, reply.transaction)
     till.done()  # once your own books have it
 
@@ -50,10 +50,12 @@ class Connection:
     """One connection and its one stream, out of which whole messages are read."""
 
     def __init__(self, address, tls=None):
-        self.got = b""
+        self.got, self.owed = b"", 0  # how many replies are still to come to what was sent of the open request
         try:
             self.socket = socket.create_connection(address, AT_ONCE)
             self.socket.setsockopt(socket.IPPROTO_TCP, socket.TCP_NODELAY, 1)
+            # its end is a reset, also if the till is killed: what the system hasn't sent yet is dropped, and not delivered later
+            self.socket.setsockopt(socket.SOL_SOCKET, socket.SO_LINGER, struct.pack("ii", 1, 0))
             if tls:
                 self.socket = tls.wrap_socket(self.socket, server_hostname=address[0])
         except OSError as fault:
@@ -88,11 +90,6 @@ class Connection:
             if not more:
                 raise Lost("the gateway has closed the connection")
             self.got += more
-
-    def give_up(self):
-        """Closes it by a reset: what the system hasn't sent yet is dropped, and not delivered later."""
-        self.socket.setsockopt(socket.SOL_SOCKET, socket.SO_LINGER, struct.pack("ii", 1, 0))
-        self.socket.close()
 
     def close(self):
         self.socket.close()
@@ -190,10 +187,13 @@ class Till:
         amounts = {"Currency": currency, "RequestedAmount": cents / 100}
         return self._begin("Payment", {"SaleData": sale, "PaymentTransaction": {"AmountsReq": amounts}}, patience)
 
-    def reverse(self, transaction, patience=PATIENCE):
-        """Gives a whole payment back; `transaction` is that of the payment's reply."""
-        original = {"POITransactionID": {"TransactionID": transaction}}
-        return self._begin("Reversal", {"OriginalPOITransaction": original, "ReversalReason": "MerchantCancel"}, patience)
+    def reverse(self, transaction, cents=None, patience=PATIENCE):
+        """Gives a whole payment back; `transaction` and `cents` are those of the payment's reply. Without `cents` nothing checks that it is that
+        payment."""
+        body = {"OriginalPOITransaction": {"POITransactionID": {"TransactionID": transaction}}, "ReversalReason": "MerchantCancel"}
+        if cents is not None:
+            body["ReversedAmount"] = cents / 100
+        return self._begin("Reversal", body, patience)
 
     def reconcile(self, kind="SaleReconciliation", patience=PATIENCE):
         return self._begin("Reconciliation", {"ReconciliationType": kind}, patience)
@@ -203,8 +203,15 @@ class Till:
         """The request that has no end yet, or whose end wasn't confirmed, with its category and its body; None if there is no such request."""
         return self.memory.value["open"]
 
+    def is_unaccepted(self):
+        """Whether that request was sent before, and the gateway doesn't know it so far. Then `resume` would begin it. So the cashier chooses
+        that, or `abort` before `resume`, which stops it. It raises Lost if the gateway can't be asked."""
+        request = self.request
+        is_open = request is not None and "reply" not in request
+        return is_open and self.status(request["service"], poi=request["poi"]).condition == "NotFound"
+
     def resume(self, patience=PATIENCE):
-        """The end of that request, as after a restart of the till; None if there is no such request."""
+        """The end of that request, as after a restart of the till; None if there is no such request. It sends the request again."""
         request = self.request
         if not request:
             return None
@@ -286,12 +293,13 @@ class Till:
         began = heard = time.monotonic()
         again, is_pinged, is_stopped = began + SILENCE, False, False
         while time.monotonic() < end:
+            if time.monotonic() >= again:
+                self._send_open(request)
+                # an Abort goes out right after each sending of a request that is stopped
+                again, is_stopped = time.monotonic() + SILENCE, False
             if self.is_to_stop.is_set() and not is_stopped:
                 self._send("Abort", self._own_number(), {"MessageReference": {"ServiceID": request["service"]}}, request["poi"])
                 is_stopped = True
-            if time.monotonic() >= again:
-                self._send_open(request)
-                again = time.monotonic() + SILENCE
             message = self.connection.receive(0.2)
             now = time.monotonic()
             if message is None:
@@ -303,7 +311,8 @@ class Till:
                 continue
             heard, is_pinged = now, False
             reply = self._reply_in(message, request)
-            if reply and reply.condition != "InProgress":
+            # a refusal isn't the end while another sending has no reply: that one may have been accepted
+            if reply and reply.condition != "InProgress" and (reply.is_recorded() or self.connection.owed <= 0):
                 return self._checked(request, reply)
             if reply:
                 again = now + AGAIN
@@ -316,6 +325,7 @@ class Till:
         try:
             body = self._take(message, request["category"], request["service"])
         except Rejected as fault:
+            self.connection.owed -= 1
             body = {"Response": {"Result": "Failure", "ErrorCondition": "MessageFormat", "AdditionalResponse": str(fault)}}
         return None if body is None else Reply(body)
 
@@ -329,6 +339,7 @@ class Till:
         is_used = is_refused and self.status(request["service"], poi=request["poi"]).condition != "NotFound"
         if is_used or reply.body.get("SaleData", request["body"]["SaleData"]) != request["body"]["SaleData"]:
             self.memory.renew()
+            self._give_up()
             raise Used("ServiceID %s was used for another sale: this one isn't paid" % request["service"])
         return reply
 
@@ -339,6 +350,7 @@ class Till:
         return reply
 
     def _send_open(self, request):
+        self.connection.owed += 1
         self._send(request["category"], request["service"], request["body"], request["poi"])
 
     # --- one message
@@ -375,8 +387,10 @@ class Till:
         (kind, content), = message.items()
         header = content["MessageHeader"]
         if kind == "SaleToPOIResponse":
-            is_its = (header["MessageCategory"], header.get("ServiceID")) == (category, service)
-            return content[category + "Response"] if is_its else None
+            its = (header["MessageCategory"], header.get("ServiceID"))
+            if self.request and its == (self.request["category"], self.request["service"]):
+                self.connection.owed -= 1
+            return content[category + "Response"] if its == (category, service) else None
         if "EventNotification" in content and content["EventNotification"]["EventDetails"] != "abort":
             raise Rejected(content["EventNotification"]["EventDetails"])
         if "DisplayRequest" in content and self.on_show:
@@ -390,6 +404,4 @@ class Till:
             self.connection = Connection(self.address, self.tls)
 
     def _give_up(self):
-        if self.connection:
-            self.connection.give_up()
-        self.connection = None
+        self.close()

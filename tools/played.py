@@ -1,5 +1,6 @@
 """A terminal and a till of Python's sockets, and a gateway between them, for the scripts beside this file."""
 import collections
+import contextlib
 import json
 import os
 import signal
@@ -81,6 +82,8 @@ class Terminal:
     A payment is approved at once, after the lines of `prints`. Where `holds` is set nothing is said of the next payment that is booked
     but its acknowledgement, until it is released. Where `loses` is set the next payment is acknowledged and not booked, and its connection
     ends once it is released."""
+
+    password = "123456"
 
     def __init__(self, prints=(), address=("127.0.0.1", 0)):
         self.listener = socket.create_server(address)
@@ -239,15 +242,18 @@ def body_of(message, category):
 class Gateway:
     """The program in the mode `serve`, with a configuration for these terminals and a journal."""
 
-    def __init__(self, program, journal, terminals, listen=None, line=2):
+    def __init__(self, program, journal, terminals, listen=None, line=2, env=None):
         self.listen = listen or free_address()
         parts = ['listen = "%s"' % text_of(self.listen), 'journal = "%s"' % journal, "line = %d" % line]
         for number, terminal in enumerate(terminals):
-            parts += ["[[terminal]]", 'poi = "T%d"' % (number + 1), 'address = "%s"' % text_of(terminal.address), 'currency = "EUR"', 'password = "123456"', "config = 186"]
+            parts += ["[[terminal]]", 'poi = "T%d"' % (number + 1), 'address = "%s"' % text_of(terminal.address), 'currency = "EUR"', 'password = "%s"' % terminal.password, "config = 186"]
         self.configuration = "".join(part + "\n" for part in parts)
-        self.process = subprocess.Popen([program, "serve"], stdin=subprocess.PIPE, stdout=subprocess.PIPE)
-        self.process.stdin.write(self.configuration.encode())
-        self.process.stdin.close()
+        self.printed = ""
+        self.process = subprocess.Popen([program, "serve"], stdin=subprocess.PIPE, stdout=subprocess.PIPE, env=env)
+        # a program that has ended already reads nothing
+        with contextlib.suppress(BrokenPipeError):
+            self.process.stdin.write(self.configuration.encode())
+            self.process.stdin.close()
 
     def till(self, sale="S1"):
         """A till that is connected, once the gateway listens."""
@@ -257,7 +263,7 @@ class Gateway:
                 return Till(self.listen, sale)
             except Lost:
                 if self.process.poll() is not None or time.monotonic() > end:
-                    raise Differs("the gateway doesn't listen: %r" % self.ended())
+                    raise Differs("the gateway doesn't listen: %r" % (self.ended(),))
                 time.sleep(0.005)
 
     def wait_ready(self, till, pois):
@@ -277,8 +283,8 @@ class Gateway:
     def ended(self):
         """What it has printed and its status, once it has ended by itself."""
         try:
-            out = self.process.stdout.read().decode()
-            return out, self.process.wait(PATIENCE)
+            self.printed += self.process.stdout.read().decode()
+            return self.printed, self.process.wait(PATIENCE)
         except subprocess.TimeoutExpired:
             raise Differs("the gateway doesn't end")
 

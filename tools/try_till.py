@@ -139,6 +139,7 @@ class Bench:
         self.program, self.journal = program, os.path.join(folder, "gateway.jrn")
         self.terminal = Terminal()
         self.to_terminal = Relay(self.terminal.address, self.is_wanted)
+        self.to_terminal.password = self.terminal.password
         self.listen = free_address()
         self.to_gateway = Relay(self.listen, self.is_wanted)
         self.started, self.guard = [], threading.Lock()

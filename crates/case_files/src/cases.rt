@@ -7,6 +7,11 @@ pub trait Questions {
     fn push_result(alloc: Global, out: &mut String, before: &str, line: &str) -> anyhow::Result<()>;
 }
 
+/// What appended a result, as a question returns it.
+pub fn done(appended: Result<(), AllocError>) -> anyhow::Result<()> {
+    Ok(appended?)
+}
+
 /// The first line of a part of a file, and the others.
 fn heading(part: &str) -> (&str, &str) {
     part.split_once('\n').unwrap_or((part, ""))

@@ -2,6 +2,8 @@
 #![tactic(auto)]
 
 #[cfg(test)]
+mod fixture;
+#[cfg(test)]
 mod played_terminal_tests;
 #[cfg(test)]
 mod recovery_tests;

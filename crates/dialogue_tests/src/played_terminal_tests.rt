@@ -1,5 +1,5 @@
 //! What a played terminal sends for a stream of commands, and what its book holds then.
-use gw_base::{Currency, Ident, Pt, Text};
+use crate::fixture::{heard, terminal_of};
 use pt_core::{BookEntry, Play, Plays, Terminal};
 use std::alloc::{AllocError, Global};
 use std::process::Abort;
@@ -129,42 +129,49 @@ const BOOK: [BookEntry; 4] = [
     },
 ];
 
-fn setup(alloc: Global, rt: &impl Abort) -> Result<Pt, AllocError> {
-    Ok(Pt {
-        poi: Ident::of(b"T1").expect(rt, "a POIID"),
-        address: Text::new(String::from_str(alloc, "127.0.0.1:20007")?),
-        password: [0x12, 0x34, 0x56],
-        currency: Currency::Eur,
-        config: 0xBA,
-        none: 0x83,
-        answer: 5,
-        command: 180,
-    })
+/// The terminal sends for a row what it says. Without bytes it gets a new link.
+fn check_row(
+    rt: &impl Abort,
+    alloc: Global,
+    terminal: &mut Terminal,
+    number: usize,
+    row: &Row,
+) -> Result<(), Fail> {
+    let (sent, bytes, cut) = row;
+    if sent.is_empty() {
+        terminal.on_link();
+    }
+    let got = heard(alloc, terminal, sent)?;
+    assert!(rt;
+        got.bytes.as_slice() == *bytes,
+        "row {number}: {:?}",
+        got.bytes
+    );
+    assert_eq!(rt; got.cut, *cut, "row {number}");
+    Ok(())
 }
 
-#[test]
-fn a_stream_of_commands(rt: HostRuntime) -> Result<(), Fail> {
-    let pt = setup(rt.alloc(), &rt)?;
-    assert!(rt; pt.is_within_limits());
-    let plays = vec![in rt.alloc();
+fn check_rows(rt: &impl Abort, alloc: Global, terminal: &mut Terminal) -> Result<(), Fail> {
+    for (number, row) in ROWS.iter().enumerate() {
+        check_row(rt, alloc, terminal, number, row)?;
+    }
+    Ok(())
+}
+
+fn plays(alloc: Global) -> Result<Plays, AllocError> {
+    let plays = vec![in alloc;
         Play::Approve,
         Play::Decline(0x6C),
         Play::CutAfterBook,
         Play::DropAtOnce,
     ]?;
-    let mut terminal = Terminal::new(rt.alloc(), &pt, Plays::new(plays))?;
-    for (row, (sent, bytes, cut)) in ROWS.iter().enumerate() {
-        if sent.is_empty() {
-            terminal.on_link();
-        }
-        let got = terminal.on_bytes(rt.alloc(), sent)?;
-        assert!(rt;
-            got.bytes.as_slice() == *bytes,
-            "row {row}: {:?}",
-            got.bytes
-        );
-        assert_eq!(rt; got.cut, *cut, "row {row}");
-    }
+    Ok(Plays::new(plays))
+}
+
+#[test]
+fn a_stream_of_commands(rt: HostRuntime) -> Result<(), Fail> {
+    let mut terminal = terminal_of(rt.alloc(), plays(rt.alloc())?)?;
+    check_rows(&rt, rt.alloc(), &mut terminal)?;
     assert!(rt; terminal.book().as_slice() == BOOK.as_slice());
     Ok(())
 }

@@ -4,9 +4,9 @@
 //! The terminal is a played one. A script is played from its start, again and again, each time with what the terminal has sent at the log of
 //! the time before. No line of a script is taken before the first poll of a run, so the power fails in no opening here; `gateway_tests` has
 //! those.
+use crate::fixture::{heard, terminal_of};
 use gateway_play::replayed;
-use gw_base::{Currency, Ident, Pt, Text};
-use pt_core::{Play, Plays, Terminal};
+use pt_core::{Answer, Play, Plays, Terminal};
 use row_texts::{halves, push_form, push_paid, push_played};
 use std::alloc::{AllocError, Global};
 use std::process::Abort;
@@ -53,7 +53,7 @@ struct Request {
     /// The words of its reply and of the one that repeats it.
     reply: &'static str,
     repeated: &'static str,
-    /// What these say where the terminal has booked it, and the transaction that they name where it hasn't.
+    /// What these name where the terminal has booked it, and where it hasn't.
     done: &'static str,
     undone: &'static str,
     is_reversal: bool,
@@ -67,7 +67,7 @@ const PAYMENT: Request = Request {
     command: "pt 0 out 0601",
     reply: "result",
     repeated: "repeats",
-    done: "Success 000001-0001-0 10.99",
+    done: "000001-0001-0 10.99",
     undone: "000000-0000-0",
     is_reversal: false,
 };
@@ -80,7 +80,7 @@ const REVERSAL: Request = Request {
     command: "pt 0 out 0630",
     reply: "reversed",
     repeated: "repeats_reversed",
-    done: "Success 000002-0002-2 10.99",
+    done: "000002-0002-2 10.99",
     undone: "000000-0000-2",
     is_reversal: true,
 };
@@ -192,22 +192,6 @@ struct Trial {
     is_cut: bool,
 }
 
-/// A terminal that does this at its first payment.
-fn terminal_of(rt: &impl Abort, alloc: Global, play: Play) -> Result<Terminal, Fail> {
-    let pt = Pt {
-        poi: Ident::of(b"T1").ok_or("no POIID")?,
-        address: Text::new(String::new(alloc)),
-        password: [0x12, 0x34, 0x56],
-        currency: Currency::Eur,
-        config: 0xBA,
-        none: 0x83,
-        answer: 5,
-        command: 180,
-    };
-    assert!(rt; pt.is_within_limits());
-    Ok(Terminal::new(alloc, &pt, Plays::new(vec![in alloc; play]?))?)
-}
-
 impl Trial {
     /// What the terminal has sent doesn't arrive any more.
     fn forget(&mut self) {
@@ -215,12 +199,30 @@ impl Trial {
         self.is_cut = false;
     }
 
-    /// The terminal hears these bytes.
-    fn hear(&mut self, alloc: Global, digits: &str) -> Result<(), Fail> {
-        let answer = self.terminal.on_bytes(alloc, &hex::decode(alloc, digits)?)?;
-        self.sent
-            .push_str(&hex::encode(alloc, answer.bytes.as_slice())?)?;
+    /// The terminal is linked anew.
+    fn link(&mut self) {
+        self.terminal.on_link();
+        self.forget();
+    }
+
+    /// The terminal sends this.
+    fn send(&mut self, alloc: Global, answer: &Answer) -> Result<(), AllocError> {
+        let digits = hex::encode(alloc, answer.bytes.as_slice())?;
+        self.sent.push_str(&digits)?;
         self.is_cut = self.is_cut || answer.cut;
+        Ok(())
+    }
+
+    /// The terminal hears these bytes.
+    fn hear_bytes(&mut self, alloc: Global, bytes: &[u8]) -> Result<(), AllocError> {
+        let answer = heard(alloc, &mut self.terminal, bytes)?;
+        self.send(alloc, &answer)
+    }
+
+    /// The terminal hears these bytes, in hexadecimal.
+    fn hear(&mut self, alloc: Global, digits: &str) -> Result<(), Fail> {
+        let bytes = hex::decode(alloc, digits)?;
+        self.hear_bytes(alloc, &bytes)?;
         Ok(())
     }
 
@@ -231,38 +233,50 @@ impl Trial {
         Ok(())
     }
 
+    /// The terminal meets what a line of the log says of its bytes.
+    fn meet_bytes(&mut self, alloc: Global, words: &str) -> Result<(), Fail> {
+        if let Some(digits) = words.strip_prefix("0 out ") {
+            self.hear(alloc, digits)
+        } else if let Some(digits) = words.strip_prefix("0 in ") {
+            self.bring(alloc, digits)
+        } else {
+            Ok(())
+        }
+    }
+
     /// The terminal meets a line of the log.
     fn meet(&mut self, alloc: Global, line: &str) -> Result<(), Fail> {
         let (word, rest) = halves(line);
         match word {
-            "link" => {
-                self.terminal.on_link();
-                self.forget();
-            }
+            "link" => self.link(),
             "lost" | "power" => self.forget(),
-            "pt" => {
-                if let Some(digits) = rest.strip_prefix("0 out ") {
-                    self.hear(alloc, digits)?;
-                } else if let Some(digits) = rest.strip_prefix("0 in ") {
-                    self.bring(alloc, digits)?;
-                }
-            }
+            "pt" => self.meet_bytes(alloc, rest)?,
             _ => {}
         }
+        Ok(())
+    }
+
+    /// The terminal meets these lines of the log.
+    fn meet_all(&mut self, alloc: Global, lines: &str) -> Result<(), Fail> {
+        for line in lines.split('\n') {
+            self.meet(alloc, line)?;
+        }
+        Ok(())
+    }
+
+    /// The terminal meets what is new in this log, which a last poll ends.
+    fn follow(&mut self, alloc: Global, text: &str) -> Result<(), Fail> {
+        let (log, _) = text.rsplit_once("at ").ok_or("no last poll")?;
+        let new = log.strip_prefix(self.log.as_str()).ok_or("another log")?;
+        self.meet_all(alloc, new)?;
+        self.log = String::from_str(alloc, log)?;
         Ok(())
     }
 
     /// Plays the script. The terminal meets what is new in the log.
     fn play(&mut self, alloc: Global) -> Result<(), Fail> {
         let out = replayed(alloc, &self.script)?;
-        let text = str::from_utf8(out.bytes().as_slice())?;
-        let (log, _) = text.rsplit_once("at ").ok_or("no last poll")?;
-        let new = log.strip_prefix(self.log.as_str()).ok_or("another log")?;
-        for line in new.split('\n') {
-            self.meet(alloc, line)?;
-        }
-        self.log = String::from_str(alloc, log)?;
-        Ok(())
+        self.follow(alloc, str::from_utf8(out.bytes().as_slice())?)
     }
 
     /// Adds to the script what the terminal has sent. False where that is nothing.
@@ -277,11 +291,17 @@ impl Trial {
         Ok(true)
     }
 
-    /// Adds these lines, and plays the script until the terminal has no more to send.
-    fn go_on(&mut self, alloc: Global, lines: &str) -> Result<(), Fail> {
+    /// Adds these lines to the script.
+    fn add(&mut self, lines: &str) -> Result<(), Fail> {
         for line in lines.split('\n') {
             push_played(&mut self.script, line)?;
         }
+        Ok(())
+    }
+
+    /// Adds these lines, and plays the script until the terminal has no more to send.
+    fn go_on(&mut self, alloc: Global, lines: &str) -> Result<(), Fail> {
+        self.add(lines)?;
         for _ in 0..MOST_PLAYS {
             self.play(alloc)?;
             if !self.add_sent()? {
@@ -291,17 +311,34 @@ impl Trial {
         Err(Fail::from("the terminal sends more and more"))
     }
 
+    /// A till connects.
+    fn open(&mut self, alloc: Global, till: u64) -> Result<(), Fail> {
+        let line = format!(in alloc; "open {till}")?;
+        self.go_on(alloc, &line)
+    }
+
+    /// A till asks what became of the request, and sends it again.
+    fn ask_and_repeat(&mut self, alloc: Global, request: &Request, till: u64) -> Result<(), Fail> {
+        let (word, service, content) = (request.word, request.service, request.content);
+        let lines = format!(in alloc;
+            "status {till} 8 {service}\n{word} {till} {service} {content}"
+        )?;
+        self.go_on(alloc, &lines)
+    }
+
+    /// A till asks once more what became of the request.
+    fn ask_again(&mut self, alloc: Global, request: &Request, till: u64) -> Result<(), Fail> {
+        let line = format!(in alloc; "status {till} 9 {}", request.service)?;
+        self.go_on(alloc, &line)
+    }
+
     /// Another till connects. Once the terminal is ready, it asks what became of the request, sends it again, and asks once more what
     /// became of it. How many commands had been sent before that.
     fn recover(&mut self, alloc: Global, request: &Request, till: u64) -> Result<usize, Fail> {
-        let (word, service, content) = (request.word, request.service, request.content);
-        self.go_on(alloc, &format!(in alloc; "open {till}")?)?;
+        self.open(alloc, till)?;
         let commands = self.commands(request);
-        self.go_on(
-            alloc,
-            &format!(in alloc; "status {till} 8 {service}\n{word} {till} {service} {content}")?,
-        )?;
-        self.go_on(alloc, &format!(in alloc; "status {till} 9 {service}")?)?;
+        self.ask_and_repeat(alloc, request, till)?;
+        self.ask_again(alloc, request, till)?;
         Ok(commands)
     }
 
@@ -338,30 +375,103 @@ impl Trial {
         Ok(self.log.contains(wanted.as_str()))
     }
 
+    /// Whether the log has a line that begins so, and then has this end and names this.
+    fn says(&self, alloc: Global, begins: &str, end: &str, named: &str) -> Result<bool, Fail> {
+        let line = format!(in alloc; "{begins} {end} {named}")?;
+        self.has(alloc, &line)
+    }
+
     /// Whether the log has a line that begins so, and ends as the terminal's book says.
-    fn agrees(&self, alloc: Global, request: &Request, line: &str) -> Result<bool, Fail> {
-        let (done, undone) = (request.done, request.undone);
+    fn agrees(&self, alloc: Global, request: &Request, begins: &str) -> Result<bool, Fail> {
         if self.booked(request) > 0 {
-            return self.has(alloc, &format!(in alloc; "{line} {done}")?);
+            return self.says(alloc, begins, "Success", request.done);
         }
-        let declined = self.has(alloc, &format!(in alloc; "{line} Cancel {undone}")?)?;
-        Ok(declined || self.has(alloc, &format!(in alloc; "{line} Aborted {undone}")?)?)
+        let is_declined = self.says(alloc, begins, "Cancel", request.undone)?;
+        Ok(is_declined || self.says(alloc, begins, "Aborted", request.undone)?)
+    }
+
+    /// Whether the reply to the request agrees with the book.
+    fn reply_agrees(&self, alloc: Global, request: &Request, till: u64) -> Result<bool, Fail> {
+        let begins = format!(in alloc; "{} {till} {}", request.reply, request.service)?;
+        self.agrees(alloc, request, &begins)
+    }
+
+    /// Whether the reply to the status of this ServiceID agrees with the book.
+    fn status_agrees(
+        &self,
+        alloc: Global,
+        request: &Request,
+        till: u64,
+        own: u64,
+    ) -> Result<bool, Fail> {
+        let begins = format!(in alloc; "{} {till} {own} {}", request.repeated, request.service)?;
+        self.agrees(alloc, request, &begins)
+    }
+
+    /// Whether the request was not found by the first status.
+    fn is_unknown(&self, alloc: Global, till: u64) -> Result<bool, Fail> {
+        let line = format!(in alloc; "fails TransactionStatus {till} 8 NotFound")?;
+        self.has(alloc, &line)
+    }
+}
+
+/// A terminal that does this at its first payment.
+fn terminal_playing(alloc: Global, play: Play) -> Result<Terminal, Fail> {
+    let plays = vec![in alloc; play]?;
+    terminal_of(alloc, Plays::new(plays))
+}
+
+/// This script, which isn't played yet, and this terminal.
+fn trial_with(alloc: Global, script: String, terminal: Terminal) -> Trial {
+    Trial {
+        script,
+        log: String::new(alloc),
+        terminal,
+        sent: String::new(alloc),
+        is_cut: false,
     }
 }
 
 /// This script, which isn't played yet, and a terminal that does this at its first payment.
-fn trial_of(rt: &impl Abort, alloc: Global, script: &str, play: Play) -> Result<Trial, Fail> {
-    Ok(Trial {
-        script: String::from_str(alloc, script)?,
-        log: String::new(alloc),
-        terminal: terminal_of(rt, alloc, play)?,
-        sent: String::new(alloc),
-        is_cut: false,
-    })
+fn trial_of(alloc: Global, script: &str, play: Play) -> Result<Trial, Fail> {
+    let script = String::from_str(alloc, script)?;
+    let terminal = terminal_playing(alloc, play)?;
+    Ok(trial_with(alloc, script, terminal))
 }
 
-/// Another till gets what the terminal's book says. The request was sent and booked once at most, and no stop was sent for another: a repeat
-/// sends the request only where it was not found, and then it had not been sent. Whether it was not found.
+/// The replies that another till has got agree with the terminal's book. Whether the request was not found.
+fn check_replies(
+    rt: &impl Abort,
+    alloc: Global,
+    trial: &Trial,
+    request: &Request,
+    till: u64,
+) -> Result<bool, Fail> {
+    let is_unknown = trial.is_unknown(alloc, till)?;
+    let first_agrees = trial.status_agrees(alloc, request, till, 8)?;
+    let again_agrees = trial.reply_agrees(alloc, request, till)?;
+    let last_agrees = trial.status_agrees(alloc, request, till, 9)?;
+    let log = trial.log.as_str();
+    assert!(rt; first_agrees != is_unknown, "the first status: {log}");
+    assert!(rt;
+        again_agrees && last_agrees,
+        "the reply and the last status: {log}"
+    );
+    Ok(is_unknown)
+}
+
+/// The request was sent and booked once at most, and no stop was sent for another: a repeat sends the request only where it was not found,
+/// and then it had not been sent.
+fn check_commands(rt: &impl Abort, trial: &Trial, case: &Case, before: usize, is_unknown: bool) {
+    let request = &case.request;
+    let log = trial.log.as_str();
+    let wanted = if is_unknown { (0, 1) } else { (before, before) };
+    assert_eq!(rt; (before, trial.commands(request)), wanted, "{log}");
+    assert!(rt; before <= 1 && trial.booked(request) <= 1, "once: {log}");
+    assert!(rt; trial.stops() <= case.stops, "stops: {log}");
+}
+
+/// Another till gets what the terminal's book says. Whether the request was not found.
 fn check_end(
     rt: &impl Abort,
     alloc: Global,
@@ -369,30 +479,53 @@ fn check_end(
     case: &Case,
     till: u64,
 ) -> Result<bool, Fail> {
-    let request = &case.request;
-    let (service, reply, repeated) = (request.service, request.reply, request.repeated);
-    let before = trial.recover(alloc, request, till)?;
-    let unknown = trial.has(
-        alloc,
-        &format!(in alloc; "fails TransactionStatus {till} 8 NotFound")?,
-    )?;
-    let first = format!(in alloc; "{repeated} {till} 8 {service}")?;
-    let again = format!(in alloc; "{reply} {till} {service}")?;
-    let last = format!(in alloc; "{repeated} {till} 9 {service}")?;
-    let first_agrees = trial.agrees(alloc, request, &first)?;
-    let again_agrees = trial.agrees(alloc, request, &again)?;
-    let last_agrees = trial.agrees(alloc, request, &last)?;
-    let log = trial.log.as_str();
-    assert!(rt; first_agrees != unknown, "the first status: {log}");
-    assert!(rt;
-        again_agrees && last_agrees,
-        "the reply and the last status: {log}"
-    );
-    let wanted = if unknown { (0, 1) } else { (before, before) };
-    assert_eq!(rt; (before, trial.commands(request)), wanted, "{log}");
-    assert!(rt; before <= 1 && trial.booked(request) <= 1, "once: {log}");
-    assert!(rt; trial.stops() <= case.stops, "stops: {log}");
-    Ok(unknown)
+    let before = trial.recover(alloc, &case.request, till)?;
+    let is_unknown = check_replies(rt, alloc, trial, &case.request, till)?;
+    check_commands(rt, trial, case, before, is_unknown);
+    Ok(is_unknown)
+}
+
+/// After how many calls the power fails, and what it leaves.
+#[derive(Clone, Copy)]
+struct Failure<'a> {
+    calls: u64,
+    image: &'a str,
+}
+
+/// Lets the power fail, and adds these lines.
+fn fail(alloc: Global, trial: &mut Trial, failure: Failure<'_>, lines: &str) -> Result<(), Fail> {
+    let Failure { calls, image } = failure;
+    let lines = format!(in alloc; "power {calls} {image}{lines}")?;
+    trial.go_on(alloc, &lines)
+}
+
+/// The power fails in this trial once more, if another till doesn't get all before. Whether it does.
+fn fails_again(
+    rt: &impl Abort,
+    alloc: Global,
+    trial: &mut Trial,
+    case: &Case,
+    failure: Failure<'_>,
+) -> Result<bool, Fail> {
+    fail(alloc, trial, failure, "")?;
+    trial.recover(alloc, &case.request, 2)?;
+    if trial.failures() < 2 {
+        return Ok(false);
+    }
+    check_end(rt, alloc, trial, case, 3)?;
+    Ok(true)
+}
+
+/// As [`fails_again`], of a trial of this script.
+fn script_fails_again(
+    rt: &impl Abort,
+    alloc: Global,
+    script: &str,
+    case: &Case,
+    failure: Failure<'_>,
+) -> Result<bool, Fail> {
+    let mut trial = trial_of(alloc, script, case.play)?;
+    fails_again(rt, alloc, &mut trial, case, failure)
 }
 
 /// The power, which fails in this script, fails again after each call of the run that comes next, until it no longer does.
@@ -404,69 +537,97 @@ fn check_next(
     image: &str,
 ) -> Result<(), Fail> {
     for calls in 0..MOST_CALLS {
-        let mut trial = trial_of(rt, alloc, script, case.play)?;
-        trial.go_on(alloc, &format!(in alloc; "power {calls} {image}")?)?;
-        trial.recover(alloc, &case.request, 2)?;
-        if trial.failures() < 2 {
+        if !script_fails_again(rt, alloc, script, case, Failure { calls, image })? {
             assert!(rt; calls > FEWEST_CALLS, "after {calls} calls of {script}");
             return Ok(());
         }
-        check_end(rt, alloc, &mut trial, case, 3)?;
     }
     Err(Fail::from("the power fails again and again"))
 }
 
-/// The script of a case, in which the power fails after so many calls of the request.
-fn failing_trial(
-    rt: &impl Abort,
+/// A till asks for what comes before the request of a case and for that request, in which the power fails.
+fn play_request(
     alloc: Global,
+    trial: &mut Trial,
     case: &Case,
-    calls: u64,
-    image: &str,
-) -> Result<Trial, Fail> {
+    failure: Failure<'_>,
+) -> Result<(), Fail> {
     let request = &case.request;
     let (word, service, content) = (request.word, request.service, request.content);
     let after = case.after;
-    let mut trial = trial_of(rt, alloc, READY, case.play)?;
     trial.go_on(alloc, case.before)?;
-    trial.go_on(
-        alloc,
-        &format!(in alloc; "power {calls} {image}\n{word} 1 {service} {content}{after}")?,
-    )?;
+    let lines = format!(in alloc; "\n{word} 1 {service} {content}{after}")?;
+    fail(alloc, trial, failure, &lines)
+}
+
+/// The script of a case, in which the power fails in the request.
+fn failing_trial(alloc: Global, case: &Case, failure: Failure<'_>) -> Result<Trial, Fail> {
+    let mut trial = trial_of(alloc, READY, case.play)?;
+    play_request(alloc, &mut trial, case, failure)?;
     if trial.failures() == 0 {
         trial.go_on(alloc, case.later)?;
     }
     Ok(trial)
 }
 
-/// The power fails after so many calls of a request, and then once more or not. A payment that was stopped isn't said to be cancelled.
+/// The power doesn't fail in the request of a case.
+fn check_whole(rt: &impl Abort, trial: &Trial, case: &Case) {
+    let script = trial.script.as_str();
+    assert_eq!(rt; trial.failures(), 0, "of {script}");
+    assert_eq!(rt; trial.stops(), case.stops, "of {script}");
+}
+
+/// The power fails in the request of a case, and no more. A payment that was stopped isn't said to be cancelled.
+fn check_once(
+    rt: &impl Abort,
+    alloc: Global,
+    trial: &mut Trial,
+    case: &Case,
+    script: &str,
+) -> Result<(), Fail> {
+    assert_eq!(rt; trial.failures(), 1, "of {script}");
+    let is_unknown = check_end(rt, alloc, trial, case, 2)?;
+    let is_cancelled = trial.log.contains("\"Cancel\"");
+    assert!(rt;
+        is_unknown || case.stops == 0 || !is_cancelled,
+        "of {script}"
+    );
+    Ok(())
+}
+
+/// The power fails in the request of a case, and then once more or not.
+fn check_failed(
+    rt: &impl Abort,
+    alloc: Global,
+    trial: &mut Trial,
+    case: &Case,
+) -> Result<(), Fail> {
+    let script = trial.script.clone()?;
+    check_once(rt, alloc, trial, case, &script)?;
+    check_next(rt, alloc, &script, case, "old")?;
+    check_next(rt, alloc, &script, case, "new")
+}
+
+/// The power fails after so many calls of a request, unless that is after its end.
 fn check_failure(
     rt: &impl Abort,
     alloc: Global,
     case: &Case,
-    calls: u64,
-    image: &str,
+    failure: Failure<'_>,
 ) -> Result<(), Fail> {
-    let mut trial = failing_trial(rt, alloc, case, calls, image)?;
-    let script = trial.script.clone()?;
-    if calls == case.whole {
-        assert_eq!(rt; trial.failures(), 0, "of {script}");
-        assert_eq!(rt; trial.stops(), case.stops, "of {script}");
+    let mut trial = failing_trial(alloc, case, failure)?;
+    if failure.calls == case.whole {
+        check_whole(rt, &trial, case);
         return Ok(());
     }
-    assert_eq!(rt; trial.failures(), 1, "of {script}");
-    let unknown = check_end(rt, alloc, &mut trial, case, 2)?;
-    let is_cancelled = trial.log.contains("\"Cancel\"");
-    assert!(rt; unknown || case.stops == 0 || !is_cancelled, "of {script}");
-    check_next(rt, alloc, &script, case, "old")?;
-    check_next(rt, alloc, &script, case, "new")
+    check_failed(rt, alloc, &mut trial, case)
 }
 
 /// The power fails after each call of a request, until it no longer does, and leaves each image.
 fn check_case(rt: &impl Abort, alloc: Global, case: &Case) -> Result<(), Fail> {
     for image in IMAGES {
         for calls in 0..=case.whole {
-            check_failure(rt, alloc, case, calls, image)?;
+            check_failure(rt, alloc, case, Failure { calls, image })?;
         }
     }
     Ok(())

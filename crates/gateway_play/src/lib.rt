@@ -5,5 +5,5 @@
 mod files;
 mod replay;
 
-pub use files::{check_runs, log_text, push_run, run_all, site_of};
-pub use replay::{compare, difference, ended, replayed, words_of};
+pub use files::{check_log, check_runs, log_text, push_next_run, run_all, run_once, site_of};
+pub use replay::{compare, difference, ended, ended_over, replayed};

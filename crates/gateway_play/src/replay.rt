@@ -1,18 +1,30 @@
 //! Scripts that are replayed by the top call, and what they give compared with what is wanted.
 use gw_base::{Bytes, Text};
 use gw_run::top;
-use gw_site::{MemSink, MemSource, NoSite};
+use gw_site::{MemSink, MemSource, NoSite, Site};
 use std::alloc::{AllocError, Global};
 use std::str;
 use std::test::Fail;
 
 /// The words of a line.
-pub fn words_of(alloc: Global, line: &str) -> Result<Vec<Text>, AllocError> {
+fn words_of(alloc: Global, line: &str) -> Result<Vec<Text>, AllocError> {
     let mut words = Vec::new(alloc);
     for word in line.split_whitespace() {
         words.push(Text::new(String::from_str(alloc, word)?))?;
     }
     Ok(words)
+}
+
+/// The status of the top call with the words of a line, over this site.
+pub fn ended_over<S: Site>(
+    alloc: Global,
+    line: &str,
+    site: &mut S,
+    input: &mut MemSource,
+    out: &mut MemSink,
+) -> Result<u8, AllocError> {
+    let words = words_of(alloc, line)?;
+    Ok(top(alloc, &words, site, input, out))
 }
 
 /// The status of the top call with the words of a line.
@@ -22,8 +34,7 @@ pub fn ended(
     input: &mut MemSource,
     out: &mut MemSink,
 ) -> Result<u8, AllocError> {
-    let words = words_of(alloc, line)?;
-    Ok(top(alloc, &words, &mut NoSite::new(), input, out))
+    ended_over(alloc, line, &mut NoSite::new(), input, out)
 }
 
 /// The first line of a text that differs from the one that is wanted, and that one.

@@ -14,7 +14,7 @@ use Rattle.gw_owes.specs.WaitingRows.{is_overdue}
 use Rattle.gw_owes.specs.Waits.{first_waiting, queue_of, waiting_with}
 use Rattle.gw_owes.proofs.RecordLemmas.{apart-keys, same-key-is}
 use Rattle.gw_owes.proofs.WaitingListLemmas.{same-key-itself}
-use Rattle.gw_core.specs.Queues.{AreLinesApart, IsOneOf, IsSeatFor, TakesSought, first_overdue, is_first_of, as_wait, waits_in, without_found}
+use Rattle.gw_core.specs.Queues.{waits_of, AreLinesApart, IsOneOf, IsSeatFor, TakesSought, first_overdue, is_first_of, as_wait, waits_in, without_found}
 
 -- ---- tests
 
@@ -397,6 +397,16 @@ seat-forgotten lines apart till seat within is =
     let own = own-seat lines apart till seat within is in
     waits-passing (λ (w : Waiting). not (eqb w.item.seat seat)) (λ (wait : Wait). not (eqb wait.till till)) lines
     (λ one there. ap not (same-test (eqb one.item.seat seat) (eqb one.item.till till)
+    (λ same. eq-eqb one.item.till till (own.seats one there (eqb-true one.item.seat seat same)))
+    (λ same. eq-eqb one.item.seat seat (own.tills one there (eqb-true one.item.till till same)))))
+
+-- and are as many
+pub seat-length : (lines : List Waiting) → AreLinesApart lines → (till seat : ℕ) → seat < 64 → is_first_of till (of_seat seat lines) ≡ true → length (of_seat seat lines) ≡ length (waits_of till (waits_in lines))
+seat-length lines apart till seat within is =
+    let own = own-seat lines apart till seat within is in
+    sym (length-map (of_seat seat lines) (λ (w : Waiting). as_wait w.item))
+    ∙ ap length (waits-passing (λ (w : Waiting). eqb w.item.seat seat) (λ (wait : Wait). eqb wait.till till) lines
+    (λ one there. same-test (eqb one.item.seat seat) (eqb one.item.till till)
     (λ same. eq-eqb one.item.till till (own.seats one there (eqb-true one.item.seat seat same)))
     (λ same. eq-eqb one.item.seat seat (own.tills one there (eqb-true one.item.till till same)))))
 

@@ -18,6 +18,10 @@ as_wait item = record { key = item.key; pt = item.terminal; till = item.till; de
 abbrev pub waits_in : List Waiting → List Wait
 waits_in lines = map (λ (waiting : Waiting). as_wait waiting.item) lines
 
+-- those of this till, in their order
+abbrev pub waits_of : ℕ → List Wait → List Wait
+waits_of till waits = filter (λ (wait : Wait). wait.till == till) waits
+
 -- Inner: this is one of them
 abbrev pub IsOneOf : Waiting → List Waiting → Type 0
 IsOneOf one [] = ⊥

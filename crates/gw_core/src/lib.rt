@@ -9,6 +9,7 @@ mod days;
 mod device_requests;
 mod displays;
 mod gateway;
+mod gone;
 mod handling;
 mod kept_replies;
 mod links;

@@ -1,6 +1,6 @@
-//! The requests that wait, in the words of what is owed: by their key, by their terminal, by their deadline and by their till.
-ghost use Rattle.std.specs.Prelude.{◌≡◌, ◌<◌, ◌≤◌, ℕ, pos, true, false, [], ◌∷◌, ◌++◌, length, filter, not, ◌==◌, None, IfSome, IsSome, OnOk, OnErr, option_map};
-ghost use Rattle.gw_links.specs.Waiting.{item_of, of_seat, without_request};
+//! The requests that wait, in the words of what is owed: by their key, by their terminal and by their deadline.
+ghost use Rattle.std.specs.Prelude.{◌≡◌, ◌<◌, ◌≤◌, ℕ, pos, true, false, [], ◌∷◌, ◌++◌, length, None, IfSome, OnOk, OnErr, option_map};
+ghost use Rattle.gw_links.specs.Waiting.{of_seat};
 ghost use Rattle.gw_owes.specs.Core.{Wait};
 ghost use Rattle.gw_owes.specs.Waits.{first_waiting, queue_of, repeats_waiting, waiting_with};
 ghost use Rattle.gw_core.specs.Queues.{AreLinesApart, IsSeatFor, TakesSought, first_overdue, is_first_of, as_wait, waits_in};
@@ -9,7 +9,7 @@ use crate::content::asks_the_same;
 use gw_base::{Ident, Key};
 use gw_bytes::{MOST_TERMINALS, MOST_TILLS, MOST_WAITING};
 use gw_ledger::Ledger;
-use gw_links::{Item, LineId, Lines};
+use gw_links::{Item, Lines};
 use sale_msg::{Header, SaleRequest};
 use std::alloc::{AllocError, Global};
 use std::marker::Model;
@@ -17,7 +17,7 @@ use std::marker::Model;
 /// The requests that wait for their terminals.
 #[derive(Drop)]
 pub(crate) struct Queues {
-    lines: Lines,
+    pub(crate) lines: Lines,
 }
 
 impl Model for Queues {
@@ -44,7 +44,7 @@ fn is_first_of(lines: &Lines, seat: u16, till: u64) -> bool
 }
 
 /// The seat at which requests of this till wait.
-fn seat_of(lines: &Lines, till: u64) -> Option<u16>
+pub(crate) fn seat_of(lines: &Lines, till: u64) -> Option<u16>
     requires { AreLinesApart lines.now }
     ensures found { IfSome result (λ seat. (seat < 64) × (is_first_of till (of_seat seat lines.now) ≡ true)) }
     ensures none { (seat : ℕ) → result ≡ None → seat < 64 → is_first_of till (of_seat seat lines.now) ≡ false }
@@ -80,14 +80,6 @@ fn seat_for(lines: &Lines, till: u64) -> Option<u16>
     }
 }
 
-/// A request waits no longer.
-fn remove(lines: &mut Lines, id: LineId)
-    requires { IsSome (item_of lines.old id) }
-    ensures { lines.new ≡ without_request id lines.old }
-{
-    lines.take(id);
-}
-
 /// A request that was refused comes back, and isn't kept.
 fn refuse(refused: (Item, AllocError)) -> AllocError {
     refused.1
@@ -107,16 +99,6 @@ fn add(lines: &mut Lines, item: Item) -> Result<(), AllocError>
     match lines.insert(item) {
         Ok(_) => Ok(()),
         Err(refused) => Err(refuse(refused)),
-    }
-}
-
-/// None waits at this seat any more.
-fn clear_seat(lines: &mut Lines, seat: u16)
-    requires { AreLinesApart lines.old }
-    ensures { lines.new ≡ filter (λ waiting. not (waiting.item.seat == seat)) lines.old }
-{
-    while let Some(id) = lines.first_of(seat) {
-        remove(lines, id);
     }
 }
 
@@ -237,15 +219,6 @@ impl Queues {
         match self.lines.find(key) {
             None => false,
             Some(id) => asks_the_same(ledger, poi, request, &self.lines.get(id).request),
-        }
-    }
-
-    /// None of this till waits any more.
-    pub(crate) fn forget(&mut self, till: u64)
-        ensures { self.new ≡ filter (λ (wait : Wait). not (wait.till == till)) self.old }
-    {
-        if let Some(seat) = seat_of(&self.lines, till) {
-            clear_seat(&mut self.lines, seat);
         }
     }
 }

@@ -7,7 +7,7 @@ ghost use Rattle.jrn_record.specs.declared.records.Record.{Record};
 ghost use Rattle.zvt_msg.specs.Message.{value_of};
 ghost use Rattle.gw_owes.specs.declared.terminal.Terminal.{Terminal as TheTerminal};
 ghost use Rattle.gw_owes.specs.Core.{new_core, new_terminal};
-ghost use Rattle.gw_owes.specs.Terminals.{asker_but, core_without, registration};
+ghost use Rattle.gw_owes.specs.Terminals.{registration};
 ghost use Rattle.gw_owes.specs.Days.{days_served};
 ghost use Rattle.gw_owes.specs.Diagnosis.{NamedTerminal, named_terminal, status_of_standing};
 ghost use Rattle.gw_owes.specs.Links.{is_linked, link_row};
@@ -109,16 +109,6 @@ fn status_of_standing(standing: &Standing) -> GlobalStatus
         Standing::Ready { .. } => GlobalStatus::Ready,
         Standing::Serving { .. } => GlobalStatus::Busy,
         Standing::Aside { .. } => GlobalStatus::Maintenance,
-    }
-}
-
-/// The till that asked, unless it is this one.
-fn asker_but(till: u64, asker: Option<u64>) -> Option<u64>
-    ensures { result ≡ asker_but till asker }
-{
-    match asker {
-        Some(asker) if asker != till => Some(asker),
-        _ => None,
     }
 }
 
@@ -242,16 +232,6 @@ impl Core {
         ensures { IfSome (slice_get self.now.terminals pt) (λ (terminal : TheTerminal). result ≡ is_linked terminal.standing) }
     {
         is_linked(&self.terminals[usize::from(pt)].standing)
-    }
-
-    /// A till is gone: its requests wait no longer, and replies to it aren't sent later.
-    pub fn forget(&mut self, till: u64)
-        ensures { self.new ≡ core_without self.old till }
-    {
-        for terminal in self.terminals.iter_mut() {
-            terminal.asker = asker_but(till, terminal.asker);
-        }
-        self.queues.forget(till);
     }
 
     /// The acknowledgement or refusal of a message; `None` for an Ack or a Nack, and where the terminal isn't linked.

@@ -46,7 +46,7 @@ use Rattle.gw_rules.proofs.KeptLemmas.{begins-first}
 use Rattle.gw_rules.proofs.LinkStateLemmas.{next-unready, state_of, standing_state}
 use Rattle.gw_rules.proofs.LinkedLemmas.{Agrees, Settled, Losing, is_on, round-setup, course-agrees, move-agrees, turn-agrees}
 use Rattle.gw_rules.proofs.OutsideCutLemmas.{cut-is, cut-makes, same-rest}
-use Rattle.gw_rules.proofs.PendingLemmas.{ask_none, read-asks-none, bytes-ask-none, begins-alone, SameItems, turn-items}
+use Rattle.gw_rules.proofs.PendingLemmas.{SameItems, turn-items}
 use Rattle.gw_rules.proofs.PrefixLemmas.{Along}
 use Rattle.gw_rules.proofs.SetupLemmas.{HasSetup}
 use Rattle.gw_rules.proofs.SplitLemmas.{SplitAt, split-log, split-agrees, split-outside, split-stands}
@@ -128,7 +128,7 @@ abbrev with_stage : Scene → List OwedCall → List RoundItem → Stage → Vie
 with_stage scene calls items stage = record { scene = record scene { stage = stage }; calls = calls; items = items }
 
 -- where the row changes nothing that is remembered, these calls are owed, and nothing else changes
-begun-is : (scene : Scene) (setup : Setup) (item : RoundItem) (items : List RoundItem) (calls : List OwedCall) → scene.setup ≡ Some setup → scene.stage ≡ Handling → row_of scene.outside.tills (known_in scene setup) item ≡ becoming scene.core calls
+pub begun-is : (scene : Scene) (setup : Setup) (item : RoundItem) (items : List RoundItem) (calls : List OwedCall) → scene.setup ≡ Some setup → scene.stage ≡ Handling → row_of scene.outside.tills (known_in scene setup) item ≡ becoming scene.core calls
     → begun scene (row_at scene item) items ≡ record { scene = scene; calls = calls; items = items }
 begun-is scene setup item items calls is at row =
     let row_is : row_at scene item ≡ becoming scene.core calls = ap (row_in scene (λ known. row_of scene.outside.tills known item)) is ∙ row in
@@ -196,7 +196,7 @@ passes-on pt scene setup (item ∷ own) due turns now rest is at none are round 
 -- ---- up to an item
 
 -- a message that is read stays the first, and those after it are left
-read-rest : (as_read : ReadAs) (item : RoundItem) (items : List RoundItem) → (first : RoundItem) × (read_first as_read (item ∷ items) ≡ first ∷ items)
+pub read-rest : (as_read : ReadAs) (item : RoundItem) (items : List RoundItem) → (first : RoundItem) × (read_first as_read (item ∷ items) ≡ first ∷ items)
 read-rest as_read (Crowded till) items = (Crowded till, refl)
 read-rest as_read (Message till bytes) items = (Asked till as_read, refl)
 read-rest as_read (Asked till other) items = (Asked till other, refl)
@@ -214,20 +214,20 @@ read-rest as_read (Overdue key) items = (Overdue key, refl)
 read-rest as_read (Due number) items = (Due number, refl)
 
 -- a course leads to where the item begins, and goes on from there
-record Reaches (v : View) (item : RoundItem) (items : List RoundItem) (inside rest : List Turn) : Type 0 where
-  first : List Turn
-  second : List Turn
-  inside_is : inside ≡ first ++ second
-  moves : List Move
-  turns_are : turns_of moves ≡ first
-  lawful : IsCourse v moves
-  begins : Begins (view_from v moves)
-  items_are : (view_from v moves).items ≡ item ∷ items
-  stage : (view_from v moves).scene.stage ≡ Handling
-  onward : Along (after (view_from v moves) Begin) (second ++ rest)
+pub record Reaches (v : View) (item : RoundItem) (items : List RoundItem) (inside rest : List Turn) : Type 0 where
+  pub first : List Turn
+  pub second : List Turn
+  pub inside_is : inside ≡ first ++ second
+  pub moves : List Move
+  pub turns_are : turns_of moves ≡ first
+  pub lawful : IsCourse v moves
+  pub begins : Begins (view_from v moves)
+  pub items_are : (view_from v moves).items ≡ item ∷ items
+  pub stage : (view_from v moves).scene.stage ≡ Handling
+  pub onward : Along (after (view_from v moves) Begin) (second ++ rest)
 
 -- a run that has ended in the round is polled no more
-never-polled : {A : Type 0} (now : ℤ) (rest : List Turn) (v : View) (moves : List Move) (inside : List Turn) → is_dead v.scene.stage ≡ true → IsCourse v moves → turns_of moves ≡ inside ++ Polled now ∷ rest → AreOfRound inside → A
+pub never-polled : {A : Type 0} (now : ℤ) (rest : List Turn) (v : View) (moves : List Move) (inside : List Turn) → is_dead v.scene.stage ≡ true → IsCourse v moves → turns_of moves ≡ inside ++ Polled now ∷ rest → AreOfRound inside → A
 never-polled now rest v [] [] dead c t r = absurd (let n : [] ≡ Polled now ∷ rest = t in cc)
 never-polled now rest v [] (turn ∷ inside) dead c t r = absurd (let n : [] ≡ turn ∷ (inside ++ Polled now ∷ rest) = t in cc)
 never-polled now rest v (Begin ∷ moves) inside dead c t r = dead-round v.scene.stage dead c.0.idle.round
@@ -241,33 +241,32 @@ never-polled now rest v (Make turn ∷ moves) (other ∷ inside) dead c t r =
     let tails : turns_of moves ≡ inside ++ Polled now ∷ rest = (let n : turn ∷ turns_of moves ≡ other ∷ (inside ++ Polled now ∷ rest) = t in cc) in
     never-polled now rest (after_turn v turn) moves inside (dead-turn v turn dead c.0 (ap (λ t. is_sort_of_round (sort_of t)) heads ∙ r.0)) c.1 tails r.1
 
--- where no message of a till is to come, an item that isn't one begins before the next poll, and those after it are left
-reaches : (item : RoundItem) (items : List RoundItem) (now : ℤ) (rest : List Turn) → first_message (item ∷ items) ≡ None → (v : View) (moves : List Move) (inside : List Turn) (before : List RoundItem) → Agrees v → v.scene.stage ≡ Handling → ask_none v.items ≡ true
+-- an item that is no message of a till begins before the next poll, and those after it are left
+pub reaches : (item : RoundItem) (items : List RoundItem) (now : ℤ) (rest : List Turn) → first_message (item ∷ items) ≡ None → (v : View) (moves : List Move) (inside : List Turn) (before : List RoundItem) → Agrees v → v.scene.stage ≡ Handling
     → v.items ≡ before ++ item ∷ items → IsCourse v moves → turns_of moves ≡ inside ++ Polled now ∷ rest → AreOfRound inside → Reaches v item items inside (Polled now ∷ rest)
-reaches item items now rest no_message v [] [] before a at none e c t r = absurd (let n : [] ≡ Polled now ∷ rest = t in cc)
-reaches item items now rest no_message v [] (turn ∷ inside) before a at none e c t r = absurd (let n : [] ≡ turn ∷ (inside ++ Polled now ∷ rest) = t in cc)
-reaches item items now rest no_message v (Begin ∷ moves) inside [] a at none e c t r =
+reaches item items now rest no_message v [] [] before a at e c t r = absurd (let n : [] ≡ Polled now ∷ rest = t in cc)
+reaches item items now rest no_message v [] (turn ∷ inside) before a at e c t r = absurd (let n : [] ≡ turn ∷ (inside ++ Polled now ∷ rest) = t in cc)
+reaches item items now rest no_message v (Begin ∷ moves) inside [] a at e c t r =
     record { first = []; second = inside; inside_is = refl; moves = []; turns_are = refl; lawful = tt; begins = c.0; items_are = e; stage = at; onward = record { moves = moves; turns_are = t; lawful = c.1 } }
-reaches item items now rest no_message v (Begin ∷ moves) inside (x ∷ before) a at none e c t r =
+reaches item items now rest no_message v (Begin ∷ moves) inside (x ∷ before) a at e c t r =
     let f = begins-first v a c.0 in
-    let alone = begins-alone v f none in
     let tails : f.rest ≡ before ++ item ∷ items = (let n : f.item ∷ f.rest ≡ x ∷ (before ++ item ∷ items) = sym f.items_are ∙ e in cc) in
-    let m = reaches item items now rest no_message (after v Begin) moves inside (f.new ++ before) (move-agrees v Begin a c.0) (begin-stage v.scene v.items ∙ ap busy at) alone.left (f.left ∙ ap (λ l. f.new ++ l) tails ∙ sym (append_assoc f.new before (item ∷ items))) c.1 t r in
+    let m = reaches item items now rest no_message (after v Begin) moves inside (f.new ++ before) (move-agrees v Begin a c.0) (begin-stage v.scene v.items ∙ ap busy at) (f.left ∙ ap (λ l. f.new ++ l) tails ∙ sym (append_assoc f.new before (item ∷ items))) c.1 t r in
     record { first = m.first; second = m.second; inside_is = m.inside_is; moves = Begin ∷ m.moves; turns_are = m.turns_are; lawful = (c.0, m.lawful); begins = m.begins; items_are = m.items_are; stage = m.stage; onward = m.onward }
-reaches item items now rest no_message v (Read as_read ∷ moves) inside [] a at none e c t r = absurd (let n : None ≡ Some c.0.bytes = sym no_message ∙ sym (ap first_message e) ∙ c.0.message in cc)
-reaches item items now rest no_message v (Read as_read ∷ moves) inside (x ∷ before) a at none e c t r =
+reaches item items now rest no_message v (Read as_read ∷ moves) inside [] a at e c t r = absurd (let n : None ≡ Some c.0.bytes = sym no_message ∙ sym (ap first_message e) ∙ c.0.message in cc)
+reaches item items now rest no_message v (Read as_read ∷ moves) inside (x ∷ before) a at e c t r =
     let read = read-rest as_read x (before ++ item ∷ items) in
-    let m = reaches item items now rest no_message (after v (Read as_read)) moves inside (read.0 ∷ before) (move-agrees v (Read as_read) a c.0) (ap busy at) (read-asks-none as_read v.items none) (ap (read_first as_read) e ∙ read.1) c.1 t r in
+    let m = reaches item items now rest no_message (after v (Read as_read)) moves inside (read.0 ∷ before) (move-agrees v (Read as_read) a c.0) (ap busy at) (ap (read_first as_read) e ∙ read.1) c.1 t r in
     record { first = m.first; second = m.second; inside_is = m.inside_is; moves = Read as_read ∷ m.moves; turns_are = m.turns_are; lawful = (c.0, m.lawful); begins = m.begins; items_are = m.items_are; stage = m.stage; onward = m.onward }
-reaches item items now rest no_message v (Make turn ∷ moves) [] before a at none e c t r =
+reaches item items now rest no_message v (Make turn ∷ moves) [] before a at e c t r =
     let heads : turn ≡ Polled now = (let n : turn ∷ turns_of moves ≡ Polled now ∷ rest = t in cc) in
     let ok : AllowedTurn v (Polled now) = subst (AllowedTurn v) heads c.0 in
     none-among item v.items (before, items, e) ok.items
-reaches item items now rest no_message v (Make turn ∷ moves) (other ∷ inside) before a at none e c t r =
+reaches item items now rest no_message v (Make turn ∷ moves) (other ∷ inside) before a at e c t r =
     let heads : turn ≡ other = (let n : turn ∷ turns_of moves ≡ other ∷ (inside ++ Polled now ∷ rest) = t in cc) in
     let tails : turns_of moves ≡ inside ++ Polled now ∷ rest = (let n : turn ∷ turns_of moves ≡ other ∷ (inside ++ Polled now ∷ rest) = t in cc) in
     let sort : is_sort_of_round (sort_of turn) ≡ true = ap (λ t. is_sort_of_round (sort_of t)) heads ∙ r.0 in
-    by_items heads tails (λ same stage. reaches item items now rest no_message (after_turn v turn) moves inside before (turn-agrees v turn a c.0) stage (ap ask_none same ∙ none) (same ∙ e) c.1 tails r.1) (turn-items v turn a at c.0 sort)
+    by_items heads tails (λ same stage. reaches item items now rest no_message (after_turn v turn) moves inside before (turn-agrees v turn a c.0) stage (same ∙ e) c.1 tails r.1) (turn-items v turn a at c.0 sort)
   where
     by_items : turn ≡ other → turns_of moves ≡ inside ++ Polled now ∷ rest
         → ((after_turn v turn).items ≡ v.items → (after_turn v turn).scene.stage ≡ Handling → Reaches (after_turn v turn) item items inside (Polled now ∷ rest)) → SameItems v turn → Reaches v item items (other ∷ inside) (Polled now ∷ rest)
@@ -316,7 +315,7 @@ cut-is-made scene setup pt terminal items is at found =
     ap (λ row. by_row (record { scene = scene; calls = OwedCutPt pt ∷ []; items = items }) (called scene (CutPt pt)) row []) row_is
     ∙ ap (λ l. with_stage (link_cut scene pt terminal) l items (busy scene.stage)) (append-nil (calls_of_loss terminal)) ∙ ap (with_stage (link_cut scene pt terminal) (calls_of_loss terminal) items) (ap busy at ∙ sym at)
 
-round-rest : (first second : List Turn) → AreOfRound (first ++ second) → AreOfRound second
+pub round-rest : (first second : List Turn) → AreOfRound (first ++ second) → AreOfRound second
 round-rest [] second h = h
 round-rest (turn ∷ first) second h = round-rest first second h.1
 
@@ -490,7 +489,7 @@ item-is-alone before inside rest pt chunk now item earlier next last x is e roun
     u_agrees = turn-agrees v (HeardPt pt chunk) (split-agrees before (HeardPt pt chunk) (inside ++ Polled now ∷ rest) x) x.allowed
 
     r : Reaches u item (own ++ due) inside (Polled now ∷ rest)
-    r = reaches item (own ++ due) now rest (is.no_message (own ++ due)) u x.onward.moves inside earlier u_agrees refl (bytes-ask-none pt (decode_apdus ((decode_apdus (heard_on v.scene.outside.links pt)).rest ++ chunk)) v.scene.core) (ap (λ l. l ++ due) e ∙ append_assoc earlier (item ∷ own) due) x.onward.lawful x.onward.turns_are round
+    r = reaches item (own ++ due) now rest (is.no_message (own ++ due)) u x.onward.moves inside earlier u_agrees refl (ap (λ l. l ++ due) e ∙ append_assoc earlier (item ∷ own) due) x.onward.lawful x.onward.turns_are round
 
     z : View
     z = view_from u r.moves

@@ -36,6 +36,7 @@ pub mod LinkStateLemmas
 pub mod LinkedLemmas
 pub mod LinkedSilenceLemmas
 pub mod LossLemmas
+pub mod MalformedLemmas
 pub mod OpeningLemmas
 pub mod OpensLemmas
 pub mod OutsideCutLemmas

@@ -62,7 +62,7 @@ reply-next till reply v DiskFailed at next (inr looking) e = no-true (sym (ap is
 reply-next till reply v (Crash file) at next ok e = no-true e
 
 -- where the cut of a till is owed, it comes next
-till-cut-next : (till : ℕ) (v : View) (turn : Turn) → v.scene.stage ≡ Handling → first_call v.calls ≡ Some (OwedCutTill till) → AllowedTurn v turn → is_sort_of_round (sort_of turn) ≡ true → turn ≡ CutTill till
+pub till-cut-next : (till : ℕ) (v : View) (turn : Turn) → v.scene.stage ≡ Handling → first_call v.calls ≡ Some (OwedCutTill till) → AllowedTurn v turn → is_sort_of_round (sort_of turn) ≡ true → turn ≡ CutTill till
 till-cut-next till v (Start setup) at next ok e = no-true e
 till-cut-next till v OpenFailed at next ok e = no-true e
 till-cut-next till v (Polled now) at next ok e = no-true e
@@ -135,7 +135,7 @@ pays-none scene items turns now rest at round along = record {
   stays = λ number unlinked. unlinked;
 }
 
-abbrev at_stage : Scene → List OwedCall → List RoundItem → Stage → View
+abbrev pub at_stage : Scene → List OwedCall → List RoundItem → Stage → View
 at_stage scene calls items stage = record { scene = record scene { stage = stage }; calls = calls; items = items }
 
 -- one reply is owed

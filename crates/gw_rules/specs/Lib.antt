@@ -21,6 +21,7 @@ pub mod Laws
 pub mod Lean
 pub mod LedgerRules
 pub mod LinkLaws
+pub mod MalformedLaws
 pub mod Opening
 pub mod OutsideLaws
 pub mod PaymentLogExample

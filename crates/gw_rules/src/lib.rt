@@ -1,6 +1,7 @@
 //! Which logs are lawful: what is owed after each turn, by the rows of what is owed, and which turns may come next.
 #![tactic(auto)]
 
+mod malformed_laws;
 mod queue_laws;
 
 ghost use Rattle.gw_rules.specs.JournalFiles.{EachHasJournalFiles, KeepingHasJournal, KeepingLeavesJournals, KeptFileIsJournal, OpenedHasJournal, OpeningHasJournal, OpeningLeavesJournalFiles};
@@ -26,6 +27,7 @@ ghost use Rattle.gw_rules.specs.TranscriptLaws.{ClearOwesItsCalls, EachCommandWa
 ghost use Rattle.gw_rules.specs.TillLaws.{EachBeginningIsThere, EachQueueingIsThere, EachServedIsThere, EachUsesTills, OwedIsThere};
 ghost use Rattle.gw_rules.specs.TrickleExample.{PollBeforeTrickleCut, TrickleIsCut, TrickleIsSilent};
 
+pub use malformed_laws::{law_malformed_terminal_bytes, law_malformed_till_bytes};
 pub use queue_laws::law_queues;
 
 /// Along each lawful log there is exactly one course in which nothing begins unless a turn of its run follows.

@@ -13,18 +13,22 @@ use std::time::Duration;
 fn fill(rig: &mut Rig<'_>) -> Steps {
     for slot in 0..10u64 {
         if !rig.writes(256 * slot, &[0x00; 256]) {
-            check(!rig.writes(0, &[0x00]), "a write after it")?;
-            check(!rig.syncs(), "a sync after it")?;
+            check!(!rig.writes(0, &[0x00]), "a write after it");
+            check!(!rig.syncs(), "a sync after it");
             return check(rig.length().is_none(), "the length after it");
         }
     }
     Err("the disk is full")
 }
 
+fn fill_and_remove(rig: &mut Rig<'_>) -> Result<(), Fail> {
+    fill(rig)?;
+    rig.remove_file()
+}
+
 fn a_full_disk(rt: &HostRuntime) -> Result<(), Fail> {
     let mut rig = Rig::opened(rt, "full_journal", 47011, &[])?;
-    fill(&mut rig)?;
-    rig.remove_file()
+    fill_and_remove(&mut rig)
 }
 
 const FULL: [Row; 1] = [("trap '' XFSZ; ulimit -f 1;", "", "failed for good")];
@@ -49,8 +53,8 @@ fn print(rt: &HostRuntime, rig: &mut Rig<'_>, till: &mut TcpStream) -> Steps {
     let mut buf = [0; 4096];
     let _ = rt.print("status 0\n");
     let _ = rt.eprint("status 0\n");
-    check(rig.length() == Some(0), "the file is empty")?;
-    check(got_nothing(till), "the till got nothing")?;
+    check!(rig.length() == Some(0), "the file is empty");
+    check!(got_nothing(till), "the till got nothing");
     check(
         rig.poll(&mut buf) == What::Nothing,
         "and nothing came by its connection",
@@ -59,14 +63,18 @@ fn print(rt: &HostRuntime, rig: &mut Rig<'_>, till: &mut TcpStream) -> Steps {
 
 fn print_beside_a_till(rt: &HostRuntime, rig: &mut Rig<'_>) -> Steps {
     let mut till = rig.connect()?;
-    check(rig.brings(What::TillOpened(1)), "a till opens")?;
+    check!(rig.brings(What::TillOpened(1)), "a till opens");
     print(rt, rig, &mut till)
+}
+
+fn print_and_remove(rt: &HostRuntime, rig: &mut Rig<'_>) -> Result<(), Fail> {
+    print_beside_a_till(rt, rig)?;
+    rig.remove_file()
 }
 
 fn closed_descriptors(rt: &HostRuntime) -> Result<(), Fail> {
     let mut rig = Rig::opened(rt, "closed_journal", 47012, &[])?;
-    print_beside_a_till(rt, &mut rig)?;
-    rig.remove_file()
+    print_and_remove(rt, &mut rig)
 }
 
 /// Each way in which a process may be started without them: with neither, so that a till would get the number of standard
@@ -96,9 +104,14 @@ const LIMITS: [Row; 3] = [
 /// Whether a site opens, and makes its file.
 fn is_opened(rt: &HostRuntime) -> Result<bool, Fail> {
     let mut rig = Rig::new(rt, "few_journal", 47016)?;
+    makes_its_file(rt, &mut rig)
+}
+
+/// Whether it opens and makes its file.
+fn makes_its_file(rt: &HostRuntime, rig: &mut Rig<'_>) -> Result<bool, Fail> {
     let is_open = rig.open(&[])?;
     let is_made = fs::remove_file(rt, rig.journal()).is_ok();
-    check(is_made == is_open, "a file is made where it is opened")?;
+    check!(is_made == is_open, "a file is made where it is opened");
     Ok(is_made)
 }
 
@@ -120,28 +133,31 @@ fn take_descriptors(rt: &HostRuntime) -> Result<Vec<File>, Fail> {
             Err(_) => break,
         }
     }
-    check(held.len() < 98, "none is left")?;
+    check!(held.len() < 98, "none is left");
     Ok(held)
 }
 
 fn polls_without_a_descriptor(rt: &HostRuntime, rig: &mut Rig<'_>) -> Result<(), Fail> {
     let _held = take_descriptors(rt)?;
     let took = rig.four_quiet_polls()?;
-    check(took >= Duration::from_millis(90), "the polls wait")?;
+    check!(took >= Duration::from_millis(90), "the polls wait");
     Ok(())
+}
+
+fn polls_until_it_opens(rt: &HostRuntime, rig: &mut Rig<'_>) -> Result<(), Fail> {
+    polls_without_a_descriptor(rt, rig)?;
+    check!(rig.brings(What::TillOpened(1)), "then it opens");
+    rig.remove_file()
 }
 
 fn a_till_without_a_descriptor(rt: &HostRuntime, rig: &mut Rig<'_>) -> Result<(), Fail> {
     let _till = rig.connect()?;
-    polls_without_a_descriptor(rt, rig)?;
-    check(rig.brings(What::TillOpened(1)), "then it opens")?;
-    Ok(())
+    polls_until_it_opens(rt, rig)
 }
 
 fn a_till_opens_later(rt: &HostRuntime) -> Result<(), Fail> {
     let mut rig = Rig::opened(rt, "none_journal", 47022, &[])?;
-    a_till_without_a_descriptor(rt, &mut rig)?;
-    rig.remove_file()
+    a_till_without_a_descriptor(rt, &mut rig)
 }
 
 const NONE: [Row; 1] = [("ulimit -n 98;", "", "it opens later")];

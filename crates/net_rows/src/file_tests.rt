@@ -18,16 +18,16 @@ fn is_file(rt: &HostRuntime, path: &str, bytes: &[u8]) -> bool {
 }
 
 fn what_was_written(rig: &mut Rig<'_>) -> Steps {
-    check(rig.length() == Some(0), "a new file is empty")?;
-    check(rig.writes(0, &[0x00]), "a write")?;
-    check(rig.writes(3, b"abc"), "another with a gap")?;
-    check(rig.syncs(), "a sync")?;
+    check!(rig.length() == Some(0), "a new file is empty");
+    check!(rig.writes(0, &[0x00]), "a write");
+    check!(rig.writes(3, b"abc"), "another with a gap");
+    check!(rig.syncs(), "a sync");
     check(rig.length() == Some(6), "the length")
 }
 
 fn what_is_read(rig: &mut Rig<'_>) -> Steps {
     let mut buf = [7; 8];
-    check(rig.reads(1, &mut buf), "a read")?;
+    check!(rig.reads(1, &mut buf), "a read");
     check(
         buf == [0, 0, b'a', b'b', b'c', 0, 0, 0],
         "what was written, and zeros",
@@ -36,8 +36,8 @@ fn what_is_read(rig: &mut Rig<'_>) -> Steps {
 
 /// Once its name is gone nothing is written, and nothing that is said of the disk counts any more.
 fn a_failed_disk(rig: &mut Rig<'_>) -> Steps {
-    check(!rig.writes(0, &[0xA5]), "a write fails")?;
-    check(rig.length().is_none(), "the length fails after it")?;
+    check!(!rig.writes(0, &[0xA5]), "a write fails");
+    check!(rig.length().is_none(), "the length fails after it");
     check(!rig.syncs(), "and so does a sync")
 }
 
@@ -52,7 +52,7 @@ fn a_file(rt: &HostRuntime, rig: &mut Rig<'_>) -> Result<(), Fail> {
     what_was_written(rig)?;
     what_is_read(rig)?;
     // A second gateway doesn't get the file while the first has it.
-    check(!another_opens(rt, "file", 47008)?, "the file is locked")?;
+    check!(!another_opens(rt, "file", 47008)?, "the file is locked");
     rig.remove_file()?;
     a_failed_disk(rig)?;
     Ok(())
@@ -99,7 +99,7 @@ fn twenty_more(
     bodies_before: usize,
 ) -> Result<(), Fail> {
     let (mut journal, bodies) = opened_journal(rt, site)?;
-    check(bodies == bodies_before, "the bodies are there")?;
+    check!(bodies == bodies_before, "the bodies are there");
     keep_twenty(site, &mut journal)?;
     Ok(())
 }
@@ -165,8 +165,8 @@ fn gates_of_forty_slots(rt: &HostRuntime, before: usize) -> Result<Vec<u8>, Allo
 /// A file is opened or refused, and left as it is.
 fn is_left(rt: &HostRuntime, rig: &mut Rig<'_>, file: &[u8], is_ours: bool) -> Result<(), Fail> {
     fs::write(rt, rig.journal(), file)?;
-    check(rig.open(&[])? == is_ours, "which files are opened")?;
-    check(is_file(rt, rig.journal(), file), "a file is left as it is")?;
+    check!(rig.open(&[])? == is_ours, "which files are opened");
+    check!(is_file(rt, rig.journal(), file), "a file is left as it is");
     Ok(())
 }
 
@@ -208,9 +208,14 @@ fn foreign_files(rt: &HostRuntime, rig: &mut Rig<'_>) -> Result<(), Fail> {
 
 fn other_paths(rig: &mut Rig<'_>) -> Result<(), Fail> {
     for other_path in OTHER_PATHS {
-        check(!rig.open_file(other_path)?, "that is no file for a journal")?;
+        check!(!rig.open_file(other_path)?, "that is no file for a journal");
     }
     Ok(())
+}
+
+fn foreign_files_and_other_paths(rt: &HostRuntime, rig: &mut Rig<'_>) -> Result<(), Fail> {
+    foreign_files(rt, rig)?;
+    other_paths(rig)
 }
 
 #[test]
@@ -219,17 +224,16 @@ fn a_file_that_is_no_journal_is_refused(rt: HostRuntime) -> Result<(), Fail> {
         return Ok(());
     }
     let mut rig = Rig::new(&rt, "foreign", 47010)?;
-    foreign_files(&rt, &mut rig)?;
-    other_paths(&mut rig)
+    foreign_files_and_other_paths(&rt, &mut rig)
 }
 
 /// A journal has a second name, and then no more.
 fn two_names(rt: &HostRuntime, rig: &mut Rig<'_>, second: &str) -> Result<(), Fail> {
     fs::write(rt, rig.journal(), b"\0")?;
     fs::hard_link(rt, rig.journal(), second)?;
-    check(!rig.open(&[])?, "it has two names")?;
+    check!(!rig.open(&[])?, "it has two names");
     fs::remove_file(rt, second)?;
-    check(rig.open(&[])?, "it has one name")?;
+    check!(rig.open(&[])?, "it has one name");
     rig.remove_file()
 }
 
@@ -249,7 +253,7 @@ fn mode_of(rt: &HostRuntime, file: &str) -> Result<u32, Fail> {
 
 fn its_owner_alone(rt: &HostRuntime, rig: &Rig<'_>) -> Result<(), Fail> {
     let mode = mode_of(rt, rig.journal())?;
-    check(mode & 0o7777 == 0o600, "its owner reads and writes it")?;
+    check!(mode & 0o7777 == 0o600, "its owner reads and writes it");
     rig.remove_file()
 }
 
@@ -267,20 +271,20 @@ fn make_pipe(rt: &HostRuntime, pipe: &str) -> Result<(), Fail> {
     let command = format!(in rt.alloc(); "mkfifo '{pipe}'")?;
     run_in_shell(rt, command.as_str())?;
     let made = fs::symlink_metadata(rt, pipe)?;
-    check(!made.is_file(), "a pipe is made")?;
+    check!(!made.is_file(), "a pipe is made");
     Ok(())
 }
 
 fn a_link_to_nothing(rt: &HostRuntime, rig: &mut Rig<'_>, journal: &str) -> Result<(), Fail> {
-    check(!rig.open(&[])?, "a link to nothing")?;
+    check!(!rig.open(&[])?, "a link to nothing");
     let is_made = fs::remove_file(rt, journal).is_ok();
-    check(!is_made, "no file is made through a link")?;
+    check!(!is_made, "no file is made through a link");
     Ok(())
 }
 
 fn a_link_to_a_journal(rt: &HostRuntime, rig: &mut Rig<'_>, journal: &str) -> Result<(), Fail> {
     fs::write(rt, journal, b"\0")?;
-    check(!rig.open(&[])?, "a link to a journal")?;
+    check!(!rig.open(&[])?, "a link to a journal");
     fs::remove_file(rt, journal)?;
     Ok(())
 }
@@ -298,7 +302,7 @@ fn a_link(rt: &HostRuntime, rig: &mut Rig<'_>, link: &str) -> Result<(), Fail> {
 fn a_link_and_a_pipe(rt: &HostRuntime, rig: &mut Rig<'_>, link: &str) -> Result<(), Fail> {
     a_link(rt, rig, link)?;
     make_pipe(rt, link)?;
-    check(!rig.open(&[])?, "a pipe")?;
+    check!(!rig.open(&[])?, "a pipe");
     rig.remove_file()
 }
 
@@ -318,18 +322,18 @@ fn replace(rt: &HostRuntime, rig: &mut Rig<'_>, aside: &str) -> Result<(), Fail>
     fs::rename(rt, rig.journal(), aside)?;
     fs::write(rt, rig.journal(), b"\0")?;
     a_failed_disk(rig)?;
-    check(is_file(rt, rig.journal(), b"\0"), "it is left as it is")?;
-    check(is_file(rt, aside, b"\0"), "and so is the one aside")?;
+    check!(is_file(rt, rig.journal(), b"\0"), "it is left as it is");
+    check!(is_file(rt, aside, b"\0"), "and so is the one aside");
     fs::remove_file(rt, aside)?;
     Ok(())
 }
 
 fn a_file_is_replaced(rt: &HostRuntime, rig: &mut Rig<'_>, aside: &str) -> Result<(), Fail> {
-    check(rig.writes(0, &[0x00]), "a write")?;
+    check!(rig.writes(0, &[0x00]), "a write");
     replace(rt, rig, aside)?;
-    check(!rig.open(&[])?, "it isn't opened any more")?;
+    check!(!rig.open(&[])?, "it isn't opened any more");
     // Another process would be: the failed opening has left neither the address nor the file.
-    check(another_opens(rt, "replaced", 47019)?, "another site is")?;
+    check!(another_opens(rt, "replaced", 47019)?, "another site is");
     rig.remove_file()
 }
 

@@ -1,5 +1,5 @@
 //! A site whose calls give plain values, so that the tests need nothing of its contracts.
-use crate::fixture::{address, check, path, setup};
+use crate::fixture::{address, path, setup};
 use gw_base::Setup;
 use gw_site::{Polled, Site, What};
 use net_site::NetSite;
@@ -14,22 +14,29 @@ fn seconds(rt: &HostRuntime) -> io::Result<i64> {
 }
 
 /// A site with an address and a file of its own.
+///
+/// The site is in a box: it is large, and a function that has it by value takes far longer to prove.
 #[derive(Drop)]
 pub(crate) struct Rig<'a> {
     rt: &'a HostRuntime,
-    near: SocketAddr,
+    port: u16,
     journal: String,
-    pub(crate) site: NetSite<&'a HostRuntime>,
+    pub(crate) site: Box<NetSite<&'a HostRuntime>>,
+}
+
+fn new_site(rt: &HostRuntime) -> Result<Box<NetSite<&HostRuntime>>, Fail> {
+    let site = NetSite::new(rt, rt.alloc())?;
+    Ok(Box::new(rt.alloc(), site)?)
 }
 
 impl<'a> Rig<'a> {
     /// A site on which nothing is open yet.
     pub(crate) fn new(rt: &'a HostRuntime, name: &str, port: u16) -> Result<Rig<'a>, Fail> {
         let journal = path(rt, name)?;
-        let site = NetSite::new(rt, rt.alloc())?;
+        let site = new_site(rt)?;
         Ok(Rig {
             rt,
-            near: address(rt, port),
+            port,
             journal,
             site,
         })
@@ -43,7 +50,7 @@ impl<'a> Rig<'a> {
         far: &[SocketAddr],
     ) -> Result<Rig<'a>, Fail> {
         let mut rig = Rig::new(rt, name, port)?;
-        check(rig.open(far)?, "it wasn't opened")?;
+        check!(rig.open(far)?, "it wasn't opened");
         Ok(rig)
     }
 
@@ -60,9 +67,14 @@ impl<'a> Rig<'a> {
         self.setup_of(self.journal.as_str(), far)
     }
 
+    /// Its address.
+    fn near(&self) -> SocketAddr {
+        address(self.rt, self.port)
+    }
+
     /// A setup of its address and this file.
     fn setup_of(&self, journal: &str, far: &[SocketAddr]) -> Result<Setup, Fail> {
-        let near = format!(in self.rt.alloc(); "{}", self.near)?;
+        let near = format!(in self.rt.alloc(); "{}", self.near())?;
         setup(self.rt, near.as_str(), journal, far)
     }
 
@@ -91,7 +103,7 @@ impl<'a> Rig<'a> {
 
     /// A peer that connects as a till does.
     pub(crate) fn connect(&self) -> Result<TcpStream, &'static str> {
-        match TcpStream::connect(self.rt, self.near) {
+        match TcpStream::connect(self.rt, self.near()) {
             Ok(peer) => Ok(peer),
             Err(_) => Err("a till connects"),
         }
@@ -143,10 +155,10 @@ impl<'a> Rig<'a> {
     pub(crate) fn four_quiet_polls(&mut self) -> Result<Duration, Fail> {
         let start = Instant::now(self.rt)?;
         for _ in 0..4 {
-            check(
+            check!(
                 self.is_quiet()?,
-                "nothing comes, and the moment is the clock's",
-            )?;
+                "nothing comes, and the moment is the clock's"
+            );
         }
         Ok(start.elapsed(self.rt)?)
     }

@@ -16,13 +16,13 @@ use std::time::{Duration, Instant};
 /// A till's message comes, and it gets what is sent to it.
 fn a_dialogue(rig: &mut Rig<'_>, till: &mut TcpStream) -> Steps {
     let message = [0x00, 0x00, 0x00, 0x02, 0x7B, 0x7D];
-    check(rig.brings(What::TillOpened(1)), "a till opens")?;
-    check(sends(till, &message), "it sends bytes")?;
-    check(
+    check!(rig.brings(What::TillOpened(1)), "a till opens");
+    check!(sends(till, &message), "it sends bytes");
+    check!(
         rig.brings_bytes(What::TillBytes(1, 6), &message),
-        "its bytes come",
-    )?;
-    check(rig.sends_till(1, b"abc"), "it is sent bytes")?;
+        "its bytes come"
+    );
+    check!(rig.sends_till(1, b"abc"), "it is sent bytes");
     check(gets(till, b"abc"), "it gets them")
 }
 
@@ -30,39 +30,40 @@ fn a_till(rig: &mut Rig<'_>) -> Steps {
     let mut till = rig.connect()?;
     a_dialogue(rig, &mut till)?;
     drop(till);
-    check(rig.brings(What::TillClosed(1)), "it closes")?;
+    check!(rig.brings(What::TillClosed(1)), "it closes");
     check(!rig.sends_till(1, b"abc"), "it is gone")
 }
 
 fn a_terminal(rig: &mut Rig<'_>, listener: &TcpListener) -> Steps {
-    check(!rig.sends_pt(0, b"early"), "it isn't linked")?;
-    check(rig.links(0), "it is linked")?;
+    check!(!rig.sends_pt(0, b"early"), "it isn't linked");
+    check!(rig.links(0), "it is linked");
     let mut terminal = accepted(listener)?;
-    check(sends(&mut terminal, &[0x80, 0x00, 0x00]), "it sends bytes")?;
-    check(
+    check!(sends(&mut terminal, &[0x80, 0x00, 0x00]), "it sends bytes");
+    check!(
         rig.brings_bytes(What::PtBytes(0, 3), &[0x80, 0x00, 0x00]),
-        "its bytes come",
-    )?;
-    check(rig.sends_pt(0, &[0x06, 0x00, 0x00]), "it is sent bytes")?;
+        "its bytes come"
+    );
+    check!(rig.sends_pt(0, &[0x06, 0x00, 0x00]), "it is sent bytes");
     check(gets(&mut terminal, &[0x06, 0x00, 0x00]), "it gets them")
 }
 
 /// A second link replaces the first, whose peer reads its end.
 fn a_second_link(rig: &mut Rig<'_>, listener: &TcpListener) -> Steps {
-    check(rig.links(0), "it is linked")?;
+    check!(rig.links(0), "it is linked");
     let mut first = accepted(listener)?;
-    check(rig.links(0), "it is linked again")?;
+    check!(rig.links(0), "it is linked again");
     let second = accepted(listener)?;
-    check(three_of(&mut first).is_none(), "the first has ended")?;
+    check!(three_of(&mut first).is_none(), "the first has ended");
     drop(second);
-    check(rig.brings(What::PtClosed(0)), "the second ends")?;
+    check!(rig.brings(What::PtClosed(0)), "the second ends");
     check(!rig.links(1), "there is no other terminal")
 }
 
-fn a_till_and_a_terminal(rig: &mut Rig<'_>, listener: &TcpListener) -> Steps {
+fn a_till_and_a_terminal(rig: &mut Rig<'_>, listener: &TcpListener) -> Result<(), Fail> {
     a_till(rig)?;
     a_terminal(rig, listener)?;
-    a_second_link(rig, listener)
+    a_second_link(rig, listener)?;
+    rig.remove_file()
 }
 
 #[test]
@@ -73,8 +74,7 @@ fn a_till_and_a_terminal_over_loopback(rt: HostRuntime) -> Result<(), Fail> {
     let far = address(&rt, 47002);
     let listener = TcpListener::bind(&rt, far)?;
     let mut rig = Rig::opened(&rt, "loopback", 47001, &[far])?;
-    a_till_and_a_terminal(&mut rig, &listener)?;
-    rig.remove_file()
+    a_till_and_a_terminal(&mut rig, &listener)
 }
 
 fn opens_at(rt: &HostRuntime, rig: &mut Rig<'_>, listen: &str) -> Result<bool, Fail> {
@@ -82,30 +82,37 @@ fn opens_at(rt: &HostRuntime, rig: &mut Rig<'_>, listen: &str) -> Result<bool, F
     rig.open_with(&setup)
 }
 
+fn one_terminal_at(rt: &HostRuntime, far: &str) -> Result<Pts, Fail> {
+    let terminal = terminal_at(rt, 1, far)?;
+    let terminals = vec![in rt.alloc(); terminal]?;
+    Ok(Pts::new(terminals))
+}
+
 fn opens_with_a_terminal_at(rt: &HostRuntime, rig: &mut Rig<'_>, far: &str) -> Result<bool, Fail> {
+    let terminals = one_terminal_at(rt, far)?;
     let mut setup = rig.setup(&[])?;
-    setup.terminals = Pts::new(vec![in rt.alloc(); terminal_at(rt, 1, far)?]?);
+    setup.terminals = terminals;
     rig.open_with(&setup)
 }
 
 fn no_address(rt: &HostRuntime, rig: &mut Rig<'_>) -> Result<(), Fail> {
     for listen_at in ["localhost:47014", "127.0.0.1", ""] {
-        check(!opens_at(rt, rig, listen_at)?, "a name to listen at")?;
+        check!(!opens_at(rt, rig, listen_at)?, "a name to listen at");
     }
-    check(
+    check!(
         !opens_with_a_terminal_at(rt, rig, "localhost:47015")?,
-        "a terminal's name",
-    )?;
+        "a terminal's name"
+    );
     Ok(())
 }
 
 /// Two terminals at one address, and addresses to listen at that aren't this machine's, or that another one has.
 fn other_addresses(rt: &HostRuntime, rig: &mut Rig<'_>) -> Result<(), Fail> {
     let far = address(rt, 47015);
-    check(!rig.open(&[far, far])?, "two terminals at one address")?;
-    check(!opens_at(rt, rig, "192.0.2.1:47014")?, "it isn't there")?;
+    check!(!rig.open(&[far, far])?, "two terminals at one address");
+    check!(!opens_at(rt, rig, "192.0.2.1:47014")?, "it isn't there");
     let _listener = TcpListener::bind(rt, address(rt, 47014))?;
-    check(!rig.open(&[far])?, "another one listens there")?;
+    check!(!rig.open(&[far])?, "another one listens there");
     Ok(())
 }
 
@@ -117,8 +124,8 @@ fn is_there(rt: &HostRuntime, rig: &Rig<'_>) -> bool {
 fn addresses_are_refused(rt: &HostRuntime, rig: &mut Rig<'_>) -> Result<(), Fail> {
     no_address(rt, rig)?;
     other_addresses(rt, rig)?;
-    check(!is_there(rt, rig), "no file is made")?;
-    check(rig.open(&[address(rt, 47015)])?, "others are opened")?;
+    check!(!is_there(rt, rig), "no file is made");
+    check!(rig.open(&[address(rt, 47015)])?, "others are opened");
     rig.remove_file()
 }
 
@@ -133,13 +140,13 @@ fn addresses_that_are_refused(rt: HostRuntime) -> Result<(), Fail> {
 }
 
 fn a_byte_at_a_time(rig: &mut Rig<'_>, peer: &mut TcpStream) -> Steps {
-    check(peer.set_nodelay(true).is_ok(), "bytes are sent at once")?;
+    check!(peer.set_nodelay(true).is_ok(), "bytes are sent at once");
     for byte in 0..6u8 {
-        check(sends(peer, &[byte]), "a byte is sent")?;
-        check(
+        check!(sends(peer, &[byte]), "a byte is sent");
+        check!(
             rig.brings_bytes(What::TillBytes(1, 1), &[byte]),
-            "a byte comes",
-        )?;
+            "a byte comes"
+        );
     }
     Ok(())
 }
@@ -147,8 +154,8 @@ fn a_byte_at_a_time(rig: &mut Rig<'_>, peer: &mut TcpStream) -> Steps {
 /// A connection that is closed with bytes unread is reset.
 fn a_reset(rig: &mut Rig<'_>) -> Steps {
     let peer = rig.connect()?;
-    check(rig.brings(What::TillOpened(2)), "a till opens")?;
-    check(rig.sends_till(2, b"never read"), "it is sent bytes")?;
+    check!(rig.brings(What::TillOpened(2)), "a till opens");
+    check!(rig.sends_till(2, b"never read"), "it is sent bytes");
     drop(peer);
     check(rig.brings(What::TillClosed(2)), "it is reset")
 }
@@ -156,13 +163,13 @@ fn a_reset(rig: &mut Rig<'_>) -> Steps {
 /// What was sent before a half close comes, and then the connection's end.
 fn a_half_close(rig: &mut Rig<'_>) -> Steps {
     let mut peer = rig.connect()?;
-    check(rig.brings(What::TillOpened(3)), "a till opens")?;
-    check(sends(&mut peer, b"last"), "it sends bytes")?;
-    check(peer.shutdown(Shutdown::Write).is_ok(), "it closes a half")?;
-    check(
+    check!(rig.brings(What::TillOpened(3)), "a till opens");
+    check!(sends(&mut peer, b"last"), "it sends bytes");
+    check!(peer.shutdown(Shutdown::Write).is_ok(), "it closes a half");
+    check!(
         rig.brings_bytes(What::TillBytes(3, 4), b"last"),
-        "the last bytes come",
-    )?;
+        "the last bytes come"
+    );
     check(rig.brings(What::TillClosed(3)), "then the end")
 }
 
@@ -201,41 +208,64 @@ fn count_until_the_end(rig: &mut Rig<'_>, peer: &mut TcpStream) -> Result<u64, F
     Err(Fail::from("the connection ends"))
 }
 
+/// Sends to till 4 don't wait, and one that doesn't fit fails; then it is cut. How many succeeded.
+fn fill_till(rt: &HostRuntime, rig: &mut Rig<'_>) -> Result<u64, Fail> {
+    let (count, longest) = sends_until_one_fails(rt, rig, 4)?;
+    rig.cut_till(4);
+    check!(longest < Duration::from_millis(90), "no send waits");
+    check!(!rig.sends_till(4, b"x"), "it is cut");
+    Ok(count)
+}
+
+/// After so many sends of 4,096 bytes and the cut a peer gets all that was sent.
+fn gets_all(rig: &mut Rig<'_>, peer: &mut TcpStream, count: u64) -> Result<(), Fail> {
+    check!(peer.set_nonblocking(true).is_ok(), "its reads don't wait");
+    let got = count_until_the_end(rig, peer)?;
+    check!(got >= count.saturating_mul(4096), "it gets what was sent");
+    Ok(())
+}
+
 /// Sends to a peer that never reads don't wait, and one that doesn't fit fails. After the cut the peer gets all that was sent before.
 fn a_peer_that_never_reads(rt: &HostRuntime, rig: &mut Rig<'_>) -> Result<(), Fail> {
     let mut peer = rig.connect()?;
-    check(rig.brings(What::TillOpened(4)), "a till opens")?;
-    check(sends(&mut peer, b"never heard"), "it sends bytes")?;
-    let (count, longest) = sends_until_one_fails(rt, rig, 4)?;
-    rig.cut_till(4);
-    check(longest < Duration::from_millis(90), "no send waits")?;
-    check(!rig.sends_till(4, b"x"), "it is cut")?;
-    check(peer.set_nonblocking(true).is_ok(), "its reads don't wait")?;
-    let got = count_until_the_end(rig, &mut peer)?;
-    check(got >= count.saturating_mul(4096), "it gets what was sent")?;
-    Ok(())
+    check!(rig.brings(What::TillOpened(4)), "a till opens");
+    check!(sends(&mut peer, b"never heard"), "it sends bytes");
+    let count = fill_till(rt, rig)?;
+    gets_all(rig, &mut peer, count)
 }
 
 /// A connection that has more bytes than are read at once doesn't keep one that opened after it from being heard.
 fn a_talker(rig: &mut Rig<'_>, talker: &mut TcpStream) -> Steps {
     let mut other = rig.connect()?;
-    check(rig.brings(What::TillOpened(5)), "a till opens")?;
-    check(sends(talker, &[9; 20_000]), "the talker sends")?;
-    check(sends(&mut other, b"x"), "the other sends")?;
-    check(rig.brings(What::TillBytes(1, 128)), "the talker is heard")?;
-    check(rig.brings(What::TillBytes(5, 1)), "then the other")?;
+    check!(rig.brings(What::TillOpened(5)), "a till opens");
+    check!(sends(talker, &[9; 20_000]), "the talker sends");
+    check!(sends(&mut other, b"x"), "the other sends");
+    check!(rig.brings(What::TillBytes(1, 128)), "the talker is heard");
+    check!(rig.brings(What::TillBytes(5, 1)), "then the other");
     check(rig.brings(What::TillBytes(1, 128)), "then the talker again")
 }
 
-fn peers_one_after_the_other(rt: &HostRuntime, rig: &mut Rig<'_>) -> Result<(), Fail> {
-    let mut slow = rig.connect()?;
-    check(rig.brings(What::TillOpened(1)), "a till opens")?;
-    a_byte_at_a_time(rig, &mut slow)?;
+fn peers_after_the_first(rt: &HostRuntime, rig: &mut Rig<'_>) -> Result<(), Fail> {
     a_reset(rig)?;
     a_half_close(rig)?;
-    a_peer_that_never_reads(rt, rig)?;
-    a_talker(rig, &mut slow)?;
-    Ok(())
+    a_peer_that_never_reads(rt, rig)
+}
+
+fn peers_beside_the_first(
+    rt: &HostRuntime,
+    rig: &mut Rig<'_>,
+    first: &mut TcpStream,
+) -> Result<(), Fail> {
+    a_byte_at_a_time(rig, first)?;
+    peers_after_the_first(rt, rig)?;
+    a_talker(rig, first)?;
+    rig.remove_file()
+}
+
+fn peers_one_after_the_other(rt: &HostRuntime, rig: &mut Rig<'_>) -> Result<(), Fail> {
+    let mut first = rig.connect()?;
+    check!(rig.brings(What::TillOpened(1)), "a till opens");
+    peers_beside_the_first(rt, rig, &mut first)
 }
 
 #[test]
@@ -244,8 +274,7 @@ fn peers_that_misbehave(rt: HostRuntime) -> Result<(), Fail> {
         return Ok(());
     }
     let mut rig = Rig::opened(&rt, "peers", 47003, &[])?;
-    peers_one_after_the_other(&rt, &mut rig)?;
-    rig.remove_file()
+    peers_one_after_the_other(&rt, &mut rig)
 }
 
 fn a_hundred_peers(rt: &HostRuntime, rig: &Rig<'_>) -> Result<Vec<TcpStream>, Fail> {
@@ -258,7 +287,7 @@ fn a_hundred_peers(rt: &HostRuntime, rig: &Rig<'_>) -> Result<Vec<TcpStream>, Fa
 
 fn sixty_five_tills_open(rig: &mut Rig<'_>) -> Steps {
     for till in 1..=65 {
-        check(rig.brings(What::TillOpened(till)), "65 tills open")?;
+        check!(rig.brings(What::TillOpened(till)), "65 tills open");
     }
     Ok(())
 }
@@ -267,10 +296,15 @@ fn a_hundred_tills(rig: &mut Rig<'_>) -> Result<(), Fail> {
     sixty_five_tills_open(rig)?;
     // The others wait, and the poll does too: it doesn't return at once for them.
     let took = rig.four_quiet_polls()?;
-    check(took >= Duration::from_millis(150), "a poll waits")?;
+    check!(took >= Duration::from_millis(150), "a poll waits");
     rig.cut_till(33);
-    check(rig.brings(What::TillOpened(66)), "one more has room")?;
+    check!(rig.brings(What::TillOpened(66)), "one more has room");
     rig.remove_file()
+}
+
+fn beside_a_hundred_peers(rt: &HostRuntime, rig: &mut Rig<'_>) -> Result<(), Fail> {
+    let _peers = a_hundred_peers(rt, rig)?;
+    a_hundred_tills(rig)
 }
 
 #[test]
@@ -279,8 +313,7 @@ fn a_hundred_connections(rt: HostRuntime) -> Result<(), Fail> {
         return Ok(());
     }
     let mut rig = Rig::opened(&rt, "hundred", 47004, &[])?;
-    let _peers = a_hundred_peers(&rt, &rig)?;
-    a_hundred_tills(&mut rig)
+    beside_a_hundred_peers(&rt, &mut rig)
 }
 
 /// Connects until it takes too long, at most eight times.
@@ -303,7 +336,7 @@ fn fill_queue(
 ) -> Result<Vec<TcpStream>, Fail> {
     let queue = listen(listener.as_raw_fd(), 0);
     let held = connect_many(rt, far)?;
-    check(queue == 0 && held.len() < 8, "the queue isn't full")?;
+    check!(queue == 0 && held.len() < 8, "the queue isn't full");
     Ok(held)
 }
 
@@ -320,7 +353,7 @@ fn none_links(rig: &mut Rig<'_>) -> bool {
 /// How long it takes to try each of the terminals once.
 fn links(rt: &HostRuntime, rig: &mut Rig<'_>) -> Result<Duration, Fail> {
     let start = Instant::now(rt)?;
-    check(none_links(rig), "nobody accepts")?;
+    check!(none_links(rig), "nobody accepts");
     Ok(start.elapsed(rt)?)
 }
 
@@ -367,14 +400,20 @@ fn full_listeners(rt: &HostRuntime, far: &[SocketAddr]) -> Result<Vec<Full>, Fai
 
 fn links_wait_once(rt: &HostRuntime, rig: &mut Rig<'_>) -> Result<(), Fail> {
     let first = links(rt, rig)?;
-    check(first >= Duration::from_millis(15), "they wait")?;
-    check(first < Duration::from_millis(300), "and they wait together")?;
+    check!(first >= Duration::from_millis(15), "they wait");
+    check!(first < Duration::from_millis(300), "and they wait together");
     let shortest = shortest_round(rt, rig)?;
-    check(
+    check!(
         shortest < Duration::from_millis(10),
-        "those that go on being made don't wait",
-    )?;
+        "those that go on being made don't wait"
+    );
     rig.remove_file()
+}
+
+/// Links to these addresses, at which nobody accepts.
+fn links_to(rt: &HostRuntime, far: &[SocketAddr]) -> Result<(), Fail> {
+    let mut rig = Rig::opened(rt, "links", 47005, far)?;
+    links_wait_once(rt, &mut rig)
 }
 
 /// All links between two polls wait 20 ms together where they are begun, and not while they go on being made: so the shortest of
@@ -386,8 +425,7 @@ fn terminals_that_are_switched_off(rt: HostRuntime) -> Result<(), Fail> {
     }
     let far = far_addresses(&rt)?;
     let _listeners = full_listeners(&rt, &far)?;
-    let mut rig = Rig::opened(&rt, "links", 47005, &far)?;
-    links_wait_once(&rt, &mut rig)
+    links_to(&rt, &far)
 }
 
 /// Accepts a connection, if one waits, and sends a byte to it.
@@ -395,7 +433,7 @@ fn greet(listener: &TcpListener, greeted: &mut Vec<TcpStream>) -> Result<(), Fai
     let Ok(mut peer) = accepted(listener) else {
         return Ok(());
     };
-    check(sends(&mut peer, b"x"), "a byte is sent")?;
+    check!(sends(&mut peer, b"x"), "a byte is sent");
     greeted.push(peer)?;
     Ok(())
 }
@@ -416,7 +454,7 @@ fn greet_while_polling(
         greet(listener, &mut greeted)?;
         let _ = rig.poll(&mut buf);
     }
-    check(greeted.len() == count, "so many connections are made")?;
+    check!(greeted.len() == count, "so many connections are made");
     Ok(greeted)
 }
 
@@ -427,11 +465,11 @@ fn a_link_is_taken_up(
     listener: &TcpListener,
     before: usize,
 ) -> Result<(), Fail> {
-    check(!rig.links(0), "nobody accepts")?;
+    check!(!rig.links(0), "nobody accepts");
     listener.set_nonblocking(true)?;
     let _greeted = greet_while_polling(rt, rig, listener, before.saturating_add(1))?;
-    check(rig.links(0), "it is taken up")?;
-    check(rig.brings(What::PtBytes(0, 1)), "it is the one accepted")?;
+    check!(rig.links(0), "it is taken up");
+    check!(rig.brings(What::PtBytes(0, 1)), "it is the one accepted");
     Ok(())
 }
 
@@ -443,12 +481,12 @@ fn a_link_is_begun_anew(
     before: usize,
 ) -> Result<(), Fail> {
     rig.cut_pt(0);
-    check(!rig.links(0), "nobody accepts")?;
+    check!(!rig.links(0), "nobody accepts");
     drop(greet_while_polling(rt, rig, listener, before.saturating_add(1))?);
-    check(rig.links(0), "another one is begun at once")?;
+    check!(rig.links(0), "another one is begun at once");
     let mut terminal = accepted(listener)?;
-    check(sends(&mut terminal, b"x"), "a byte is sent")?;
-    check(rig.brings(What::PtBytes(0, 1)), "it is the one accepted")?;
+    check!(sends(&mut terminal, b"x"), "a byte is sent");
+    check!(rig.brings(What::PtBytes(0, 1)), "it is the one accepted");
     Ok(())
 }
 
@@ -474,8 +512,17 @@ fn a_link_is_made(rt: &HostRuntime, rig: &mut Rig<'_>, far: SocketAddr) -> Resul
 /// Where nobody listens, a link fails.
 fn nobody_listens(rig: &mut Rig<'_>) -> Result<(), Fail> {
     rig.cut_pt(0);
-    check(!rig.links(0), "nobody listens")?;
+    check!(!rig.links(0), "nobody listens");
     rig.remove_file()
+}
+
+fn a_link_is_made_and_lost(
+    rt: &HostRuntime,
+    rig: &mut Rig<'_>,
+    far: SocketAddr,
+) -> Result<(), Fail> {
+    a_link_is_made(rt, rig, far)?;
+    nobody_listens(rig)
 }
 
 /// A link that isn't made in time goes on being made, and is the one that is taken up. One that its peer has closed meanwhile isn't.
@@ -486,17 +533,16 @@ fn a_link_goes_on_being_made(rt: HostRuntime) -> Result<(), Fail> {
     }
     let far = address(&rt, 47021);
     let mut rig = Rig::opened(&rt, "making", 47020, &[far])?;
-    a_link_is_made(&rt, &mut rig, far)?;
-    nobody_listens(&mut rig)
+    a_link_is_made_and_lost(&rt, &mut rig, far)
 }
 
 /// A till and a terminal that both send more than is read at once.
 fn take_turns(rig: &mut Rig<'_>, till: &mut TcpStream, terminal: &mut TcpStream) -> Steps {
-    check(sends(till, &[9; 20_000]), "the till sends")?;
-    check(sends(terminal, &[9; 20_000]), "the terminal sends")?;
+    check!(sends(till, &[9; 20_000]), "the till sends");
+    check!(sends(terminal, &[9; 20_000]), "the terminal sends");
     for _ in 0..4 {
-        check(rig.brings(What::PtBytes(0, 128)), "the terminal is heard")?;
-        check(rig.brings(What::TillBytes(1, 128)), "then the till")?;
+        check!(rig.brings(What::PtBytes(0, 128)), "the terminal is heard");
+        check!(rig.brings(What::TillBytes(1, 128)), "then the till");
     }
     Ok(())
 }
@@ -535,11 +581,11 @@ fn watched() -> usize {
 }
 
 fn beside_each_other(rig: &mut Rig<'_>, listener: &TcpListener) -> Result<(), Fail> {
-    check(rig.links(0), "it is linked")?;
+    check!(rig.links(0), "it is linked");
     let mut terminal = accepted(listener)?;
     let mut till = rig.connect()?;
-    check(rig.brings(What::TillOpened(1)), "a till opens")?;
-    check(watched() == 2, "the system watches both")?;
+    check!(rig.brings(What::TillOpened(1)), "a till opens");
+    check!(watched() == 2, "the system watches both");
     take_turns(rig, &mut till, &mut terminal)?;
     rig.remove_file()
 }

@@ -5,6 +5,7 @@ pub mod CutExampleLemmas
 pub mod DayLogExampleLemmas
 pub mod DoneExampleLemmas
 pub mod ExampleLemmas
+pub mod MalformedExampleLemmas
 pub mod PaymentLogLemmas
 pub mod QueueExampleLemmas
 pub mod RecoveryLogLemmas

@@ -5,6 +5,7 @@ pub mod CutExample
 pub mod DayLogExample
 pub mod DoneExample
 pub mod Example
+pub mod MalformedExample
 pub mod PaymentLogExample
 pub mod QueueExample
 pub mod RecoveryLogExample

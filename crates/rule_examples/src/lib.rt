@@ -1,5 +1,5 @@
 //! Examples of lawful logs and courses: requests of tills, runs, ways of a terminal to ready, payments, ends of day, a display, a till that
-//! closes, a request that waits, and cuts.
+//! closes, a request that waits, malformed bytes, and cuts.
 #![tactic(auto)]
 
 ghost use Rattle.gw_rules.specs.CauseExample.{OutsideIsCause, TooLongIsCut};
@@ -13,6 +13,7 @@ ghost use Rattle.rule_examples.specs.CutExample.{BothAreCut, BothAreLinkedAgain,
 ghost use Rattle.rule_examples.specs.DayLogExample.{DayIsLawful, DisplayIsLawful, LostDayIsLawful};
 ghost use Rattle.rule_examples.specs.DoneExample.{ExampleDone};
 ghost use Rattle.rule_examples.specs.Example.{BadFrameIsLawful, CrashLeavesNoOther, CrashedIsLawful, CrowdedIsLawful, DiskFailureEnds, FailedSendIsLawful, GateEndsLooking, LooksMayFail, NoRunWhereNotOpened, NothingToLookAt, NothingToLookAtLater, PollBeforeCut, PollBeforeReply, PollEndsLooking, PollWhileCrowded, RefusedIsNotPolled, RestartedIsLawful, SilentIsLawful, UnaskedReply};
+ghost use Rattle.rule_examples.specs.MalformedExample.{ApduIsHarmless, FrameIsHarmless, MessageIsHarmless, TooLongIsHarmless};
 ghost use Rattle.rule_examples.specs.PaymentLogExample.{BegunIsServedOpen, PaidHasNoneOpen, PaymentIsLawful, PaymentIsSilent};
 ghost use Rattle.rule_examples.specs.QueueExample.{ExampleQueues};
 ghost use Rattle.rule_examples.specs.RecoveryLogExample.{OpenIsReported};
@@ -41,6 +42,15 @@ pub fn law_closed_till_example()
 /// An end of day joins the queue of a terminal that serves a payment, is there one second later, and is refused at its deadline.
 pub fn law_queue_example()
     ensures example { ExampleQueues }
+{}
+
+/// Malformed bytes change no books: an object without members gets its reject, and its till stays; a till whose bytes begin no frame is cut; and so
+/// is a terminal that says a truncated Status, and one that begins an APDU above the limit. Nothing else changes.
+pub fn law_malformed_examples()
+    ensures message { MessageIsHarmless }
+    ensures frame { FrameIsHarmless }
+    ensures outside { ApduIsHarmless }
+    ensures too_long { TooLongIsHarmless }
 {}
 
 /// Two terminals whose deadlines come at one moment are both cut then, in the order of the setup: the other not before the first, and

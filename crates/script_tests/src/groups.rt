@@ -30,6 +30,45 @@ fn print_case<R: AllocGlobal + Print>(
     Ok(())
 }
 
+/// Prints the line of a case of which only what was linked and sent is compared.
+fn print_sends<R: AllocGlobal + Print>(
+    rt: &R,
+    name: &str,
+    found: &str,
+    wanted: &str,
+) -> Result<(), Fail> {
+    let found = sends_of(rt.alloc(), found)?;
+    let wanted = sends_of(rt.alloc(), wanted)?;
+    print_case(rt, name, &found, &wanted)
+}
+
+/// Plays a case and prints its line.
+fn play_case<R: AllocGlobal + Print>(rt: &R, name: &str, case: &Case) -> Result<(), Fail> {
+    let found = found_of(rt.alloc(), case)?;
+    if case.only_sends {
+        return print_sends(rt, name, &found, &case.wanted);
+    }
+    print_case(rt, name, &found, &case.wanted)
+}
+
+/// Appends the lines of a text, with its blocks and its beginnings written out.
+fn push_text(
+    alloc: Global,
+    lines: &mut String,
+    beginnings: &Beginnings,
+    text: &str,
+) -> Result<(), Fail> {
+    let text = written_out(alloc, text)?;
+    beginnings.push_lines(lines, &text)
+}
+
+/// The case of these lines, each after a line's end.
+fn case_of(alloc: Global, beginnings: &Beginnings, text: &str) -> Result<Case, Fail> {
+    let mut lines = String::new(alloc);
+    push_text(alloc, &mut lines, beginnings, text)?;
+    Case::of(alloc, &lines)
+}
+
 /// Plays a case: its name, and its lines, each after a line's end.
 fn play<R: AllocGlobal + Print>(
     rt: &R,
@@ -37,16 +76,14 @@ fn play<R: AllocGlobal + Print>(
     name: &str,
     text: &str,
 ) -> Result<(), Fail> {
-    let alloc = rt.alloc();
-    let mut lines = String::new(alloc);
-    beginnings.push_lines(&mut lines, &written_out(alloc, text)?)?;
-    let case = Case::of(alloc, &lines)?;
-    let found = found_of(alloc, &case)?;
-    if case.only_sends {
-        let wanted = sends_of(alloc, &case.wanted)?;
-        return print_case(rt, name, &sends_of(alloc, &found)?, &wanted);
-    }
-    print_case(rt, name, &found, &case.wanted)
+    let case = case_of(rt.alloc(), beginnings, text)?;
+    play_case(rt, name, &case)
+}
+
+/// A text in which the values of a table take the places of their marks, as they are meant.
+fn filled_as_meant(alloc: Global, text: &str, values: &str) -> Result<String, AllocError> {
+    let values = meant(alloc, values)?;
+    filled(alloc, text, &values)
 }
 
 /// Plays a case with the values of a line of its table, where it has one.
@@ -58,8 +95,28 @@ fn play_with<R: AllocGlobal + Print>(
     values: &str,
 ) -> Result<(), Fail> {
     let name = filled(rt.alloc(), name, values)?;
-    let text = filled(rt.alloc(), text, &meant(rt.alloc(), values)?)?;
+    let text = filled_as_meant(rt.alloc(), text, values)?;
     play(rt, beginnings, &name, &text)
+}
+
+/// Plays a case once for each line of its table, or once where it has none.
+fn play_lines<R: AllocGlobal + Print>(
+    rt: &R,
+    beginnings: &Beginnings,
+    name: &str,
+    text: &str,
+) -> Result<(), Fail> {
+    let mut is_table = false;
+    for line in text.split('\n') {
+        if let Some(values) = line.strip_prefix("for ") {
+            is_table = true;
+            play_with(rt, beginnings, name, text, values)?;
+        }
+    }
+    if !is_table {
+        play(rt, beginnings, name, text)?;
+    }
+    Ok(())
 }
 
 /// Plays a case, once for each line of its table where it has one: the name of its group and the lines of that, and its own name with its lines.
@@ -73,17 +130,7 @@ fn play_table<R: AllocGlobal + Print>(
     let (words, lines) = case.split_once('\n').ok_or("a case without lines")?;
     let name = format!(in rt.alloc(); "{title}: {words}")?;
     let text = format!(in rt.alloc(); "\n{common}\n{lines}")?;
-    let mut is_table = false;
-    for line in lines.split('\n') {
-        if let Some(values) = line.strip_prefix("for ") {
-            is_table = true;
-            play_with(rt, beginnings, &name, &text, values)?;
-        }
-    }
-    if !is_table {
-        play(rt, beginnings, &name, &text)?;
-    }
-    Ok(())
+    play_lines(rt, beginnings, &name, &text)
 }
 
 /// Plays the cases of a group: the line of its name, its lines, and the cases.

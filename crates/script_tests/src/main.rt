@@ -16,7 +16,7 @@ use std::fs;
 use std::test::Fail;
 
 /// The files, in the order in which they are read: a beginning holds for the files after its own too.
-const FILES: [&str; 16] = [
+const FILES: [&str; 17] = [
     "beginnings.txt",
     "words.txt",
     "lines.txt",
@@ -30,6 +30,7 @@ const FILES: [&str; 16] = [
     "reversals.txt",
     "aborts.txt",
     "waiting.txt",
+    "hostile.txt",
     "displays.txt",
     "reconciliations.txt",
     "ends_of_day.txt",

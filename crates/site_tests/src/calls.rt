@@ -234,6 +234,12 @@ pub fn push_calls(
     Ok(())
 }
 
+/// Makes the calls of some words.
+pub fn make_calls(alloc: Global, site: &mut SimSite, calls: &str) -> anyhow::Result<()> {
+    let mut said = String::new(alloc);
+    push_calls(alloc, &mut said, site, calls)
+}
+
 /// What a site reports of itself: that its script was read to the end, and that the power has failed.
 pub fn report_of(site: &SimSite) -> &'static str {
     match (site.ended(), site.crashed(), site.short()) {

@@ -3,9 +3,10 @@ ghost use Rattle.std.specs.Prelude.{IfOk, OnOk};
 ghost use Rattle.jrn_log.specs.Journal.{StandsFor};
 ghost use Rattle.sim_site.specs.Sites.{sim_observed};
 
-use crate::calls::{push_calls, turns_of};
+use crate::calls::{make_calls, turns_of};
 use crate::turns::push_hex;
 use anyhow::ensure;
+use case_files::done;
 use gw_base::Bodies;
 use gw_site::Site;
 use jrn_log::{AppendFault, Journal, OpenFault};
@@ -107,8 +108,7 @@ fn push_letters(alloc: Global, out: &mut String, site: &mut SimSite) -> anyhow::
 pub fn push_kept(alloc: Global, out: &mut String, site: &mut SimSite) -> anyhow::Result<()> {
     let kept = keep_both(alloc, site);
     let turns = turns_of(site);
-    let mut said = String::new(alloc);
-    push_calls(alloc, &mut said, site, "restart")?;
+    make_calls(alloc, site, "restart")?;
     write!(out, "> {kept} of 5, {turns} turns, ")?;
     push_letters(alloc, out, site)?;
     out.push_str("\n")?;
@@ -123,9 +123,8 @@ pub fn push_kept_again(
     stop: &str,
 ) -> anyhow::Result<()> {
     let _ = keep_both(alloc, site);
-    let mut said = String::new(alloc);
-    push_calls(alloc, &mut said, site, "restart")?;
-    push_calls(alloc, &mut said, site, stop)?;
+    make_calls(alloc, site, "restart")?;
+    make_calls(alloc, site, stop)?;
     push_kept(alloc, out, site)
 }
 
@@ -161,19 +160,32 @@ fn push_sizes(out: &mut String, journal: &Journal) -> Result<(), AllocError> {
     )
 }
 
+/// Keeps the second body, and appends its slot.
+fn push_slot(out: &mut String, site: &mut SimSite, journal: &mut Journal) -> anyhow::Result<()>
+    requires { StandsFor journal.old (sim_observed site.old) }
+{
+    match keep(site, journal, &SECOND) {
+        Ok(slot) => done(write!(out, "> slot {slot}\n")),
+        Err(_) => anyhow::bail!("it isn't kept"),
+    }
+}
+
+/// Keeps the second body, and appends the journal's sizes before and after that.
+fn push_keeping(out: &mut String, site: &mut SimSite, journal: &mut Journal) -> anyhow::Result<()>
+    requires { StandsFor journal.old (sim_observed site.old) }
+{
+    push_sizes(out, journal)?;
+    push_slot(out, site, journal)?;
+    done(push_sizes(out, journal))
+}
+
 /// Opens a journal of two slots, and keeps the second body.
 fn push_second(alloc: Global, out: &mut String, site: &mut SimSite) -> anyhow::Result<()> {
     let Ok((mut journal, bodies)) = opened(alloc, site, 2) else {
         anyhow::bail!("no journal");
     };
     ensure!(bodies.as_slice().is_empty() && journal.is_empty(), "bodies");
-    push_sizes(out, &journal)?;
-    let Ok(slot) = keep(site, &mut journal, &SECOND) else {
-        anyhow::bail!("it isn't kept");
-    };
-    write!(out, "> slot {slot}\n")?;
-    push_sizes(out, &journal)?;
-    Ok(())
+    push_keeping(out, site, &mut journal)
 }
 
 /// Appends a file of one slot and the gate after it.
@@ -190,7 +202,7 @@ fn push_file(out: &mut String, site: &mut SimSite) -> anyhow::Result<()> {
 /// Opens a journal of two slots and appends its sizes.
 fn push_opened(alloc: Global, out: &mut String, site: &mut SimSite) -> anyhow::Result<()> {
     match opened_journal(alloc, site, 2) {
-        Ok(journal) => Ok(push_sizes(out, &journal)?),
+        Ok(journal) => done(push_sizes(out, &journal)),
         Err(_) => anyhow::bail!("no journal"),
     }
 }

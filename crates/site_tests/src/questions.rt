@@ -1,11 +1,11 @@
 //! Questions by their first word.
-ghost use Rattle.std.specs.Prelude.{◌≡◌, []};
+ghost use Rattle.std.specs.Prelude.{◌≡◌, [], IfOk};
 ghost use Rattle.sim_site.specs.Sites.{log_of};
 
-use crate::calls::{new_site, push_calls, report_of};
+use crate::calls::{make_calls, new_site, push_calls, report_of};
 use crate::journals::{push_finding, push_kept, push_kept_again, push_one, push_opening};
 use crate::scripts::{push_read, push_read_bytes, push_setup_of, push_terminals, text_of};
-use case_files::Questions;
+use case_files::{Questions, done};
 use sim_site::SimSite;
 use std::alloc::Global;
 
@@ -30,10 +30,17 @@ fn hold(alloc: Global, site: &mut SimSite, digits: &str) -> anyhow::Result<()>
     Ok(site.holding(alloc, file.as_slice())?)
 }
 
+/// The site that plays the script of the lines before.
+fn site_without_file(alloc: Global, before: &str) -> anyhow::Result<SimSite>
+    ensures { IfOk result (λ site. log_of site ≡ []) }
+{
+    let script = text_of(alloc, last_of(before, "script").unwrap_or(""))?;
+    new_site(alloc, script.as_str())
+}
+
 /// The site that plays the script of the lines before, and holds their file where they have one.
 fn site_of(alloc: Global, before: &str) -> anyhow::Result<SimSite> {
-    let script = text_of(alloc, last_of(before, "script").unwrap_or(""))?;
-    let mut site = new_site(alloc, script.as_str())?;
+    let mut site = site_without_file(alloc, before)?;
     if let Some(digits) = last_of(before, "file") {
         hold(alloc, &mut site, digits)?;
     }
@@ -49,9 +56,8 @@ fn push_image(
     stop: &str,
 ) -> anyhow::Result<()> {
     let mut site = site_of(alloc, before)?;
-    let mut said = String::new(alloc);
-    push_calls(alloc, &mut said, &mut site, calls)?;
-    push_calls(alloc, &mut said, &mut site, stop)?;
+    make_calls(alloc, &mut site, calls)?;
+    make_calls(alloc, &mut site, stop)?;
     push_calls(alloc, out, &mut site, "restart")
 }
 
@@ -70,10 +76,8 @@ fn push_report_of(
     site: &mut SimSite,
     calls: &str,
 ) -> anyhow::Result<()> {
-    let mut said = String::new(alloc);
-    push_calls(alloc, &mut said, site, calls)?;
-    write!(out, "> {}\n", report_of(site))?;
-    Ok(())
+    make_calls(alloc, site, calls)?;
+    done(write!(out, "> {}\n", report_of(site)))
 }
 
 /// Makes the calls by which the power is to fail, and appends what the journal then does.
@@ -85,13 +89,12 @@ fn push_on_journal(
     words: &str,
 ) -> anyhow::Result<()> {
     let (first, second) = words.split_once(' ').unwrap_or((words, ""));
-    let mut said = String::new(alloc);
-    push_calls(alloc, &mut said, site, first)?;
+    make_calls(alloc, site, first)?;
     match word {
         "keep" => push_kept(alloc, out, site),
         "keep_again" => push_kept_again(alloc, out, site, second),
-        "opening" => Ok(push_opening(alloc, out, site)?),
-        "finding" => Ok(push_finding(alloc, out, site)?),
+        "opening" => done(push_opening(alloc, out, site)),
+        "finding" => done(push_finding(alloc, out, site)),
         "keep_one" => push_one(alloc, out, site),
         _ => anyhow::bail!("no such question"),
     }
@@ -109,7 +112,7 @@ fn push_on_site(
     match word {
         "calls" => push_calls(alloc, out, &mut site, words),
         "report" => push_report_of(alloc, out, &mut site, words),
-        "setup" => Ok(push_setup_of(alloc, out, &site)?),
+        "setup" => done(push_setup_of(alloc, out, &site)),
         _ => push_on_journal(alloc, out, &mut site, word, words),
     }
 }

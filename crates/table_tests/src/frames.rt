@@ -2,7 +2,7 @@
 ghost use Rattle.std.specs.Prelude.{◌≤◌, length};
 
 use anyhow::ensure;
-use case_files::{bytes_of, push_result_bytes};
+use case_files::{bytes_of, done, push_result_bytes};
 use gw_bytes::LONGEST_CHUNK;
 use sale_frame::{FrameFault, FrameReader, frame_length};
 use std::alloc::{AllocError, Global};
@@ -109,22 +109,32 @@ fn gives(alloc: Global, chunks: (&[u8], &[u8]), payload: &[u8]) -> Result<bool, 
     }
 }
 
+/// A length and the payload after it.
+fn frame_of(alloc: Global, length: &[u8], payload: &[u8]) -> Result<Vec<u8>, AllocError> {
+    let mut frame = Vec::new(alloc);
+    frame.extend_from_slice(length)?;
+    frame.extend_from_slice(payload)?;
+    Ok(frame)
+}
+
+/// Appends where a frame, in two chunks, gives anything but this text.
+fn push_others(alloc: Global, out: &mut String, frame: &[u8], text: &str) -> anyhow::Result<()> {
+    ensure!(frame.len() <= LONGEST_CHUNK, "a long frame");
+    for first in 0..frame.len() {
+        if !gives(alloc, frame.split_at(first), text.as_bytes())? {
+            write!(out, "> another where the first chunk has {first} bytes\n")?;
+        }
+    }
+    Ok(())
+}
+
 /// Appends whether the frame of a text gives it in each two chunks that it has.
 pub fn push_in_two_chunks(alloc: Global, out: &mut String, text: &str) -> anyhow::Result<()> {
     ensure!(
         !text.is_empty() && text.len() <= 4000,
         "no payload of one chunk"
     );
-    let mut frame = Vec::new(alloc);
-    frame.extend_from_slice(&frame_length(text.len()))?;
-    frame.extend_from_slice(text.as_bytes())?;
-    let stream = frame.as_slice();
-    ensure!(stream.len() <= LONGEST_CHUNK, "a long frame");
-    for first in 0..stream.len() {
-        if !gives(alloc, stream.split_at(first), text.as_bytes())? {
-            write!(out, "> another where the first chunk has {first} bytes\n")?;
-        }
-    }
-    out.push_str("> the text\n")?;
-    Ok(())
+    let frame = frame_of(alloc, &frame_length(text.len()), text.as_bytes())?;
+    push_others(alloc, out, frame.as_slice(), text)?;
+    done(out.push_str("> the text\n"))
 }

@@ -1,6 +1,6 @@
 //! JSON texts, read and written.
 use anyhow::Context;
-use case_files::{bytes_of, push_result_bytes};
+use case_files::{bytes_of, done, push_result_bytes};
 use json_text::{Chars, Json, read, write, write_text};
 use std::alloc::{AllocError, Global};
 use std::str;
@@ -28,7 +28,7 @@ fn push_again(
 pub fn push_text(alloc: Global, out: &mut String, text: &str) -> anyhow::Result<()> {
     let mut again = Vec::new(alloc);
     if push_again(alloc, out, &mut again, text.as_bytes())? {
-        write!(out, "> {}\n", str::from_utf8(again.as_slice())?)?;
+        push_written(out, again.as_slice())?;
     }
     Ok(())
 }
@@ -59,24 +59,18 @@ fn push_other_part(out: &mut String, part: &Json) -> Result<(), AllocError> {
     }
 }
 
+/// Appends a number, as it is spelled.
+fn push_number(out: &mut String, numeral: &[u8]) -> anyhow::Result<()> {
+    let numeral = str::from_utf8(numeral)?;
+    done(write!(out, "> number {numeral}\n"))
+}
+
 /// Appends what a part of a tree is.
 fn push_part(out: &mut String, part: &Json) -> anyhow::Result<()> {
-    if let Some(is) = part.as_bool() {
-        write!(out, "> {is}\n")?;
-    } else if let Some(numeral) = part.as_number() {
-        write!(out, "> number {}\n", str::from_utf8(numeral.as_bytes())?)?;
-    } else if let Some(text) = part.as_str() {
-        write!(out, "> text {}\n", text.as_str())?;
-    } else if let Some(list) = part.as_list() {
-        write!(out, "> list of {}\n", list.len())?;
-    } else {
-        out.push_str(if part.is_object() {
-            "> object\n"
-        } else {
-            "> null\n"
-        })?;
+    match part.as_number() {
+        Some(numeral) => push_number(out, numeral.as_bytes()),
+        None => done(push_other_part(out, part)),
     }
-    Ok(())
 }
 
 /// The element at the place of this number.
@@ -105,7 +99,7 @@ fn part_at<'a>(tree: &'a Json, names: &str) -> Option<&'a Json> {
 fn push_part_at(out: &mut String, tree: &Json, names: &str) -> anyhow::Result<()> {
     match part_at(tree, names) {
         Some(part) => push_part(out, part),
-        None => Ok(out.push_str("> none\n")?),
+        None => done(out.push_str("> none\n")),
     }
 }
 
@@ -116,11 +110,26 @@ pub fn push_member(alloc: Global, out: &mut String, words: &str) -> anyhow::Resu
     push_part_at(out, &tree, names)
 }
 
+fn chars_of(alloc: Global, text: &str) -> Result<Chars, AllocError> {
+    let text = String::from_str(alloc, text)?;
+    Ok(Chars::new(text))
+}
+
+/// Appends written bytes as a text.
+fn push_written(out: &mut String, written: &[u8]) -> anyhow::Result<()> {
+    let text = str::from_utf8(written)?;
+    done(write!(out, "> {text}\n"))
+}
+
 /// Appends the JSON string of a text.
-pub fn push_string(alloc: Global, out: &mut String, text: &[u8]) -> anyhow::Result<()> {
-    let chars = Chars::new(String::from_str(alloc, str::from_utf8(text)?)?);
+fn push_string_of(alloc: Global, out: &mut String, chars: &Chars) -> anyhow::Result<()> {
     let mut written = Vec::new(alloc);
     write_text(chars.as_bytes(), &mut written)?;
-    write!(out, "> {}\n", str::from_utf8(written.as_slice())?)?;
-    Ok(())
+    push_written(out, written.as_slice())
+}
+
+/// Appends the JSON string of a text.
+pub fn push_string(alloc: Global, out: &mut String, text: &[u8]) -> anyhow::Result<()> {
+    let chars = chars_of(alloc, str::from_utf8(text)?)?;
+    push_string_of(alloc, out, &chars)
 }

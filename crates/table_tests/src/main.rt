@@ -1,19 +1,11 @@
-//! Plays tables of cases: bytes of terminals, messages of tills, values and records, in files of the form that `case_files` says. The
-//! arguments are the names of the files.
+//! Plays tables of cases of tills: values, messages and replies, in files of the form that `case_files` says. The arguments are the
+//! names of the files.
 #![tactic(auto)]
 
-mod apdus;
-mod commands;
-mod dialogues;
-mod fields;
 mod frames;
 mod json;
-mod ledger;
-mod messages;
-mod objects;
 mod questions;
 mod received;
-mod records;
 mod replies;
 mod requests;
 mod result_bodies;

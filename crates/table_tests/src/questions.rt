@@ -1,55 +1,7 @@
 //! Questions by their first word.
-use crate::{
-    apdus, commands, dialogues, fields, frames, json, ledger, messages, objects, received, records,
-    replies, requests, translation, values,
-};
-use anyhow::Context;
-use case_files::{Questions, bytes_of};
-use std::alloc::{AllocError, Global};
-
-/// What appended a result, as a question returns it.
-fn done(appended: Result<(), AllocError>) -> anyhow::Result<()> {
-    Ok(appended?)
-}
-
-/// Appends the result of a question on an APDU, which is its class, its instruction and its data.
-fn push_on_apdu(out: &mut String, word: &str, bytes: &[u8]) -> anyhow::Result<()> {
-    let apdu = messages::apdu_of(bytes).context("no APDU")?;
-    match word {
-        "pt_message" => done(messages::push_read(out, &apdu)),
-        "rewrite_pt_message" => done(messages::push_rewritten(out, &apdu)),
-        "command" => done(commands::push_read(out, &apdu)),
-        _ => anyhow::bail!("no such question"),
-    }
-}
-
-/// Appends the result of a question on APDUs.
-fn push_on_apdus(alloc: Global, out: &mut String, word: &str, bytes: &[u8]) -> anyhow::Result<()> {
-    match word {
-        "apdus_by_byte" => apdus::push_by_byte(alloc, out, bytes),
-        "apdus_in_three_chunks" => apdus::push_in_three_chunks(alloc, out, bytes),
-        "write_apdu" => apdus::push_written(out, bytes),
-        _ => push_on_apdu(out, word, bytes),
-    }
-}
-
-/// Appends the result of a question on bytes of a terminal.
-fn push_on_terminal(
-    alloc: Global,
-    out: &mut String,
-    word: &str,
-    bytes: &[u8],
-) -> anyhow::Result<()> {
-    match word {
-        "objects" => done(objects::push_objects(out, bytes)),
-        "tlv_length" => done(objects::push_length(out, bytes)),
-        "fields" => done(fields::push_read(out, bytes)),
-        "rewrite_fields" => done(fields::push_rewritten(out, bytes)),
-        "lines" => done(messages::push_lines(out, bytes)),
-        "count_lines" => done(messages::push_count(out, bytes)),
-        _ => push_on_apdus(alloc, out, word, bytes),
-    }
-}
+use crate::{frames, json, received, replies, requests, translation, values};
+use case_files::{Questions, bytes_of, done};
+use std::alloc::Global;
 
 /// Appends the result of a question on bytes.
 fn push_on_bytes(alloc: Global, out: &mut String, word: &str, words: &str) -> anyhow::Result<()> {
@@ -63,22 +15,17 @@ fn push_on_bytes(alloc: Global, out: &mut String, word: &str, words: &str) -> an
         "digits" => values::push_read(out, bytes),
         "ident_40" => done(values::push_ident_40(out, bytes)),
         "ident_2" => done(values::push_ident_2(out, bytes)),
-        _ => push_on_terminal(alloc, out, word, bytes),
+        _ => anyhow::bail!("no such question"),
     }
 }
 
 /// Appends the result of a question on a text.
 fn push_on_text(alloc: Global, out: &mut String, word: &str, words: &str) -> anyhow::Result<()> {
     match word {
-        "apdus_in_two_chunks" => apdus::push_two(alloc, out, words),
-        "write_object" => objects::push_written(alloc, out, words),
-        "dialogues" => dialogues::push_each(alloc, out, words),
-        "dialogue" => dialogues::push_steps(alloc, out, words),
         "frames" => frames::push_frames(alloc, out, words),
         "json" => json::push_text(alloc, out, words),
         "json_member" => json::push_member(alloc, out, words),
         "write_reply" => replies::push_reply(alloc, out, words),
-        "conditions" => done(translation::push_conditions(out)),
         "class" | "message_type" | "period" => done(requests::push_named(out, word, words)),
         "request"
         | "headed"
@@ -101,7 +48,7 @@ fn push_on_text(alloc: Global, out: &mut String, word: &str, words: &str) -> any
     }
 }
 
-/// The questions on bytes of terminals, messages of tills, values and records.
+/// The questions on values, messages of tills and what is translated for them.
 pub struct OnTables;
 
 impl Questions for OnTables {
@@ -114,26 +61,9 @@ impl Questions for OnTables {
         let (word, words) = line.split_once(' ').unwrap_or((line, ""));
         match word {
             "let" => Ok(()),
-            "record" => records::push_read(alloc, out, before, words),
             "reply_to" => translation::push_reply(alloc, out, before, words),
             "reply_to_closed" => translation::push_closed(alloc, out, before, words),
             "text_of" => translation::push_text(alloc, out, before, words),
-            "command_for" => translation::push_command_for(alloc, out, before, words),
-            "refused"
-            | "totals"
-            | "open"
-            | "last"
-            | "reversed"
-            | "settled"
-            | "found"
-            | "named"
-            | "number"
-            | "open_count"
-            | "accepted"
-            | "approved"
-            | "unresolved"
-            | "sum" => { ledger::push_on_ledger(alloc, out, before, word, words) }
-            _ if ledger::is_record(before, line) => Ok(()),
             _ => push_on_text(alloc, out, word, words),
         }
     }

@@ -1,6 +1,7 @@
 //! Messages to tills, written from their words. Those that have a header have ServiceID 1, SaleID S1 and POIID T1.
 use crate::result_bodies::result_body_of;
 use anyhow::{Context, ensure};
+use case_files::done;
 use gw_base::{Condition, Ident};
 use json_text::{FaultKind, JsonFault};
 use sale_reply::{
@@ -95,13 +96,18 @@ fn fault_kind_of(name: &str) -> Option<FaultKind> {
     }
 }
 
+/// A fault of JSON of this kind and at this place.
+fn json_fault(fault_kind: &str, at: &str) -> Option<Detail> {
+    Some(Detail::Json(JsonFault {
+        at: at.parse().ok()?,
+        kind: fault_kind_of(fault_kind)?,
+    }))
+}
+
 /// Why a message was rejected, in the words that the event has.
 fn detail_of(words: &[&str]) -> Option<Detail> {
     match words {
-        ["json", fault_kind, at] => Some(Detail::Json(JsonFault {
-            at: at.parse().ok()?,
-            kind: fault_kind_of(fault_kind)?,
-        })),
+        ["json", fault_kind, at] => json_fault(fault_kind, at),
         ["header", path] => Some(Detail::Header(Ident::of(path.as_bytes())?)),
         ["body", path] => Some(Detail::Body(Ident::of(path.as_bytes())?)),
         ["abort"] => Some(Detail::Abort),
@@ -194,6 +200,15 @@ fn display_request(words: &[&str]) -> Option<SaleReply<'static>> {
     })
 }
 
+/// The reply to a Diagnosis of a terminal that is ready.
+fn diagnosis() -> Option<SaleReply<'static>> {
+    let header = response("Diagnosis")?;
+    Some(SaleReply::Diagnosis {
+        header,
+        status: GlobalStatus::Ready,
+    })
+}
+
 /// The message of these words.
 fn reply_of(alloc: Global, words: &[&str]) -> Option<SaleReply<'static>> {
     let [word, rest @ ..] = words else {
@@ -203,10 +218,7 @@ fn reply_of(alloc: Global, words: &[&str]) -> Option<SaleReply<'static>> {
         "plain" => plain_reply(rest),
         "result" => result_reply(rest),
         "status" => status_reply(rest),
-        "diagnosis" => Some(SaleReply::Diagnosis {
-            header: response("Diagnosis")?,
-            status: GlobalStatus::Ready,
-        }),
+        "diagnosis" => diagnosis(),
         "display" => display_reply(alloc, rest),
         "print" => print_reply(rest),
         "display_request" => display_request(rest),
@@ -215,40 +227,59 @@ fn reply_of(alloc: Global, words: &[&str]) -> Option<SaleReply<'static>> {
     }
 }
 
+/// Appends the text of a frame, whose length precedes it.
+fn push_frame(out: &mut String, frame: &[u8]) -> anyhow::Result<()> {
+    let (size, text) = frame.split_at_checked(4).context("no frame")?;
+    let length = (text.len() as u64).to_be_bytes();
+    ensure!(Some(size) == length.get(4..), "another length");
+    let text = str::from_utf8(text)?;
+    done(write!(out, "> {text}\n"))
+}
+
 /// Appends the frame of a message: its length and its text, or that it isn't within the limits.
 pub fn push_written(alloc: Global, out: &mut String, reply: &SaleReply<'_>) -> anyhow::Result<()> {
     if !is_within_limits(reply) {
-        out.push_str("> beyond the limits\n")?;
-        return Ok(());
+        return done(out.push_str("> beyond the limits\n"));
     }
     let mut written = Out::new(alloc)?;
     write_reply(reply, &mut written);
-    let (size, text) = written.as_bytes().split_at_checked(4).context("no frame")?;
-    let length = (text.len() as u64).to_be_bytes();
-    ensure!(Some(size) == length.get(4..), "another length");
-    write!(out, "> {}\n", str::from_utf8(text)?)?;
-    Ok(())
+    push_frame(out, written.as_bytes())
 }
 
-/// Appends the frame of the request that prints lines: they are bytes, of which each `0a` divides two lines.
-pub fn push_print_request(alloc: Global, out: &mut String, bytes: &[u8]) -> anyhow::Result<()> {
+/// The lines of bytes, which each `0a` divides.
+fn lines_of(alloc: Global, bytes: &[u8]) -> Result<Vec<&[u8]>, AllocError> {
     let mut lines = Vec::new(alloc);
     for line in bytes.split(|byte| *byte == b'\n') {
         lines.push(line)?;
     }
-    let request = SaleReply::PrintRequest {
-        header: header(Class::Device, "Print", Kind::Request, "0").context("no header")?,
-        lines: lines.as_slice(),
-    };
-    push_written(alloc, out, &request)
+    Ok(lines)
 }
 
-/// Appends the frame of the message of some words.
-pub fn push_reply(alloc: Global, out: &mut String, words: &str) -> anyhow::Result<()> {
+/// Appends the frame of the request that prints these lines.
+fn push_printed(alloc: Global, out: &mut String, lines: &[&[u8]]) -> anyhow::Result<()> {
+    let header = header(Class::Device, "Print", Kind::Request, "0").context("no header")?;
+    push_written(alloc, out, &SaleReply::PrintRequest { header, lines })
+}
+
+/// Appends the frame of the request that prints lines: they are bytes, of which each `0a` divides two lines.
+pub fn push_print_request(alloc: Global, out: &mut String, bytes: &[u8]) -> anyhow::Result<()> {
+    let lines = lines_of(alloc, bytes)?;
+    push_printed(alloc, out, lines.as_slice())
+}
+
+fn all_of(alloc: Global, words: &str) -> Result<Vec<&str>, AllocError> {
     let mut all = Vec::new(alloc);
     for word in words.split_whitespace() {
         all.push(word)?;
     }
-    let reply = reply_of(alloc, all.as_slice()).context("no message")?;
-    push_written(alloc, out, &reply)
+    Ok(all)
+}
+
+/// Appends the frame of the message of some words.
+pub fn push_reply(alloc: Global, out: &mut String, words: &str) -> anyhow::Result<()> {
+    let words = all_of(alloc, words)?;
+    match reply_of(alloc, words.as_slice()) {
+        Some(reply) => push_written(alloc, out, &reply),
+        None => anyhow::bail!("no message"),
+    }
 }

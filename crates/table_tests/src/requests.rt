@@ -1,6 +1,6 @@
 //! Messages of tills, read and written.
-use crate::commands::push_command_line;
 use crate::frames::push_in_two_chunks;
+use case_files::{done, push_bytes};
 use gw_base::{Ident, Key};
 use json_text::read;
 use sale_msg::{
@@ -11,6 +11,7 @@ use sale_values::{Class, ReversalAsk};
 use std::alloc::{AllocError, Global};
 use std::str;
 use xlate::show_of;
+use zvt_msg::Command;
 
 /// A request of class Service, with ServiceID 1, SaleID S1 and POIID T1.
 fn request(alloc: Global, category: &str, body: &str) -> Result<String, AllocError> {
@@ -119,37 +120,38 @@ fn push_output(out: &mut String, output: &Output) -> Result<(), AllocError> {
     }
 }
 
+fn push_outputs(out: &mut String, outputs: &[Output]) -> Result<(), AllocError> {
+    for output in outputs {
+        push_output(out, output)?;
+    }
+    Ok(())
+}
+
 /// Appends what a request has besides its header.
 fn push_request(out: &mut String, header: &Header, request: &SaleRequest) -> anyhow::Result<()> {
     match request {
-        SaleRequest::Payment(ask) => push_payment(out, ask)?,
-        SaleRequest::Reversal(ask) => push_reversal(out, ask)?,
+        SaleRequest::Payment(ask) => push_payment(out, ask),
+        SaleRequest::Reversal(ask) => done(push_reversal(out, ask)),
         SaleRequest::Abort(reference) | SaleRequest::Status(Some(reference)) => {
-            push_reference(out, header, reference)?;
+            done(push_reference(out, header, reference))
         }
-        SaleRequest::Reconciliation(period) => write!(out, " {}", period.name())?,
-        SaleRequest::Display(outputs) => {
-            for output in outputs.inner().as_slice() {
-                push_output(out, output)?;
-            }
-        }
-        SaleRequest::Print(qualifier) => write!(out, " {qualifier}")?,
-        _ => {}
+        SaleRequest::Reconciliation(period) => done(write!(out, " {}", period.name())),
+        SaleRequest::Display(outputs) => done(push_outputs(out, outputs.inner().as_slice())),
+        SaleRequest::Print(qualifier) => done(write!(out, " {qualifier}")),
+        _ => Ok(()),
     }
-    Ok(())
 }
 
 /// Appends what a message is.
 fn push_incoming(out: &mut String, incoming: &Incoming) -> anyhow::Result<()> {
     match incoming {
-        Incoming::Silent => out.push_str("silent")?,
+        Incoming::Silent => done(out.push_str("silent")),
         Incoming::Request(header, request) => {
             push_header(out, header)?;
             out.push_str(":")?;
-            push_request(out, header, request)?;
+            push_request(out, header, request)
         }
     }
-    Ok(())
 }
 
 /// What a text is read as.
@@ -158,16 +160,38 @@ fn message(alloc: Global, text: &str) -> anyhow::Result<Result<Incoming, Message
     Ok(read_message(alloc, &tree))
 }
 
+/// Appends what a message is, or the fault.
+fn push_read_as(out: &mut String, message: &Result<Incoming, MessageError>) -> anyhow::Result<()> {
+    match message {
+        Ok(incoming) => push_incoming(out, incoming),
+        Err(MessageError::Fault(fault)) => done(write!(out, "{fault}")),
+        Err(MessageError::Memory) => done(out.push_str("no memory")),
+    }
+}
+
 /// Appends what a text is read as, or the fault.
 fn push_message(alloc: Global, out: &mut String, text: &str) -> anyhow::Result<()> {
+    let message = message(alloc, text)?;
     out.push_str("> ")?;
-    match &message(alloc, text)? {
-        Ok(incoming) => push_incoming(out, incoming)?,
-        Err(MessageError::Fault(fault)) => write!(out, "{fault}")?,
-        Err(MessageError::Memory) => out.push_str("no memory")?,
+    push_read_as(out, &message)?;
+    done(out.push_str("\n"))
+}
+
+fn push_line(out: &mut String, line: &[u8]) -> Result<(), AllocError> {
+    out.push_str(" ")?;
+    push_bytes(out, line)
+}
+
+/// Appends the lines of a command that shows them.
+fn push_lines(out: &mut String, command: &Command) -> anyhow::Result<()> {
+    let Command::Show { lines } = command else {
+        anyhow::bail!("no lines");
+    };
+    out.push_str("> show")?;
+    for line in lines.as_slice() {
+        push_line(out, line.as_slice())?;
     }
-    out.push_str("\n")?;
-    Ok(())
+    done(out.push_str("\n"))
 }
 
 /// Appends what a terminal shows of a Display, or `> none`.
@@ -176,23 +200,37 @@ fn push_shown(alloc: Global, out: &mut String, text: &str) -> anyhow::Result<()>
         anyhow::bail!("no Display");
     };
     match show_of(outputs) {
-        Some(command) => Ok(push_command_line(out, &command)?),
-        None => Ok(out.push_str("> none\n")?),
+        Some(command) => push_lines(out, &command),
+        None => done(out.push_str("> none\n")),
     }
+}
+
+/// What is written of a message; nothing where it is no request.
+fn written_of(
+    alloc: Global,
+    message: &Result<Incoming, MessageError>,
+) -> Result<Vec<u8>, AllocError> {
+    let mut written = Vec::new(alloc);
+    if let Ok(Incoming::Request(header, request)) = message {
+        write_request(alloc, header, request, &mut written)?;
+    }
+    Ok(written)
+}
+
+/// What is written of the request that a text is.
+fn written(alloc: Global, text: &str) -> anyhow::Result<Vec<u8>> {
+    let message = message(alloc, text)?;
+    Ok(written_of(alloc, &message)?)
 }
 
 /// Appends whether what is written of the request that a text is is the text.
 fn push_again(alloc: Global, out: &mut String, text: &str) -> anyhow::Result<()> {
-    let mut again = Vec::new(alloc);
-    if let Ok(Incoming::Request(header, request)) = &message(alloc, text)? {
-        write_request(alloc, header, request, &mut again)?;
-    }
+    let again = written(alloc, text)?;
     if again.as_slice() == text.as_bytes() {
-        out.push_str("> the same\n")?;
-    } else {
-        write!(out, "> {}\n", str::from_utf8(again.as_slice())?)?;
+        return done(out.push_str("> the same\n"));
     }
-    Ok(())
+    let again = str::from_utf8(again.as_slice())?;
+    done(write!(out, "> {again}\n"))
 }
 
 /// Appends the result of a question on a message of a till.

@@ -1,20 +1,18 @@
-//! What entries and requests are translated to: replies, texts, commands, and conditions of result codes.
+//! What entries are translated to for tills: replies, and the texts of transactions.
 ghost use Rattle.std.specs.Prelude.{IfSome};
 ghost use Rattle.xlate.specs.Finished.{IsResolved};
 
-use crate::commands::push_command_line;
-use crate::records::body_of;
 use crate::replies::push_written;
 use anyhow::Context;
 use arrayvec::ArrayVec;
-use gw_base::{Condition, Currency, Ident, Pt, Text};
+use case_files::{body_of, done};
+use gw_base::Currency;
 use gw_ledger::{Closed, Entry, Found, Totals};
-use jrn_record::{Deal, Intent, Outcome, Record, from_body};
+use jrn_record::{Record, from_body};
 use sale_reply::SaleReply;
-use std::alloc::{AllocError, Global};
-use std::str;
-use xlate::{command_of, condition_of, reply_of, transaction_text};
-use zvt_msg::Command;
+use std::alloc::Global;
+use std::str::{self, Split};
+use xlate::{reply_of, transaction_text};
 
 /// The entry of these records, in this slot.
 fn entry_of(slot: u32, intent: &[u8; 255], outcome: &[u8; 255]) -> Option<Entry>
@@ -71,8 +69,16 @@ fn push_text_of(
     outcome: &[u8; 255],
 ) -> anyhow::Result<()> {
     let text = text_of(slot, intent, outcome).context("no entry")?;
-    write!(out, "> {}\n", str::from_utf8(text.as_slice())?)?;
-    Ok(())
+    let text = str::from_utf8(text.as_slice())?;
+    done(write!(out, "> {text}\n"))
+}
+
+/// The bodies of an Intent, and after ` / ` of an Outcome.
+fn bodies_of(alloc: Global, before: &str, records: &str) -> anyhow::Result<([u8; 255], [u8; 255])> {
+    let (intent, outcome) = records.split_once(" / ").context("no records")?;
+    let intent = body_of(alloc, before, intent)?;
+    let outcome = body_of(alloc, before, outcome)?;
+    Ok((intent, outcome))
 }
 
 /// The slot of words, and after ` / ` the bodies of the Intent and of the Outcome.
@@ -82,10 +88,9 @@ fn records_of(
     words: &str,
 ) -> anyhow::Result<(u32, [u8; 255], [u8; 255])> {
     let (slot, records) = words.split_once(" / ").context("no slot")?;
-    let (intent, outcome) = records.split_once(" / ").context("no records")?;
-    let intent = body_of(alloc, before, intent)?;
-    let outcome = body_of(alloc, before, outcome)?;
-    Ok((slot.parse::<u32>()?, intent, outcome))
+    let slot = slot.parse::<u32>()?;
+    let (intent, outcome) = bodies_of(alloc, before, records)?;
+    Ok((slot, intent, outcome))
 }
 
 /// Appends the reply to an entry.
@@ -105,12 +110,21 @@ pub fn push_text(alloc: Global, out: &mut String, before: &str, words: &str) -> 
     push_text_of(out, slot, &intent, &outcome)
 }
 
+/// The next two numbers of some words: a count and a sum.
+fn next_sum(numbers: &mut Split<'_, char>) -> Option<(u32, u64)> {
+    let count = numbers.next()?.parse().ok()?;
+    let sum = numbers.next()?.parse().ok()?;
+    Some((count, sum))
+}
+
 /// Totals in euros of words: the count and the sum of payments, and of reversals.
 fn totals_of(words: &str) -> Option<Totals> {
     let mut numbers = words.split(' ');
+    let debit = next_sum(&mut numbers)?;
+    let reversed = next_sum(&mut numbers)?;
     Some(Totals {
-        debit: (numbers.next()?.parse().ok()?, numbers.next()?.parse().ok()?),
-        reversed: (numbers.next()?.parse().ok()?, numbers.next()?.parse().ok()?),
+        debit,
+        reversed,
         currency: Currency::Eur,
     })
 }
@@ -127,6 +141,14 @@ fn reply_to_closed(slot: u32, body: &[u8; 255], totals: Totals) -> Option<SaleRe
     })))
 }
 
+/// The body of a record, and after ` / ` totals.
+fn closed_of(alloc: Global, before: &str, words: &str) -> anyhow::Result<([u8; 255], Totals)> {
+    let (record, totals) = words.split_once(" / ").context("no totals")?;
+    let body = body_of(alloc, before, record)?;
+    let totals = totals_of(totals).context("no totals")?;
+    Ok((body, totals))
+}
+
 /// Appends the reply to a reconciliation: its slot, its record and its totals.
 pub fn push_closed(
     alloc: Global,
@@ -135,96 +157,10 @@ pub fn push_closed(
     words: &str,
 ) -> anyhow::Result<()> {
     let (slot, rest) = words.split_once(" / ").context("no slot")?;
-    let (record, totals) = rest.split_once(" / ").context("no totals")?;
-    let body = body_of(alloc, before, record)?;
     let slot = slot.parse::<u32>()?;
-    let totals = totals_of(totals).context("no totals")?;
+    let (body, totals) = closed_of(alloc, before, rest)?;
     match reply_to_closed(slot, &body, totals) {
         Some(reply) => push_written(alloc, out, &reply),
         None => anyhow::bail!("no reconciliation"),
     }
-}
-
-/// A terminal with password 123456.
-fn terminal(alloc: Global) -> Option<Pt> {
-    Some(Pt {
-        poi: Ident::of(b"T1")?,
-        address: Text::new(String::new(alloc)),
-        password: [0x12, 0x34, 0x56],
-        currency: Currency::Eur,
-        config: 0,
-        none: 0,
-        answer: 5,
-        command: 180,
-    })
-}
-
-/// What is asked for an Intent of a terminal, where its original is this payment, the first of the journal.
-fn asked(intent: &Intent, payment: &Intent, outcome: &Outcome, pt: &Pt) -> Option<Command> {
-    let original = Entry {
-        slot: 0,
-        intent: *payment,
-        result: Some(*outcome),
-    };
-    match intent.what {
-        Deal::Payment => Some(command_of(intent, None, pt)),
-        Deal::Reversal if outcome.approved && intent.original == Some(0) => {
-            Some(command_of(intent, Some(&original), pt))
-        }
-        Deal::Reversal => None,
-    }
-}
-
-/// What is asked for these records: an Intent, and the Intent and the Outcome of its original.
-fn asked_for(
-    alloc: Global,
-    intent: &[u8; 255],
-    payment: &[u8; 255],
-    outcome: &[u8; 255],
-) -> Option<Command> {
-    let pt = terminal(alloc)?;
-    let Ok(Record::Intent(intent)) = from_body(intent) else {
-        return None;
-    };
-    let Ok(Record::Intent(payment)) = from_body(payment) else {
-        return None;
-    };
-    let Ok(Record::Outcome(outcome)) = from_body(outcome) else {
-        return None;
-    };
-    asked(&intent, &payment, &outcome, &pt)
-}
-
-/// Appends the command for an Intent; after ` / ` come the Intent and the Outcome of its original.
-pub fn push_command_for(
-    alloc: Global,
-    out: &mut String,
-    before: &str,
-    words: &str,
-) -> anyhow::Result<()> {
-    let (intent, original) = words.split_once(" / ").context("no original")?;
-    let (payment, outcome) = original.split_once(" / ").context("no Outcome")?;
-    let intent = body_of(alloc, before, intent)?;
-    let payment = body_of(alloc, before, payment)?;
-    let outcome = body_of(alloc, before, outcome)?;
-    let command = asked_for(alloc, &intent, &payment, &outcome).context("no command")?;
-    push_command_line(out, &command)?;
-    Ok(())
-}
-
-/// Appends the result codes that have another condition than a refusal, and the condition after a stop where that is another.
-pub fn push_conditions(out: &mut String) -> Result<(), AllocError> {
-    for result_code in 0..=255 {
-        let condition = condition_of(result_code, false);
-        let stopped = condition_of(result_code, true);
-        if condition != Condition::Refusal || stopped != Condition::Refusal {
-            write!(
-                out,
-                "> {result_code:02x} {} {}\n",
-                condition.name(),
-                stopped.name()
-            )?;
-        }
-    }
-    Ok(())
 }

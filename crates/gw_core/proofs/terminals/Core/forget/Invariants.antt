@@ -1,7 +1,5 @@
--- What the loop of `forget` keeps.
-use Rattle.std.proofs.Common.{◌≡◌, ◌++◌, map, take, drop}
-use Rattle.gw_owes.specs.Terminals.{forgets_till}
+-- The ledger in which `forget` counts its steps.
 use Rattle.gw_core.proofs.terminals.Core.forget.Given as goal
 
-abbrev pub invariant-loop-terminal : goal.invariant-loop-terminal
-invariant-loop-terminal l = l.terminal-items ≡ map (forgets_till l.till) (take l.terminal-index l.initial.terminal-items) ++ drop l.terminal-index l.initial.terminal-items
+abbrev pub ghosts-forget_with : goal.ghosts-forget_with
+ghosts-forget_with a = record { name = a.blank.name; parts = a.blank.parts }

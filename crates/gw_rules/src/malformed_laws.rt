@@ -1,0 +1,20 @@
+//! Laws of lawful logs on malformed bytes: they change no books. Each function does nothing: its contract is the law.
+ghost use Rattle.gw_rules.specs.MalformedLaws.{EachApduChangesNoBooks, EachFrameChangesNoBooks, EachMessageChangesNoBooks, EachTooLongChangesNoBooks};
+
+/// In a lawful log no malformed bytes of a till change the books: a message that is no JSON or no message of a till, and bytes that begin no frame.
+/// Their item begins before the next poll. It owes the till its reply or its cut and nothing else, and where the till is gone nothing. The
+/// records that are kept, the ledger, the file and each queue are as before, and so is all else; but where the till is cut it is gone, and
+/// its own requests wait no longer.
+pub fn law_malformed_till_bytes()
+    ensures message { EachMessageChangesNoBooks }
+    ensures frame { EachFrameChangesNoBooks }
+{}
+
+/// In a lawful log no malformed bytes of a terminal change the books: an APDU outside the grammar, and bytes that begin one above the limit.
+/// Their item begins before the next poll. It owes the terminal its cut and nothing else, and where its link was cut before nothing. The
+/// records that are kept, the ledger, the file and each queue are as before, and so is all else but that link and what its loss brings:
+/// the till of an end of day or a display gets its reply, and where that can't be sent the till is cut, and its own requests wait no longer.
+pub fn law_malformed_terminal_bytes()
+    ensures outside { EachApduChangesNoBooks }
+    ensures too_long { EachTooLongChangesNoBooks }
+{}

@@ -1,0 +1,2 @@
+-- What a proof may see of two files in memory.
+pub mod FilesObserved

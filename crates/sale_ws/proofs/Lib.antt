@@ -1,0 +1,4 @@
+-- The lemmas of bridges.
+mod DeliveryLemmas
+mod ResultLemmas
+mod TurnLemmas

@@ -1,0 +1,103 @@
+//! A TCP stream whose writes wait for their peer, for a bounded time.
+ghost use Rattle.std.specs.Prelude.{◌≤◌, IfOk, length};
+
+use libc::net::{POLLOUT, poll};
+use libc::types::pollfd;
+use std::io::{self, ErrorKind, Read, Write};
+use std::net::TcpStream;
+use std::os::fd::AsRawFd;
+
+/// How long one wait lasts at most, in milliseconds.
+const WAIT: i32 = 5;
+
+/// How often the writes between two reads wait at most, all of them together.
+const MOST_WAITS: u8 = 20;
+
+/// A TCP stream that is set to return at once, whose writes wait all the same until their peer takes bytes: 100 milliseconds at most between two
+/// reads of it, however many writes there are. Then a write fails, so a peer that reads slowly or not at all holds nobody up for
+/// longer.
+///
+/// Reads don't wait. After one that brought bytes the next finds nothing, whatever has come: who reads until a message is whole comes
+/// to an end even if the peer sends parts of one without an end, and reads on when it is asked again.
+#[derive(Drop)]
+pub struct Patient {
+    stream: TcpStream,
+    waits: u8,
+    has_heard: bool,
+}
+
+impl Patient {
+    /// This stream.
+    pub fn new(stream: TcpStream) -> Patient {
+        Patient {
+            stream,
+            waits: 0,
+            has_heard: false,
+        }
+    }
+
+    /// The stream.
+    pub fn stream(&self) -> &TcpStream {
+        &self.stream
+    }
+
+    /// Waits until the peer may take bytes. False if it has waited too often.
+    fn wait(&mut self) -> bool {
+        if self.waits >= MOST_WAITS {
+            return false;
+        }
+        self.waits += 1;
+        let mut asked = [pollfd {
+            fd: self.stream.as_raw_fd(),
+            events: POLLOUT,
+            revents: 0,
+        }];
+        let _ = poll(&mut asked, WAIT);
+        true
+    }
+
+    /// One write that doesn't wait.
+    fn write_now(&self, bytes: &[u8]) -> io::Result<usize>
+        ensures { IfOk result (λ count. count ≤ length bytes.now) }
+    {
+        let mut writer = &self.stream;
+        writer.write(bytes)
+    }
+}
+
+impl Read for Patient {
+    fn read(&mut self, buf: &mut [u8]) -> io::Result<usize> {
+        self.waits = 0;
+        if self.has_heard {
+            self.has_heard = false;
+            return Err(io::Error::from(ErrorKind::WouldBlock));
+        }
+        let mut reader = &self.stream;
+        let count = reader.read(buf)?;
+        self.has_heard = count > 0;
+        Ok(count)
+    }
+}
+
+impl Write for Patient {
+    fn write(&mut self, buf: &[u8]) -> io::Result<usize> {
+        for _ in 0..=MOST_WAITS {
+            match self.write_now(buf) {
+                Ok(count) => return Ok(count),
+                Err(error) => {
+                    if error.kind() != ErrorKind::WouldBlock {
+                        return Err(error);
+                    }
+                }
+            }
+            if !self.wait() {
+                return Err(io::Error::from(ErrorKind::TimedOut));
+            }
+        }
+        Err(io::Error::from(ErrorKind::TimedOut))
+    }
+
+    fn flush(&mut self) -> io::Result<()> {
+        Ok(())
+    }
+}
