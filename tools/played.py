@@ -177,6 +177,11 @@ class Terminal:
         """Its connection ends, as where it is switched off and on."""
         self.line.shutdown(socket.SHUT_RDWR)
 
+    def close(self):
+        """It listens no more."""
+        self.listener.shutdown(socket.SHUT_RDWR)
+        self.listener.close()
+
 
 class Till:
     """A till with one connection, with the messages that came and weren't asked for yet."""
