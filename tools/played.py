@@ -247,9 +247,9 @@ def body_of(message, category):
 class Gateway:
     """The program in the mode `serve`, with a configuration for these terminals and a journal."""
 
-    def __init__(self, program, journal, terminals, listen=None, line=2, env=None):
+    def __init__(self, program, journal, terminals, listen=None, line=2, wait=60, env=None):
         self.listen = listen or free_address()
-        parts = ['listen = "%s"' % text_of(self.listen), 'journal = "%s"' % journal, "line = %d" % line]
+        parts = ['listen = "%s"' % text_of(self.listen), 'journal = "%s"' % journal, "line = %d" % line, "wait = %d" % wait]
         for number, terminal in enumerate(terminals):
             parts += ["[[terminal]]", 'poi = "T%d"' % (number + 1), 'address = "%s"' % text_of(terminal.address), 'currency = "EUR"', 'password = "%s"' % terminal.password, "config = 186"]
         self.configuration = "".join(part + "\n" for part in parts)
