@@ -88,6 +88,8 @@ def play_peers(address, kind, count):
 class Terminal:
     """A ZVT terminal that approves each payment at once."""
 
+    password = "123456"
+
     def __init__(self):
         self.listener = socket.create_server(("127.0.0.1", 0))
         self.address = self.listener.getsockname()

@@ -45,6 +45,8 @@ def payment(number, sale, poi):
 class Terminal:
     """A ZVT terminal that approves each payment of those foreseen at once."""
 
+    password = "123456"
+
     def __init__(self, payments):
         self.listener = socket.create_server(("127.0.0.1", 0))
         self.address = self.listener.getsockname()
