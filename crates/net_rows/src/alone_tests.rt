@@ -1,10 +1,10 @@
 //! Tests that need a process of their own, which they start through a shell.
 use crate::fixture::{Steps, check};
+use crate::peer::got_nothing;
 use crate::rig::Rig;
 use crate::shell::{Row, child_file, report, see_children};
 use gw_site::What;
 use std::fs::{self, File};
-use std::io::Read;
 use std::net::TcpStream;
 use std::test::Fail;
 use std::time::Duration;
@@ -40,12 +40,6 @@ fn a_disk_that_is_full(rt: HostRuntime) -> Result<(), Fail> {
     };
     a_full_disk(&rt)?;
     report(&rt, file.as_str(), "failed for good")
-}
-
-/// Whether a peer has got nothing.
-fn got_nothing(peer: &mut TcpStream) -> bool {
-    let mut buf = [0; 16];
-    peer.set_nonblocking(true).is_ok() && peer.read(&mut buf).is_err()
 }
 
 /// Prints, and sees that nobody gets it: neither the file, nor the till, nor the site by the till's connection.

@@ -12,6 +12,8 @@ macro_rules! check {
 }
 
 #[cfg(test)]
+mod ahead_tests;
+#[cfg(test)]
 mod alone_tests;
 #[cfg(test)]
 mod file_tests;

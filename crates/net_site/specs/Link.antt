@@ -6,5 +6,5 @@ use Rattle.net_site.specs.declared.links.Link.TheVariants.{Down, Making, Up}
 -- bytes come and go on the link; not while it is being made
 abbrev pub is_up : Link → Bool
 is_up Down = false
-is_up (Making stream) = false
+is_up (Making stream begun) = false
 is_up (Up stream) = true

@@ -1,4 +1,4 @@
-//! The links to terminals. A connection that isn't made in time goes on being made while the gateway does other work.
+//! The links to terminals. Connections are begun before the loop asks for the links, all together, and are made while the gateway does other work.
 ghost use Rattle.std.specs.Prelude.{◌≡◌, ◌<◌, ◌≤◌, [], ◌++◌, ◌∷◌, All, length, vec_capacity, slice_set, true, false, IfOk, OnErr, OnOk, Bool};
 ghost use Rattle.gw_site.specs.Turns.{IsWithinBuf};
 ghost use Rattle.net_site.specs.Link.{is_up};
@@ -22,10 +22,19 @@ use std::time::{Clock, Instant};
 /// How long all links together may wait for their peers between two polls, in microseconds.
 const WAIT: u16 = 20_000;
 
+/// How many seconds after a link was lost a connection is begun, and after an attempt that failed another one: two less than pass before
+/// the loop asks for the link.
+const REST: i64 = 3;
+
+/// After how many seconds a connection that isn't made is begun anew. The system asks a peer that is silent ever more seldom: at last once
+/// in a minute.
+const LONGEST: i64 = 10;
+
 #[derive(Drop)]
 enum Link {
     Down,
-    Making(mio::net::TcpStream),
+    /// A connection on which nothing is sent yet, and the moment at which it was begun.
+    Making(mio::net::TcpStream, i64),
     Up(TcpStream),
 }
 
@@ -33,6 +42,8 @@ enum Link {
 struct Terminal {
     address: SocketAddr,
     link: Link,
+    /// When its link was lost, or last asked for.
+    since: i64,
 }
 
 /// The terminals, in the order of their numbers. A contract sees of each whether it is linked.
@@ -41,6 +52,10 @@ pub(crate) struct Links {
     terminals: Vec<Terminal>,
     /// How long a link may still wait before the next poll, in microseconds.
     patience: u16,
+    /// The moment of the last poll.
+    moment: i64,
+    /// The last moment at which each terminal was looked at.
+    looked: i64,
     ghost room: { 32 ≤ vec_capacity terminals },
     ghost few: { length terminals.items ≤ 32 },
 }
@@ -60,6 +75,7 @@ fn is_same(one: SocketAddr, other: SocketAddr) -> bool {
 }
 
 /// How far a connection has come that was begun.
+#[derive(Clone, Copy)]
 enum Progress {
     NotYet,
     Made,
@@ -95,30 +111,83 @@ fn take_up(stream: mio::net::TcpStream) -> io::Result<Link> {
     Ok(Link::Up(stream))
 }
 
-/// Begins a connection, and waits for it.
-fn begin<R: Net>(rt: &R, address: SocketAddr, millis: i32) -> io::Result<Link> {
-    let stream = mio::net::TcpStream::connect(rt, address)?;
+/// Whether a connection that was begun so many seconds ago is to be begun anew.
+fn is_over(stream: &mio::net::TcpStream, seconds: i64) -> bool {
+    match progress_of(stream, 0) {
+        Ok(Progress::Made) => false,
+        Ok(Progress::NotYet) => seconds >= LONGEST,
+        Ok(Progress::Closed) | Err(_) => seconds >= REST,
+    }
+}
+
+/// Begins a connection, for which nobody waits.
+fn begun<R: Net>(rt: &R, address: SocketAddr, now: i64) -> Link
+    ensures { is_up result ≡ false }
+{
+    match mio::net::TcpStream::connect(rt, address) {
+        Ok(stream) => Link::Making(stream, now),
+        Err(_) => Link::Down,
+    }
+}
+
+impl Terminal {
+    /// Whether a connection to it is to be begun at this moment.
+    fn is_to_begin(&self, now: i64) -> bool
+        ensures { result ≡ true → is_up self.now.link ≡ false }
+    {
+        match &self.link {
+            Link::Down => now.saturating_sub(self.since) >= REST,
+            Link::Making(stream, begun) => is_over(stream, now.saturating_sub(*begun)),
+            Link::Up(_) => false,
+        }
+    }
+
+    /// Begins a connection to it, where that is to be done at this moment.
+    fn go_on<R: Net>(&mut self, rt: &R, now: i64)
+        ensures { is_up self.new.link ≡ is_up self.old.link }
+    {
+        if self.is_to_begin(now) {
+            // The old connection is closed first: a terminal has one at a time.
+            self.link = Link::Down;
+            self.link = begun(rt, self.address, now);
+            self.since = now;
+        }
+    }
+}
+
+/// How far a connection has come that was begun at this moment, and the connection; it is waited for so many milliseconds at most.
+fn taken(stream: mio::net::TcpStream, begun: i64, millis: i32) -> io::Result<Link> {
     match progress_of(&stream, millis)? {
         Progress::Made => take_up(stream),
-        Progress::NotYet => Ok(Link::Making(stream)),
+        Progress::NotYet => Ok(Link::Making(stream, begun)),
         Progress::Closed => Err(io::Error::from(ErrorKind::ConnectionReset)),
     }
 }
 
-/// Takes up the connection that is being made, or begins one.
+/// Begins a connection, and waits for it.
+fn begin<R: Net>(rt: &R, address: SocketAddr, now: i64, millis: i32) -> io::Result<Link> {
+    let stream = mio::net::TcpStream::connect(rt, address)?;
+    taken(stream, now, millis)
+}
+
+/// Takes up the connection that was begun before, or begins one.
 ///
-/// One that is still being made isn't waited for, nor is one whose peer wasn't there: so terminals that are switched off leave the
-/// time to the others.
-fn go_on<R: Net>(rt: &R, old: Link, address: SocketAddr, millis: i32) -> io::Result<Link> {
-    let stream = match old {
-        Link::Making(stream) => stream,
-        Link::Down | Link::Up(_) => return begin(rt, address, millis),
+/// One that was begun at this moment is waited for, as those are that the first poll began. One that was begun earlier isn't: so terminals
+/// that are switched off leave the time to the others.
+fn go_on<R: Net>(
+    rt: &R,
+    old: Link,
+    address: SocketAddr,
+    now: i64,
+    millis: i32,
+) -> io::Result<Link> {
+    let Link::Making(stream, begun) = old else {
+        return begin(rt, address, now, millis);
     };
-    match progress_of(&stream, 0) {
-        Ok(Progress::Made) => take_up(stream),
-        Ok(Progress::NotYet) => Ok(Link::Making(stream)),
-        Ok(Progress::Closed) => begin(rt, address, millis),
-        Err(_) => begin(rt, address, 0),
+    let wait = if begun == now { millis } else { 0 };
+    match taken(stream, begun, wait) {
+        Ok(link) => Ok(link),
+        Err(_) => begin(rt, address, now, millis),
     }
 }
 
@@ -131,6 +200,8 @@ impl Links {
         Ok(Links {
             terminals,
             patience: WAIT,
+            moment: 0,
+            looked: 0,
         })
     }
 
@@ -139,6 +210,7 @@ impl Links {
         ensures { self.new ≡ [] }
     {
         self.terminals.clear();
+        self.looked = 0;
     }
 
     /// How many there are.
@@ -173,6 +245,7 @@ impl Links {
         self.terminals.push_reserved(Terminal {
             address,
             link: Link::Down,
+            since: 0,
         });
         Ok(())
     }
@@ -189,11 +262,35 @@ impl Links {
         Ok(())
     }
 
-    /// Gives links their time to wait anew.
-    pub(crate) fn wait_anew(&mut self)
+    /// Begins the connection of the terminal of this number, where that is to be done.
+    fn go_on_with<R: Net>(&mut self, rt: &R, at: usize)
+        requires { at < length self.old }
+        ensures { self.new ≡ self.old }
+    {
+        let now = self.moment;
+        self.terminals[at].go_on(rt, now);
+    }
+
+    /// Begins the connections that are to be begun.
+    fn look<R: Net>(&mut self, rt: &R)
+        ensures { self.new ≡ self.old }
+    {
+        for at in 0..self.len() {
+            self.go_on_with(rt, at);
+        }
+    }
+
+    /// At the moment of a poll gives links their time to wait anew, and begins connections: at the first poll those to all terminals, and
+    /// then one where a link was lost or an attempt failed some seconds ago. So the connection is there when the loop asks for the link.
+    pub(crate) fn go_on<R: Net>(&mut self, rt: &R, now: i64)
         ensures { self.new ≡ self.old }
     {
         self.patience = WAIT;
+        self.moment = now;
+        if now > self.looked {
+            self.looked = now;
+            self.look(rt);
+        }
     }
 
     /// The descriptor of a terminal that is linked, or -1, which poll(2) passes over.
@@ -201,7 +298,7 @@ impl Links {
         match self.terminals.get(at) {
             Some(terminal) => match &terminal.link {
                 Link::Up(stream) => stream.as_raw_fd(),
-                Link::Down | Link::Making(_) => -1,
+                Link::Down | Link::Making(_, _) => -1,
             },
             None => -1,
         }
@@ -212,7 +309,10 @@ impl Links {
         requires { at < length self.old }
         ensures { self.new ≡ slice_set self.old at (is_up link) }
     {
-        self.terminals[at].link = link;
+        let now = self.moment;
+        let terminal = &mut self.terminals[at];
+        terminal.link = link;
+        terminal.since = now;
     }
 
     /// Takes a link out, and leaves the terminal without one.
@@ -220,7 +320,10 @@ impl Links {
         requires { at < length self.old }
         ensures { self.new ≡ slice_set self.old at false }
     {
-        mem::replace(&mut self.terminals[at].link, Link::Down)
+        let now = self.moment;
+        let terminal = &mut self.terminals[at];
+        terminal.since = now;
+        mem::replace(&mut terminal.link, Link::Down)
     }
 
     /// Takes up or begins the connection of a terminal, and counts the time that it waited: at most half of what is left, so that
@@ -231,13 +334,13 @@ impl Links {
     {
         let start = Instant::now(rt)?;
         let millis = i32::from(self.patience / 2000);
-        let link = go_on(rt, old, self.terminals[at].address, millis);
+        let link = go_on(rt, old, self.terminals[at].address, self.moment, millis);
         let passed = u16::try_from(start.elapsed(rt)?.as_micros()).unwrap_or(u16::MAX);
         self.patience = self.patience.saturating_sub(passed);
         link
     }
 
-    /// Links a terminal. An earlier connection of it is replaced; one that is still being made is taken up.
+    /// Links a terminal. An earlier connection of it is replaced; one that was begun before is taken up.
     #[tactic(auto, using(crate::proofs::ListLemmas::set_again))]
     pub(crate) fn make<R: Net + Clock>(&mut self, rt: &R, pt: u16) -> io::Result<()>
         ensures ok { OnOk result ((pt < length self.old) × (self.new ≡ slice_set self.old pt true)) }
@@ -300,7 +403,7 @@ impl Links {
         match self.terminals.get(usize::from(pt)) {
             Some(terminal) => match &terminal.link {
                 Link::Up(stream) => connection::send(stream, bytes),
-                Link::Down | Link::Making(_) => Err(io::Error::from(ErrorKind::NotConnected)),
+                Link::Down | Link::Making(_, _) => Err(io::Error::from(ErrorKind::NotConnected)),
             },
             None => Err(io::Error::from(ErrorKind::NotConnected)),
         }

@@ -487,9 +487,9 @@ impl<R: Net<Listener = TcpListener, Stream = TcpStream> + Files<File = File> + C
         ensures buf { length buf.new ≡ 4096 }
         ensures count { IsWithinBuf result.what }
     {
-        self.links.wait_anew();
         self.tills.go_on_closing(self.now);
         self.begin_pass();
+        self.links.go_on(&self.rt, self.began);
         let what = self.ask(buf);
         self.ask_anew(what);
         self.end_pass();
