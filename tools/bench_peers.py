@@ -94,6 +94,7 @@ class Terminal:
         self.listener = socket.create_server(("127.0.0.1", 0))
         self.address = self.listener.getsockname()
         self.line, self.got, self.links, self.number = None, b"", 0, 0
+        self.is_asked = self.is_ready = False
 
     def accept(self):
         self.links += 1
@@ -118,8 +119,11 @@ class Terminal:
                 self.number += 1
                 self.line.sendall(ACK + self.status(data[1:7]) + COMPLETION)
             elif head == b"\x06\x20":
+                self.is_asked = True
                 self.line.sendall(ACK + apdu("061e", b"\x83"))
-            elif head[:1] not in (b"\x80", b"\x84"):
+            elif head[:1] in (b"\x80", b"\x84"):
+                self.is_ready = self.is_asked
+            else:
                 self.line.sendall(ACK + COMPLETION)
 
 
@@ -169,14 +173,12 @@ class Shop:
             self.owners[handle]()
 
     def open(self):
-        """Waits until the terminals are ready, and connects the tills."""
+        """Waits until the gateway has acknowledged what each terminal says of its last transaction, and connects the tills."""
         end = time.monotonic() + PATIENCE
-        while not all(one.line for one in self.terminals):
+        while not all(one.is_ready for one in self.terminals):
             self.turn()
             if time.monotonic() > end or self.gateway.process.poll() is not None:
-                raise Differs("the terminals aren't linked")
-        for _ in range(500):
-            self.turn()
+                raise Differs("the terminals aren't ready")
         for number in range(1, TILLS + 1):
             till = Till(self.gateway.till().line, number)
             self.tills.append(till)

@@ -3,6 +3,7 @@ import collections
 import contextlib
 import json
 import os
+import random
 import signal
 import socket
 import struct
@@ -14,8 +15,8 @@ import time
 sys.path.insert(0, os.path.join(os.path.dirname(os.path.abspath(__file__)), "..", "examples"))
 from till import Connection, Lost
 
-# How long a till, a terminal or the gateway is awaited, in seconds.
-PATIENCE = 15
+# How long a till, a terminal or the gateway is awaited, in seconds: also on a machine whose disk still writes what was built before.
+PATIENCE = 60
 
 
 class Differs(Exception):
@@ -32,10 +33,16 @@ def wait_until(is_so, what):
 
 
 def free_address():
-    """A loopback address that is free now."""
-    with socket.socket() as probe:
-        probe.bind(("127.0.0.1", 0))
-        return probe.getsockname()
+    """A loopback address that is free now. Its port is below those that the system gives to connections: none gets it meanwhile, and none that
+    is made to it while nobody listens there is its own other end."""
+    with open("/proc/sys/net/ipv4/ip_local_port_range") as file:
+        first = int(file.read().split()[0])
+    for _ in range(1000):
+        address = "127.0.0.1", random.randrange(first // 2, first)
+        with socket.socket() as probe, contextlib.suppress(OSError):
+            probe.bind(address)
+            return address
+    raise Differs("no port is free")
 
 
 def text_of(address):

@@ -179,7 +179,7 @@ def gateway_is_killed(bench, folder):
         step += 1
         with bench.guard:
             bench.count, bench.step = 0, step
-        reply = till.pay(250, "EUR", "sale %d" % step, 15)
+        reply = till.pay(250, "EUR", "sale %d" % step, played.PATIENCE)
         with bench.guard:
             is_killed, bench.step = 2 * bench.count >= step, 0
         booked = bench.terminal.charged() - charged
@@ -242,7 +242,7 @@ def arrives_late(bench, folder):
     till = library.Till(Relay(bench.listen, is_wanted).address, "T1", os.path.join(folder, "late.json"), "S")
     bench.terminal.restart()
     wait_until(lambda: not is_ready(till), "a terminal that was restarted")
-    same(till.pay(250, "EUR", "late", 30).result, "Success", "a payment whose first request arrives late")
+    same(till.pay(250, "EUR", "late", played.PATIENCE).result, "Success", "a payment whose first request arrives late")
     wait_until(lambda: len(late) == 2, "the reply to a request that arrives late")
     same(bench.terminal.charged(), charged + 1, "payments booked for it")
 
