@@ -1,48 +1,64 @@
 -- Malformed bytes change no books: those of a till bring it its reply or its cut and nothing else, and those of a terminal its cut.
-use Rattle.std.proofs.Common.{◌≡◌, ℕ, List, [], ◌∷◌, ◌++◌, refl, sym, ◌∙◌, ap, subst, true, false, inl, inr, append_assoc}
+use Rattle.std.proofs.Common.{◌≡◌, ◌≢◌, ℕ, List, [], ◌∷◌, ◌++◌, refl, sym, ◌∙◌, ap, subst, true, false, inl, inr, append_assoc, append-nil}
 use Rattle.std.proofs.lemmas.List.{map-append}
-use Rattle.std.specs.Prelude.{Bool, ℤ, ◌⊎◌, map, Some}
+use Rattle.std.specs.Prelude.{Bool, ℤ, ◌⊎◌, map, slice_get, Option, Some, None}
+use Rattle.gw_base.specs.declared.setup.Setup.{Setup}
 use Rattle.gw_bytes.specs.Bytes.{AreBytes, IsPrefix}
 use Rattle.gw_site.specs.Outside.{Connection, heard_on, is_connected}
 use Rattle.gw_site.specs.Sorts.{AreOfRound, is_sort_of_round, sort_of}
 use Rattle.gw_site.specs.declared.turn.Turn.{Turn}
-use Rattle.gw_site.specs.declared.turn.Turn.TheVariants.{Polled, HeardTill, SentTill, CutTill, CutPt}
+use Rattle.gw_site.specs.declared.turn.Turn.TheVariants.{Start, OpenFailed, Polled, Opened, HeardTill, Closed, HeardPt, Lost, Stopped, Linked, LinkFailed, SentTill, SentPt, CutTill, CutPt, Wrote, Synced, DiskFailed, Crash}
+use Rattle.gw_ledger.specs.Accounts.{last_number_of}
+use Rattle.gw_ledger.specs.Fold.{found_of}
 use Rattle.sale_frame.specs.Grammar.{IsFrameRest}
-use Rattle.gw_owes.specs.Calls.{OwedCall, SendTill, CutTill as OwedCutTill}
-use Rattle.gw_owes.specs.Core.{Core}
+use Rattle.zvt_talk.specs.Talk.{TalkFacts}
+use Rattle.gw_owes.specs.Calls.{OwedCall, SendTill, SendPt, LinkPt, Sync, write_turn, CutTill as OwedCutTill, CutPt as OwedCutPt}
+use Rattle.gw_owes.specs.Core.{Core, Wait}
 use Rattle.gw_owes.specs.Events.{items_due, till_bytes_items}
-use Rattle.gw_owes.specs.Items.{RoundItem, Message, Asked, Unframed}
+use Rattle.gw_owes.specs.Greeting.{greet_decoded, outside_row}
+use Rattle.gw_owes.specs.Items.{RoundItem, Crowded, Message, Asked, Unframed, Gone, Greet, Handle, Serve, Queue, NextWaiting, Oversized, LinkLost, Late, Overdue, Due}
 use Rattle.gw_owes.specs.Laws.{BringsFrames}
+use Rattle.gw_owes.specs.Links.{is_linked, cutting}
 use Rattle.gw_owes.specs.ReadAs.{ReadAs, IsReadAs, Request, Silent, NoMessage, NoJson}
 use Rattle.gw_owes.specs.Reply.{ReplyValue, reply_value_bytes}
-use Rattle.gw_owes.specs.Row.{Known, Row, becoming, owing, owing_where}
+use Rattle.gw_owes.specs.Row.{Known, Row, becoming, owing, owing_nothing, owing_where}
 use Rattle.gw_owes.specs.Rows.{asked_row, row_of}
+use Rattle.gw_owes.specs.Terminals.{of_terminal, reply_calls_to, reply_to_lost, unlinks, link_lost}
+use Rattle.gw_owes.specs.declared.terminal.Standing.{Standing}
+use Rattle.gw_owes.specs.declared.terminal.Standing.TheVariants.{Unlinked, Registering, Enquiring, Ready, Serving, Aside}
 use Rattle.gw_owes.specs.declared.terminal.Terminal.{Terminal}
 use Rattle.gw_owes.proofs.FrameLemmas.{till-bytes-give}
+use Rattle.gw_owes.proofs.HandlingLemmas.{linked-row}
 use Rattle.gw_owes.proofs.ReadLemmas.{reads-one}
-use Rattle.gw_rules.specs.Lawful.{AllowedTurn, Begins, IsCourse, Stands, first_message, may_begin, turns_of}
-use Rattle.gw_rules.specs.MalformedLaws.{AllWait, AreAfterMessage, ChangesNoBooks, Disconnected, EachApduChangesNoBooks, EachFrameChangesNoBooks, EachMessageChangesNoBooks, EachTooLongChangesNoBooks, HasFramed, LeavesBooks, LeavesQueues, LinkEnds, MessageChangesNoBooks, OwnLeave, Replied, TerminalChangesNoBooks, TerminalOutcome, TillOutcome, Unreplied, WasCut, WasGone}
+use Rattle.gw_rules.specs.Lawful.{AllowedTurn, Begins, IsCourse, IsNext, Stands, first_message, may_begin, turns_of}
+use Rattle.gw_rules.specs.MalformedLaws.{AllWait, AreAfterMessage, AreOfItem, ChangesNoBooks, Disconnected, EachApduChangesNoBooks, EachCrowdedLeavesOthers, EachFrameChangesNoBooks, EachMessageChangesNoBooks, EachTerminalItemLeavesOthers, EachTillItemLeavesOthers, EachTooLongChangesNoBooks, HasFramed, IsCutAlone, IsItemCourse, ItemLeavesOthers, LeavesBooks, LeavesOthers, LeavesQueues, LinkEnds, MessageChangesNoBooks, OwnLeave, Replied, TerminalChangesNoBooks, TerminalOutcome, TillOutcome, Unreplied, WasCut, WasGone}
 use Rattle.gw_rules.specs.OutsideLaws.{ArePaid, ChangesNothing, CutsLink, IsAlone, calls_of_loss, idle_with, link_cut, till_gone}
 use Rattle.gw_rules.specs.QueueLaws.{IsReadOutside}
-use Rattle.gw_rules.specs.Scene.{Scene, known_in, row_at}
-use Rattle.gw_rules.specs.Stage.{Handling, busy}
-use Rattle.gw_rules.specs.View.{View, Move, Begin, Read, Make, after, after_turn, at_first, begin, read_first, view_from}
+use Rattle.gw_rules.specs.Scene.{Scene, known_in, link_lost_at, row_at, row_in}
+use Rattle.gw_rules.specs.Stage.{Handling, busy, is_looking}
+use Rattle.gw_rules.specs.View.{View, Move, Begin, Read, Make, after, after_turn, at_first, at_item, begin, begun, by_row, called, read_first, view_from}
 use Rattle.gw_rules.proofs.AloneLemmas.{Reaches, begun-is, never-polled, outside-is-alone, reaches, read-rest, round-rest, too-long-is-alone}
 use Rattle.gw_rules.proofs.CourseLemmas.{begin-stage, stands-more}
 use Rattle.gw_rules.proofs.CutLemmas.{none-among}
 use Rattle.gw_rules.proofs.HeardLemmas.{heard-bytes, bytes-append, stands-bytes}
 use Rattle.gw_rules.proofs.KeptLemmas.{begins-first}
-use Rattle.gw_rules.proofs.LinkedLemmas.{Agrees, course-agrees, move-agrees, round-setup, turn-agrees}
+use Rattle.gw_rules.proofs.LinkLawLemmas.{same-call}
+use Rattle.gw_rules.proofs.LinkStateLemmas.{standing_state, state_of}
+use Rattle.gw_rules.proofs.LinkedLemmas.{Agrees, Losing, Settled, course-agrees, first-agrees, is_on, move-agrees, round-setup, turn-agrees}
 use Rattle.gw_rules.proofs.LossLemmas.{at_stage, owing_then, pays, till-cut-next}
-use Rattle.gw_rules.proofs.OutsideCutLemmas.{in-owes}
+use Rattle.gw_rules.proofs.OutsideCutLemmas.{cut-is, cut-makes, in-owes}
 use Rattle.gw_rules.proofs.PendingLemmas.{SameItems, turn-items}
 use Rattle.gw_rules.proofs.PrefixLemmas.{Along}
 use Rattle.gw_rules.proofs.SetupLemmas.{HasSetup}
 use Rattle.gw_rules.proofs.SplitLemmas.{SplitAt, split-agrees, split-log, split-outside, split-stands}
-use Rattle.gw_rules.proofs.StageLemmas.{not-true}
+use Rattle.gw_rules.proofs.StageLemmas.{handling-not-polled, no-call, no-true, not-true, round-busy}
 use Rattle.gw_rules.proofs.UnlawfulLemmas.{take-owed}
 
 -- ---- the books
+
+books-by : (before after : Scene) → after.kept ≡ before.kept → after.flight ≡ before.flight → after.outside.file ≡ before.outside.file → after.outside.stable ≡ before.outside.stable → after.outside.written ≡ before.outside.written → LeavesBooks before after
+books-by before after kept flight file stable ranges =
+    record { kept = kept; flight = flight; keys = λ key. ap (λ records. found_of records key) kept; numbers = λ poi. ap (λ records. last_number_of records poi) kept; file = file; stable = stable; ranges = ranges }
 
 same-books : (scene : Scene) → LeavesBooks scene scene
 same-books scene = record { kept = refl; flight = refl; keys = λ key. refl; numbers = λ poi. refl; file = refl; stable = refl; ranges = refl }
@@ -286,6 +302,400 @@ cut-handled log inside rest till now item items first (turn ∷ later) v inside_
     handled log inside (Polled now ∷ rest) item items (OwedCutTill till ∷ []) first (CutTill till ∷ []) later v (till_gone v.scene till) (Make (CutTill till) ∷ []) (TillOutcome till item) (inside_is ∙ ap (λ t. first ++ t ∷ later) same) stands begins items_are owes.begun_is refl
     (subst (AllowedTurn owing) same next.0, tt) made (subst (λ w. Along w (later ++ Polled now ∷ rest)) made (subst (λ t. Along (after_turn owing t) (later ++ Polled now ∷ rest)) same next.1))
     (Disconnected there owes.calls_are refl refl) (gone-books v.scene till) (OwnLeave till ([], [], refl) refl)
+
+-- ---- one item, at any place
+
+-- where a call was made once the event has come, it was owed; and where it sends a till a reply, this is its turn
+record IsMade (v : View) (turn : Turn) : Type 0 where
+  call : OwedCall
+  next : IsNext v call
+  sends : (till : ℕ) (reply : ReplyValue) → call ≡ SendTill till reply → (turn ≡ SentTill till (reply_value_bytes reply) true) ⊎ ((bytes : List ℕ) × IsPrefix bytes (reply_value_bytes reply) × (turn ≡ SentTill till bytes false))
+
+call-made : (v : View) (turn : Turn) → v.scene.stage ≡ Handling → AllowedTurn v turn → is_sort_of_round (sort_of turn) ≡ true → IsMade v turn
+call-made v (Start setup) at ok e = no-true e
+call-made v OpenFailed at ok e = no-true e
+call-made v (Polled now) at ok e = no-true e
+call-made v (Opened other) at ok e = handling-not-polled (sym at ∙ ok.0)
+call-made v (HeardTill other bytes) at ok e = handling-not-polled (sym at ∙ ok.0.polled)
+call-made v (Closed other) at ok e = handling-not-polled (sym at ∙ ok.polled)
+call-made v (HeardPt other bytes) at ok e = handling-not-polled (sym at ∙ ok.0.polled)
+call-made v (Lost other) at ok e = handling-not-polled (sym at ∙ ok.polled)
+call-made v Stopped at ok e = handling-not-polled (sym at ∙ ok)
+call-made v (Linked other) at ok e = record { call = LinkPt other; next = ok; sends = λ till reply n. cc }
+call-made v (LinkFailed other) at ok e = record { call = LinkPt other; next = ok; sends = λ till reply n. cc }
+call-made v (SentTill other bytes true) at ok e = record {
+  call = SendTill other ok.0;
+  next = ok.1;
+  sends = λ till reply n.
+      let number : other ≡ till = cc in
+      let same : ok.0 ≡ reply = cc in
+      inl (ap (λ t. SentTill t bytes true) number ∙ ap (λ l. SentTill till l true) (ok.2 ∙ ap reply_value_bytes same));
+}
+call-made v (SentTill other bytes false) at ok e = record {
+  call = SendTill other ok.0;
+  next = ok.1;
+  sends = λ till reply n.
+      let number : other ≡ till = cc in
+      let same : ok.0 ≡ reply = cc in
+      inr (bytes, subst (λ r. IsPrefix bytes (reply_value_bytes r)) same ok.2, ap (λ t. SentTill t bytes false) number);
+}
+call-made v (SentPt other bytes true) at ok e = record { call = SendPt other ok.0; next = ok.1; sends = λ till reply n. cc }
+call-made v (SentPt other bytes false) at ok e = record { call = SendPt other ok.0; next = ok.1; sends = λ till reply n. cc }
+call-made v (CutTill other) at ok e = record { call = OwedCutTill other; next = ok; sends = λ till reply n. cc }
+call-made v (CutPt other) at ok e = record { call = OwedCutPt other; next = ok; sends = λ till reply n. cc }
+call-made v (Wrote offset bytes) at ok e = record { call = ok.0; next = ok.1; sends = λ till reply n. absurd (let none : None ≡ Some (Wrote offset bytes) = sym (ap write_turn n) ∙ ok.2 in cc) }
+call-made v Synced at ok e = record { call = Sync; next = ok; sends = λ till reply n. cc }
+call-made v DiskFailed at (inl next) e = record { call = Sync; next = next; sends = λ till reply n. cc }
+call-made v DiskFailed at (inr looking) e = no-true (sym (ap is_looking at) ∙ looking)
+call-made v (Crash file) at ok e = no-true e
+
+-- where none is owed, no move of the item is left
+none-left : (scene : Scene) (items : List RoundItem) (moves : List Move) → scene.stage ≡ Handling → IsCourse (idle_with scene items) moves → AreOfItem moves → moves ≡ []
+none-left scene items [] at c o = refl
+none-left scene items (Begin ∷ moves) at c o = absurd o
+none-left scene items (Read as_read ∷ moves) at c o = absurd o
+none-left scene items (Make turn ∷ moves) at c o = let made = call-made (idle_with scene items) turn at c.0 o.0 in no-call [] made.call refl made.next
+
+-- where it was owed none, none has come
+idle-leaves : (scene : Scene) (items : List RoundItem) (moves : List Move) (Comes : List Turn → Scene → Scene → Type 0) → scene.stage ≡ Handling → IsCourse (idle_with scene items) moves → AreOfItem moves → Comes [] scene scene
+    → LeavesOthers scene items (turns_of moves) (view_from (idle_with scene items) moves) Comes
+idle-leaves scene items moves Comes at c o comes =
+    subst (λ m. LeavesOthers scene items (turns_of m) (view_from (idle_with scene items) m) Comes) (sym (none-left scene items moves at c o))
+    (record { books = same-books scene; queues = AllWait refl; items_are = refl; comes = λ calls. comes })
+
+-- where the cut of a till is owed, it has come or not
+cut-made : (till : ℕ) (scene : Scene) (items : List RoundItem) → scene.stage ≡ Handling → after_turn (owing_then scene (OwedCutTill till ∷ []) items) (CutTill till) ≡ idle_with (till_gone scene till) items
+cut-made till scene items at = ap (at_stage (till_gone scene till) [] items) (ap busy at ∙ sym at)
+
+cut-left : (till : ℕ) (scene : Scene) (items : List RoundItem) (moves : List Move) → scene.stage ≡ Handling → IsCourse (owing_then scene (OwedCutTill till ∷ []) items) moves → AreOfItem moves → (moves ≡ []) ⊎ (moves ≡ Make (CutTill till) ∷ [])
+cut-left till scene items [] at c o = inl refl
+cut-left till scene items (Begin ∷ moves) at c o = absurd o
+cut-left till scene items (Read as_read ∷ moves) at c o = absurd o
+cut-left till scene items (Make turn ∷ moves) at c o =
+    let owing : View = owing_then scene (OwedCutTill till ∷ []) items in
+    let same : turn ≡ CutTill till = till-cut-next till owing turn at refl c.0 o.0 in
+    let onward : IsCourse (idle_with (till_gone scene till) items) moves = subst (λ w. IsCourse w moves) (cut-made till scene items at) (subst (λ t. IsCourse (after_turn owing t) moves) same c.1) in
+    inr (ap (λ t. Make t ∷ moves) same ∙ ap (λ m. Make (CutTill till) ∷ m) (none-left (till_gone scene till) items moves at onward o.1))
+
+-- the scene once a call was made
+scene-of : (v w : View) → v ≡ w → v.scene ≡ w.scene
+scene-of v w e = ap (λ (u : View). u.scene) e
+
+cut-leaves : (till : ℕ) (scene : Scene) (items : List RoundItem) (moves : List Move) (Comes : List Turn → Scene → Scene → Type 0) → scene.stage ≡ Handling → IsCourse (owing_then scene (OwedCutTill till ∷ []) items) moves → AreOfItem moves
+    → ((after : Scene) → after ≡ till_gone scene till → Comes (CutTill till ∷ []) scene after) → LeavesOthers scene items (turns_of moves) (view_from (owing_then scene (OwedCutTill till ∷ []) items) moves) Comes
+cut-leaves till scene items moves Comes at c o comes = by_moves (cut-left till scene items moves at c o)
+  where
+    owing : View
+    owing = owing_then scene (OwedCutTill till ∷ []) items
+
+    by_moves : (moves ≡ []) ⊎ (moves ≡ Make (CutTill till) ∷ []) → LeavesOthers scene items (turns_of moves) (view_from owing moves) Comes
+    by_moves (inl none) =
+        subst (λ m. LeavesOthers scene items (turns_of m) (view_from owing m) Comes) (sym none)
+        (record { books = same-books scene; queues = AllWait refl; items_are = refl; comes = λ calls. absurd (let n : OwedCutTill till ∷ [] ≡ [] = calls in cc) })
+    by_moves (inr cut) =
+        subst (λ m. LeavesOthers scene items (turns_of m) (view_from owing m) Comes) (sym cut)
+        (record { books = books-by scene _ refl refl refl refl refl; queues = OwnLeave till ([], [], refl) refl; items_are = refl; comes = λ calls. comes _ (scene-of _ _ (cut-made till scene items at)) })
+
+-- where a reply is owed, it was sent, or couldn't be, and then its till was cut or not
+abbrev ReplyMoves : ℕ → ReplyValue → List Move → Type 0
+ReplyMoves till reply moves =
+    (moves ≡ []) ⊎ ((moves ≡ Make (SentTill till (reply_value_bytes reply) true) ∷ [])
+    ⊎ ((bytes : List ℕ) × IsPrefix bytes (reply_value_bytes reply) × ((moves ≡ Make (SentTill till bytes false) ∷ []) ⊎ (moves ≡ Make (SentTill till bytes false) ∷ Make (CutTill till) ∷ []))))
+
+reply-left : (till : ℕ) (reply : ReplyValue) (scene : Scene) (items : List RoundItem) (moves : List Move) → scene.stage ≡ Handling → IsCourse (owing_then scene (SendTill till reply ∷ []) items) moves → AreOfItem moves → ReplyMoves till reply moves
+reply-left till reply scene items [] at c o = inl refl
+reply-left till reply scene items (Begin ∷ moves) at c o = absurd o
+reply-left till reply scene items (Read as_read ∷ moves) at c o = absurd o
+reply-left till reply scene items (Make turn ∷ moves) at c o = by_turn (made.sends till reply (same-call (SendTill till reply ∷ []) made.call (SendTill till reply) made.next refl))
+  where
+    owing : View
+    owing = owing_then scene (SendTill till reply ∷ []) items
+
+    made : IsMade owing turn
+    made = call-made owing turn at c.0 o.0
+
+    onward : (sent : Turn) (w : View) → turn ≡ sent → after_turn owing sent ≡ w → IsCourse w moves
+    onward sent w is e = subst (λ w. IsCourse w moves) e (subst (λ t. IsCourse (after_turn owing t) moves) is c.1)
+
+    by_cut : (bytes : List ℕ) → turn ≡ SentTill till bytes false → (moves ≡ []) ⊎ (moves ≡ Make (CutTill till) ∷ []) → (Make turn ∷ moves ≡ Make (SentTill till bytes false) ∷ []) ⊎ (Make turn ∷ moves ≡ Make (SentTill till bytes false) ∷ Make (CutTill till) ∷ [])
+    by_cut bytes is (inl none) = inl (ap (λ t. Make t ∷ moves) is ∙ ap (λ m. Make (SentTill till bytes false) ∷ m) none)
+    by_cut bytes is (inr cut) = inr (ap (λ t. Make t ∷ moves) is ∙ ap (λ m. Make (SentTill till bytes false) ∷ m) cut)
+
+    by_turn : (turn ≡ SentTill till (reply_value_bytes reply) true) ⊎ ((bytes : List ℕ) × IsPrefix bytes (reply_value_bytes reply) × (turn ≡ SentTill till bytes false)) → ReplyMoves till reply (Make turn ∷ moves)
+    by_turn (inl is) =
+        let sent : Turn = SentTill till (reply_value_bytes reply) true in
+        let none = none-left scene items moves at (onward sent (idle_with scene items) is (ap (at_stage scene [] items) (ap busy at ∙ sym at))) o.1 in
+        inr (inl (ap (λ t. Make t ∷ moves) is ∙ ap (λ m. Make sent ∷ m) none))
+    by_turn (inr (bytes, prefix, is)) =
+        let cutting : View = owing_then scene (OwedCutTill till ∷ []) items in
+        let left = cut-left till scene items moves at (onward (SentTill till bytes false) cutting is (ap (at_stage scene (OwedCutTill till ∷ []) items) (ap busy at ∙ sym at))) o.1 in
+        inr (inr (bytes, prefix, by_cut bytes is left))
+
+reply-leaves : (till : ℕ) (reply : ReplyValue) (scene : Scene) (items : List RoundItem) (moves : List Move) → scene.stage ≡ Handling → IsCourse (owing_then scene (SendTill till reply ∷ []) items) moves → AreOfItem moves
+    → LeavesOthers scene items (turns_of moves) (view_from (owing_then scene (SendTill till reply ∷ []) items) moves) (ArePaid (SendTill till reply ∷ []))
+reply-leaves till reply scene items moves at c o = by_moves (reply-left till reply scene items moves at c o)
+  where
+    owing : View
+    owing = owing_then scene (SendTill till reply ∷ []) items
+
+    Leaves : List Move → Type 0
+    Leaves m = LeavesOthers scene items (turns_of m) (view_from owing m) (ArePaid (SendTill till reply ∷ []))
+
+    by_cut : (bytes : List ℕ) → IsPrefix bytes (reply_value_bytes reply) → (moves ≡ Make (SentTill till bytes false) ∷ []) ⊎ (moves ≡ Make (SentTill till bytes false) ∷ Make (CutTill till) ∷ []) → Leaves moves
+    by_cut bytes prefix (inl failed) = subst Leaves (sym failed) (record {
+      books = books-by scene _ refl refl refl refl refl;
+      queues = AllWait refl;
+      items_are = refl;
+      comes = λ calls. absurd (let n : OwedCutTill till ∷ [] ≡ [] = calls in cc);
+    })
+    by_cut bytes prefix (inr cut) = subst Leaves (sym cut) (record {
+      books = books-by scene _ refl refl refl refl refl;
+      queues = OwnLeave till (SentTill till bytes false ∷ [], [], refl) refl;
+      items_are = refl;
+      comes = λ calls. inr (inr (record {
+        till = till;
+        reply = reply;
+        calls_are = refl;
+        bytes = bytes;
+        sent = prefix;
+        turns_are = refl;
+        after_is = ap (λ s. record (till_gone scene till) { stage = s }) (ap (λ s. busy (busy s)) at ∙ sym at);
+      }));
+    })
+
+    by_moves : ReplyMoves till reply moves → Leaves moves
+    by_moves (inl none) = subst Leaves (sym none) (record { books = same-books scene; queues = AllWait refl; items_are = refl; comes = λ calls. absurd (let n : SendTill till reply ∷ [] ≡ [] = calls in cc) })
+    by_moves (inr (inl whole)) = subst Leaves (sym whole) (record {
+      books = books-by scene _ refl refl refl refl refl;
+      queues = AllWait refl;
+      items_are = refl;
+      comes = λ calls. inr (inl (record { till = till; reply = reply; calls_are = refl; turns_are = refl; after_is = ap (λ s. record scene { stage = s }) (ap busy at ∙ sym at) }));
+    })
+    by_moves (inr (inr (bytes, prefix, moves_are))) = by_cut bytes prefix moves_are
+
+paid-leaves : (asker : Option ℕ) (reply : Option ReplyValue) (scene : Scene) (items : List RoundItem) (moves : List Move) → scene.stage ≡ Handling → IsCourse (owing_then scene (reply_calls_to asker reply) items) moves → AreOfItem moves
+    → LeavesOthers scene items (turns_of moves) (view_from (owing_then scene (reply_calls_to asker reply) items) moves) (ArePaid (reply_calls_to asker reply))
+paid-leaves None reply scene items moves at c o = idle-leaves scene items moves (ArePaid []) at c o (inl (record { calls_are = refl; turns_are = refl; after_is = refl }))
+paid-leaves (Some till) None scene items moves at c o = idle-leaves scene items moves (ArePaid []) at c o (inl (record { calls_are = refl; turns_are = refl; after_is = refl }))
+paid-leaves (Some till) (Some reply) scene items moves at c o = reply-leaves till reply scene items moves at c o
+
+-- where an outcome is another
+leaves-as : (scene : Scene) (items : List RoundItem) (turns : List Turn) (v : View) (Comes Other : List Turn → Scene → Scene → Type 0) → ((after : Scene) → Comes turns scene after → Other turns scene after) → LeavesOthers scene items turns v Comes → LeavesOthers scene items turns v Other
+leaves-as scene items turns v Comes Other other leaves = record { books = leaves.books; queues = leaves.queues; items_are = leaves.items_are; comes = λ calls. other v.scene (leaves.comes calls) }
+
+-- the item has begun, and these calls are owed of it
+record HasBegun (v : View) (item : RoundItem) (items : List RoundItem) (moves : List Move) (calls : List OwedCall) : Type 0 where
+  begun_is : after v Begin ≡ owing_then (at_item v.scene) calls items
+  stage : (at_item v.scene).stage ≡ Handling
+  calls_are : (row_at (at_item v.scene) item).calls ≡ calls
+  onward : IsCourse (owing_then (at_item v.scene) calls items) moves
+
+has-begun : (log : List Turn) (v : View) (item : RoundItem) (items : List RoundItem) (moves : List Move) (calls : List OwedCall) (has : HasSetup v.scene) → IsItemCourse log v item items moves → row_of v.scene.outside.tills (known_in v.scene has.setup) item ≡ becoming v.scene.core calls
+    → HasBegun v item items moves calls
+has-begun log v item items moves calls has h row =
+    let row_is : row_at v.scene item ≡ becoming v.scene.core calls = ap (row_in v.scene (λ known. row_of v.scene.outside.tills known item)) has.setup_is ∙ row in
+    let begun_is : after v Begin ≡ owing_then (at_item v.scene) calls items = ap (begin v.scene) h.items_are ∙ ap (λ r. begun v.scene r items) row_is in
+    record { begun_is = begun_is; stage = round-busy v.scene.stage h.begins.idle.round; calls_are = ap (λ (r : Row). r.calls) row_is; onward = subst (λ w. IsCourse w moves) begun_is h.lawful }
+
+item-leaves : (v : View) (item : RoundItem) (items : List RoundItem) (moves : List Move) (calls : List OwedCall) (Comes : List Turn → Scene → Scene → Type 0) → HasBegun v item items moves calls
+    → LeavesOthers (at_item v.scene) items (turns_of moves) (view_from (owing_then (at_item v.scene) calls items) moves) Comes → ItemLeavesOthers v items moves Comes
+item-leaves v item items moves calls Comes b leaves = subst (λ w. LeavesOthers (at_item v.scene) items (turns_of moves) (view_from w moves) Comes) (sym b.begun_is) leaves
+
+stands-agrees : (log : List Turn) (v : View) → Stands log v → Agrees v
+stands-agrees log v s = subst Agrees s.view_is (course-agrees at_first s.course first-agrees s.lawful)
+
+item-setup : (log : List Turn) (v : View) (item : RoundItem) (items : List RoundItem) (moves : List Move) → IsItemCourse log v item items moves → HasSetup v.scene
+item-setup log v item items moves h = round-setup v (stands-agrees log v h.along).run h.begins.idle.round
+
+-- of a till
+asked-leaves : (log : List Turn) (v : View) (till : ℕ) (as_read : ReadAs) (items : List RoundItem) (moves : List Move) → IsItemCourse log v (Asked till as_read) items moves → IsReadOutside as_read → ItemLeavesOthers v items moves (TillOutcome till (Asked till as_read))
+asked-leaves log v till as_read items moves h outside = by_there (is_connected v.scene.outside.tills till) refl
+  where
+    item : RoundItem
+    item = Asked till as_read
+
+    has : HasSetup v.scene
+    has = item-setup log v item items moves h
+
+    known : Known
+    known = known_in v.scene has.setup
+
+    by_there : (there : Bool) → is_connected v.scene.outside.tills till ≡ there → ItemLeavesOthers v items moves (TillOutcome till item)
+    by_there true there =
+        let row = asked-is v.scene.outside.tills known till as_read outside there in
+        let calls : List OwedCall = SendTill till row.0 ∷ [] in
+        let b = has-begun log v item items moves calls has h row.1 in
+        item-leaves v item items moves calls (TillOutcome till item) b
+        (leaves-as (at_item v.scene) items (turns_of moves) (view_from (owing_then (at_item v.scene) calls items) moves) (ArePaid calls) (TillOutcome till item) (λ after paid. replied-outcome till item row.0 (turns_of moves) (at_item v.scene) after there b.calls_are paid)
+        (reply-leaves till row.0 (at_item v.scene) items moves b.stage b.onward h.of_item))
+    by_there false gone =
+        let b = has-begun log v item items moves [] has h (ap (λ b. owing_where b known (asked_row known till as_read)) gone) in
+        item-leaves v item items moves [] (TillOutcome till item) b (idle-leaves (at_item v.scene) items moves (TillOutcome till item) b.stage b.onward h.of_item (WasGone gone b.calls_are refl refl))
+
+unframed-leaves : (log : List Turn) (v : View) (till : ℕ) (items : List RoundItem) (moves : List Move) → IsItemCourse log v (Unframed till) items moves → ItemLeavesOthers v items moves (TillOutcome till (Unframed till))
+unframed-leaves log v till items moves h = by_there (is_connected v.scene.outside.tills till) refl
+  where
+    item : RoundItem
+    item = Unframed till
+
+    has : HasSetup v.scene
+    has = item-setup log v item items moves h
+
+    known : Known
+    known = known_in v.scene has.setup
+
+    calls : List OwedCall
+    calls = OwedCutTill till ∷ []
+
+    by_there : (there : Bool) → is_connected v.scene.outside.tills till ≡ there → ItemLeavesOthers v items moves (TillOutcome till item)
+    by_there true there =
+        let b = has-begun log v item items moves calls has h (ap (λ b. owing_where b known (owing known calls)) there) in
+        item-leaves v item items moves calls (TillOutcome till item) b (cut-leaves till (at_item v.scene) items moves (TillOutcome till item) b.stage b.onward h.of_item (λ after is. Disconnected there b.calls_are refl is))
+    by_there false gone =
+        let b = has-begun log v item items moves [] has h (ap (λ b. owing_where b known (owing known calls)) gone) in
+        item-leaves v item items moves [] (TillOutcome till item) b (idle-leaves (at_item v.scene) items moves (TillOutcome till item) b.stage b.onward h.of_item (WasGone gone b.calls_are refl refl))
+
+pub each-till-item-leaves-others : EachTillItemLeavesOthers
+each-till-item-leaves-others log v till (Crowded number) items moves h of outside = absurd of
+each-till-item-leaves-others log v till (Message number bytes) items moves h of outside = absurd outside
+each-till-item-leaves-others log v till (Asked number as_read) items moves h of outside = subst (λ t. ItemLeavesOthers v items moves (TillOutcome t (Asked number as_read))) of (asked-leaves log v number as_read items moves h outside)
+each-till-item-leaves-others log v till (Unframed number) items moves h of outside = subst (λ t. ItemLeavesOthers v items moves (TillOutcome t (Unframed number))) of (unframed-leaves log v number items moves h)
+each-till-item-leaves-others log v till (Gone number) items moves h of outside = absurd of
+each-till-item-leaves-others log v till (Greet pt apdu) items moves h of outside = absurd of
+each-till-item-leaves-others log v till (Handle pt apdu) items moves h of outside = absurd of
+each-till-item-leaves-others log v till (Serve pt number header request) items moves h of outside = absurd of
+each-till-item-leaves-others log v till (Queue pt number header request) items moves h of outside = absurd of
+each-till-item-leaves-others log v till (NextWaiting pt) items moves h of outside = absurd of
+each-till-item-leaves-others log v till (Oversized pt) items moves h of outside = absurd of
+each-till-item-leaves-others log v till (LinkLost pt) items moves h of outside = absurd of
+each-till-item-leaves-others log v till (Late pt) items moves h of outside = absurd of
+each-till-item-leaves-others log v till (Overdue key) items moves h of outside = absurd of
+each-till-item-leaves-others log v till (Due pt) items moves h of outside = absurd of
+
+pub each-crowded-leaves-others : EachCrowdedLeavesOthers
+each-crowded-leaves-others log v till items moves h =
+    let calls : List OwedCall = OwedCutTill till ∷ [] in
+    let b = has-begun log v (Crowded till) items moves calls (item-setup log v (Crowded till) items moves h) h refl in
+    item-leaves v (Crowded till) items moves calls (IsCutAlone till) b (cut-leaves till (at_item v.scene) items moves (IsCutAlone till) b.stage b.onward h.of_item (λ after is. record { turns_are = refl; after_is = is }))
+
+-- of a terminal
+on-where-linked : (standing : Standing) (talk : Option TalkFacts) → is_on (standing_state standing talk) ≡ is_linked standing
+on-where-linked (Unlinked due) None = refl
+on-where-linked (Unlinked due) (Some talk) = refl
+on-where-linked Registering talk = refl
+on-where-linked Enquiring talk = refl
+on-where-linked (Ready last) talk = refl
+on-where-linked (Serving service last) talk = refl
+on-where-linked (Aside before reported) talk = refl
+
+-- with the cut its terminal is unlinked, and what its loss owes is owed
+loss-made : (scene : Scene) (setup : Setup) (pt : ℕ) (terminal : Terminal) (items : List RoundItem) → scene.setup ≡ Some setup → scene.stage ≡ Handling → slice_get scene.core.terminals pt ≡ Some terminal
+    → after_turn (owing_then scene (OwedCutPt pt ∷ []) items) (CutPt pt) ≡ owing_then (link_cut scene pt terminal) (calls_of_loss terminal) items
+loss-made scene setup pt terminal items is at found =
+    let known : Known = known_in scene setup in
+    let row_is : link_lost_at scene pt ≡ unlinks known pt terminal = ap (row_in scene (λ known. link_lost known pt)) is ∙ ap (of_terminal known (unlinks known pt)) found in
+    ap (λ row. by_row (owing_then scene (OwedCutPt pt ∷ []) items) (called scene (CutPt pt)) row []) row_is ∙ ap (λ l. at_stage (link_cut scene pt terminal) l items (busy scene.stage)) (append-nil (calls_of_loss terminal))
+    ∙ ap (at_stage (link_cut scene pt terminal) (calls_of_loss terminal) items) (ap busy at ∙ sym at)
+
+books-then : (one other last : Scene) → LeavesBooks one other → LeavesBooks other last → LeavesBooks one last
+books-then one other last a b = books-by one last (b.kept ∙ a.kept) (b.flight ∙ a.flight) (b.file ∙ a.file) (b.stable ∙ a.stable) (b.ranges ∙ a.ranges)
+
+queues-then : (turn : Turn) (turns : List Turn) (before after : List Wait) → LeavesQueues turns before after → LeavesQueues (turn ∷ turns) before after
+queues-then turn turns before after (AllWait same) = AllWait same
+queues-then turn turns before after (OwnLeave till cut own) = OwnLeave till (turn ∷ cut.0, cut.1, ap (λ l. turn ∷ l) cut.2) own
+
+loss-leaves : (scene : Scene) (setup : Setup) (pt : ℕ) (terminal : Terminal) (items : List RoundItem) (moves : List Move) → scene.setup ≡ Some setup → scene.stage ≡ Handling → is_connected scene.outside.links pt ≡ true → slice_get scene.core.terminals pt ≡ Some terminal
+    → IsCourse (owing_then scene (OwedCutPt pt ∷ []) items) moves → AreOfItem moves → LeavesOthers scene items (turns_of moves) (view_from (owing_then scene (OwedCutPt pt ∷ []) items) moves) (TerminalOutcome pt)
+loss-leaves scene setup pt terminal items [] is at on found c o = record { books = same-books scene; queues = AllWait refl; items_are = refl; comes = λ calls. absurd (let n : OwedCutPt pt ∷ [] ≡ [] = calls in cc) }
+loss-leaves scene setup pt terminal items (Begin ∷ moves) is at on found c o = absurd o
+loss-leaves scene setup pt terminal items (Read as_read ∷ moves) is at on found c o = absurd o
+loss-leaves scene setup pt terminal items (Make turn ∷ moves) is at on found c o =
+    subst (λ t. LeavesOthers scene items (t ∷ turns_of moves) (view_from (after_turn owing t) moves) (TerminalOutcome pt)) (sym same) (subst (λ w. LeavesOthers scene items (CutPt pt ∷ turns_of moves) (view_from w moves) (TerminalOutcome pt)) (sym made) (record {
+      books = books-then scene cut _ (cut-books scene pt terminal) paid.books;
+      queues = queues-then (CutPt pt) (turns_of moves) _ _ paid.queues;
+      items_are = paid.items_are;
+      comes = λ calls. LinkEnds terminal (turns_of moves) on found refl (paid.comes calls);
+    }))
+  where
+    owing : View
+    owing = owing_then scene (OwedCutPt pt ∷ []) items
+
+    cut : Scene
+    cut = link_cut scene pt terminal
+
+    same : turn ≡ CutPt pt
+    same = cut-is pt turn (cut-makes pt owing turn at refl c.0 o.0)
+
+    made : after_turn owing (CutPt pt) ≡ owing_then cut (calls_of_loss terminal) items
+    made = loss-made scene setup pt terminal items is at found
+
+    paid : LeavesOthers cut items (turns_of moves) (view_from (owing_then cut (calls_of_loss terminal) items) moves) (ArePaid (calls_of_loss terminal))
+    paid = paid-leaves terminal.asker (reply_to_lost terminal.standing) cut items moves at (subst (λ w. IsCourse w moves) made (subst (λ t. IsCourse (after_turn owing t) moves) same c.1)) o.1
+
+-- its link isn't lost and unhandled
+item-settled : (log : List Turn) (v : View) (item : RoundItem) (items : List RoundItem) (moves : List Move) → IsItemCourse log v item items moves → ((number : ℕ) → item ≢ LinkLost number) → Settled v
+item-settled log v item items moves h other = by_links (stands-agrees log v h.along).links
+  where
+    by_links : Settled v ⊎ Losing v → Settled v
+    by_links (inl s) = s
+    by_links (inr l) = absurd (other l.pt (let n : item ∷ items ≡ LinkLost l.pt ∷ l.rest = sym h.items_are ∙ l.items_are in cc))
+
+outside-leaves : (log : List Turn) (v : View) (pt : ℕ) (item : RoundItem) (items : List RoundItem) (moves : List Move) → IsItemCourse log v item items moves → ((number : ℕ) → item ≢ LinkLost number) → ((tills : List Connection) (known : Known) → row_of tills known item ≡ outside_row known pt)
+    → ItemLeavesOthers v items moves (TerminalOutcome pt)
+outside-leaves log v pt item items moves h other rows = by_found (slice_get v.scene.core.terminals pt) refl
+  where
+    has : HasSetup v.scene
+    has = item-setup log v item items moves h
+
+    known : Known
+    known = known_in v.scene has.setup
+
+    settled : Settled v
+    settled = item-settled log v item items moves h other
+
+    row : row_of v.scene.outside.tills known item ≡ outside_row known pt
+    row = rows v.scene.outside.tills known
+
+    nothing : outside_row known pt ≡ owing_nothing known → is_connected v.scene.outside.links pt ≡ false → ItemLeavesOthers v items moves (TerminalOutcome pt)
+    nothing none off =
+        let b = has-begun log v item items moves [] has h (row ∙ none) in
+        item-leaves v item items moves [] (TerminalOutcome pt) b (idle-leaves (at_item v.scene) items moves (TerminalOutcome pt) b.stage b.onward h.of_item (WasCut off refl refl))
+
+    linked_is : (terminal : Terminal) → slice_get v.scene.core.terminals pt ≡ Some terminal → is_connected v.scene.outside.links pt ≡ is_linked terminal.standing
+    linked_is terminal found =
+        settled.linked pt ∙ ap (λ (t : Option Terminal). is_on (state_of t)) found ∙ on-where-linked terminal.standing terminal.talk
+
+    by_linked : (terminal : Terminal) → slice_get v.scene.core.terminals pt ≡ Some terminal → (linked : Bool) → is_linked terminal.standing ≡ linked → ItemLeavesOthers v items moves (TerminalOutcome pt)
+    by_linked terminal found true linked =
+        let calls : List OwedCall = OwedCutPt pt ∷ [] in
+        let b = has-begun log v item items moves calls has h (row ∙ linked-row known pt (λ terminal. cutting known pt) terminal found linked) in
+        item-leaves v item items moves calls (TerminalOutcome pt) b (loss-leaves (at_item v.scene) has.setup pt terminal items moves has.setup_is b.stage (linked_is terminal found ∙ linked) found b.onward h.of_item)
+    by_linked terminal found false unlinked =
+        nothing (ap (of_terminal known (λ terminal. owing_where (is_linked terminal.standing) known (cutting known pt))) found ∙ ap (λ b. owing_where b known (cutting known pt)) unlinked) (linked_is terminal found ∙ unlinked)
+
+    by_found : (found : Option Terminal) → slice_get v.scene.core.terminals pt ≡ found → ItemLeavesOthers v items moves (TerminalOutcome pt)
+    by_found None none =
+        nothing (ap (of_terminal known (λ terminal. owing_where (is_linked terminal.standing) known (cutting known pt))) none) (settled.linked pt ∙ ap (λ (t : Option Terminal). is_on (state_of t)) none)
+    by_found (Some terminal) found = by_linked terminal found (is_linked terminal.standing) refl
+
+pub each-terminal-item-leaves-others : EachTerminalItemLeavesOthers
+each-terminal-item-leaves-others log v pt (Crowded till) items moves h of outside = absurd of
+each-terminal-item-leaves-others log v pt (Message till bytes) items moves h of outside = absurd of
+each-terminal-item-leaves-others log v pt (Asked till as_read) items moves h of outside = absurd of
+each-terminal-item-leaves-others log v pt (Unframed till) items moves h of outside = absurd of
+each-terminal-item-leaves-others log v pt (Gone till) items moves h of outside = absurd of
+each-terminal-item-leaves-others log v pt (Greet number apdu) items moves h of outside =
+    subst (λ n. ItemLeavesOthers v items moves (TerminalOutcome n)) of (outside-leaves log v number (Greet number apdu) items moves h (λ other e. cc) (λ tills known. ap (greet_decoded known number) outside.1))
+each-terminal-item-leaves-others log v pt (Handle number apdu) items moves h of outside = absurd outside
+each-terminal-item-leaves-others log v pt (Serve number till header request) items moves h of outside = absurd of
+each-terminal-item-leaves-others log v pt (Queue number till header request) items moves h of outside = absurd of
+each-terminal-item-leaves-others log v pt (NextWaiting number) items moves h of outside = absurd outside
+each-terminal-item-leaves-others log v pt (Oversized number) items moves h of outside =
+    subst (λ n. ItemLeavesOthers v items moves (TerminalOutcome n)) of (outside-leaves log v number (Oversized number) items moves h (λ other e. cc) (λ tills known. refl))
+each-terminal-item-leaves-others log v pt (LinkLost number) items moves h of outside = absurd of
+each-terminal-item-leaves-others log v pt (Late number) items moves h of outside = absurd of
+each-terminal-item-leaves-others log v pt (Overdue key) items moves h of outside = absurd of
+each-terminal-item-leaves-others log v pt (Due number) items moves h of outside = absurd of
 
 -- ---- the laws
 

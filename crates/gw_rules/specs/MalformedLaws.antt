@@ -1,9 +1,9 @@
--- The laws of lawful logs that malformed bytes change no books: of a till a message that is no JSON or no message of a till, and bytes that begin no frame; of a terminal an APDU outside the grammar, and bytes that begin one above the limit.
+-- The laws of lawful logs that bytes outside the grammars change no books, at each place of a log: of a till a message that is no JSON or no message of a till, and bytes that begin no frame; of a terminal an APDU outside the grammar, and bytes that begin one above the limit.
 use Rattle.std.specs.Prelude.{◌≡◌, ◌⊎◌, ℕ, ℤ, true, false, List, [], ◌∷◌, ◌++◌, map, slice_get, Some, Err}
 use Rattle.gw_base.specs.declared.key.Key.{Key}
 use Rattle.gw_bytes.specs.Bytes.{IsPrefix}
 use Rattle.gw_site.specs.Outside.{Outside, heard_on, is_connected, outside_of}
-use Rattle.gw_site.specs.Sorts.{AreOfRound}
+use Rattle.gw_site.specs.Sorts.{AreOfRound, is_sort_of_round, sort_of}
 use Rattle.gw_site.specs.declared.turn.Turn.{Turn}
 use Rattle.gw_site.specs.declared.turn.Turn.TheVariants.{Polled, HeardTill, HeardPt, SentTill, CutTill, CutPt}
 use Rattle.gw_ledger.specs.Accounts.{last_number_of}
@@ -15,17 +15,17 @@ use Rattle.zvt_msg.specs.declared.fault.PtFault.{PtFault}
 use Rattle.gw_owes.specs.Calls.{SendTill, CutTill as OwedCutTill}
 use Rattle.gw_owes.specs.Core.{Core, Wait}
 use Rattle.gw_owes.specs.Events.{items_due}
-use Rattle.gw_owes.specs.Items.{RoundItem, Message, Asked, Unframed, Greet, Oversized}
+use Rattle.gw_owes.specs.Items.{RoundItem, Crowded, Message, Asked, Unframed, Gone, Greet, Handle, Serve, Queue, NextWaiting, Oversized, LinkLost, Late, Overdue, Due}
 use Rattle.gw_owes.specs.ReadAs.{ReadAs, IsReadAs}
 use Rattle.gw_owes.specs.Reply.{ReplyValue, reply_value_bytes}
 use Rattle.gw_owes.specs.declared.terminal.Terminal.{Terminal}
 use Rattle.gw_rules.specs.Laws.{IsCutIn}
-use Rattle.gw_rules.specs.Lawful.{Begins, IsLawful, Stands}
+use Rattle.gw_rules.specs.Lawful.{Begins, IsCourse, IsLawful, Stands, turns_of}
 use Rattle.gw_rules.specs.LinkLaws.{HasSaid}
-use Rattle.gw_rules.specs.OutsideLaws.{AreOfBytes, ArePaid, HasCourse, HasCourseTo, after_greeting, calls_of_loss, idle_with, link_cut, till_gone}
-use Rattle.gw_rules.specs.QueueLaws.{IsReadOutside, not_of_till}
+use Rattle.gw_rules.specs.OutsideLaws.{AreOfBytes, ArePaid, HasCourse, HasCourseTo, IsOfBytes, after_greeting, calls_of_loss, idle_with, link_cut, till_gone}
+use Rattle.gw_rules.specs.QueueLaws.{IsOfOutside, IsReadOutside, not_of_till}
 use Rattle.gw_rules.specs.Scene.{Scene, row_at}
-use Rattle.gw_rules.specs.View.{View}
+use Rattle.gw_rules.specs.View.{View, Move, Begin, Read, Make, after, at_item, view_from}
 
 -- ---- the books
 
@@ -65,6 +65,73 @@ pub data TerminalOutcome (pt : ℕ) (turns : List Turn) (before after : Scene) :
   WasCut : is_connected before.outside.links pt ≡ false → turns ≡ [] → after ≡ before → TerminalOutcome pt turns before after
   -- its link is cut, and what the loss of it owes is done: the till of an end of day or a display gets its reply
   LinkEnds : (terminal : Terminal) (reply_turns : List Turn) → is_connected before.outside.links pt ≡ true → slice_get before.core.terminals pt ≡ Some terminal → turns ≡ CutPt pt ∷ reply_turns → ArePaid (calls_of_loss terminal) reply_turns (link_cut before pt terminal) after → TerminalOutcome pt turns before after
+
+-- ---- one item, at any place of a lawful log
+
+-- bytes of the till have brought the item
+abbrev pub IsOfTillBytes : ℕ → RoundItem → Type 0
+IsOfTillBytes till (Crowded number) = ⊥
+IsOfTillBytes till (Message number bytes) = number ≡ till
+IsOfTillBytes till (Asked number as_read) = number ≡ till
+IsOfTillBytes till (Unframed number) = number ≡ till
+IsOfTillBytes till (Gone number) = ⊥
+IsOfTillBytes till (Greet pt apdu) = ⊥
+IsOfTillBytes till (Handle pt apdu) = ⊥
+IsOfTillBytes till (Serve pt number header request) = ⊥
+IsOfTillBytes till (Queue pt number header request) = ⊥
+IsOfTillBytes till (NextWaiting pt) = ⊥
+IsOfTillBytes till (Oversized pt) = ⊥
+IsOfTillBytes till (LinkLost pt) = ⊥
+IsOfTillBytes till (Late pt) = ⊥
+IsOfTillBytes till (Overdue key) = ⊥
+IsOfTillBytes till (Due pt) = ⊥
+
+-- calls are made in these moves: no other item begins or is read, no poll comes, no run begins, and no power fails
+abbrev pub AreOfItem : List Move → Type 0
+AreOfItem [] = Unit {0}
+AreOfItem (Begin ∷ moves) = ⊥
+AreOfItem (Read as_read ∷ moves) = ⊥
+AreOfItem (Make turn ∷ moves) = (is_sort_of_round (sort_of turn) ≡ true) × AreOfItem moves
+
+-- after a lawful log this item begins, before these, and these moves are made of it
+pub record IsItemCourse (log : List Turn) (v : View) (item : RoundItem) (items : List RoundItem) (moves : List Move) : Type 0 where
+  pub along : Stands log v
+  pub begins : Begins v
+  pub items_are : v.items ≡ item ∷ items
+  pub lawful : IsCourse (after v Begin) moves
+  pub of_item : AreOfItem moves
+
+-- From the scene in which an item begins, before these items, these turns have led here: they have changed no books, and left each queue but for the requests of a till that is cut in them, and the items. Once no call is owed the item has this outcome.
+pub record LeavesOthers (scene : Scene) (items : List RoundItem) (turns : List Turn) (v : View) (Comes : List Turn → Scene → Scene → Type 0) : Type 0 where
+  pub books : LeavesBooks scene v.scene
+  pub queues : LeavesQueues turns scene.core.waits v.scene.core.waits
+  pub items_are : v.items ≡ items
+  pub comes : v.calls ≡ [] → Comes turns scene v.scene
+
+-- what these moves of an item lead to
+abbrev pub ItemLeavesOthers : View → List RoundItem → List Move → (List Turn → Scene → Scene → Type 0) → Type 0
+ItemLeavesOthers v items moves Comes = LeavesOthers (at_item v.scene) items (turns_of moves) (view_from (after v Begin) moves) Comes
+
+-- at each place of a lawful log, an item of a till's bytes that are outside changes no books, whatever comes next
+abbrev pub EachTillItemLeavesOthers : Type 0
+EachTillItemLeavesOthers =
+    (log : List Turn) (v : View) (till : ℕ) (item : RoundItem) (items : List RoundItem) (moves : List Move) → IsItemCourse log v item items moves → IsOfTillBytes till item → IsOfOutside item → ItemLeavesOthers v items moves (TillOutcome till item)
+
+-- a till is cut, and nothing else changes
+pub record IsCutAlone (till : ℕ) (turns : List Turn) (before after : Scene) : Type 0 where
+  pub turns_are : turns ≡ CutTill till ∷ []
+  pub after_is : after ≡ till_gone before till
+
+-- so does a till more than may be there
+abbrev pub EachCrowdedLeavesOthers : Type 0
+EachCrowdedLeavesOthers = (log : List Turn) (v : View) (till : ℕ) (items : List RoundItem) (moves : List Move) → IsItemCourse log v (Crowded till) items moves → ItemLeavesOthers v items moves (IsCutAlone till)
+
+-- and an item of a terminal's bytes that are outside
+abbrev pub EachTerminalItemLeavesOthers : Type 0
+EachTerminalItemLeavesOthers =
+    (log : List Turn) (v : View) (pt : ℕ) (item : RoundItem) (items : List RoundItem) (moves : List Move) → IsItemCourse log v item items moves → IsOfBytes pt item → IsOfOutside item → ItemLeavesOthers v items moves (TerminalOutcome pt)
+
+-- ---- in a round that ends with a poll
 
 -- In these turns of a round, after a log that ends with the bytes and before the rest of it, this item of the bytes begins, before these items, and is handled in turns of its own. They have this outcome, change no books, and leave these of the items.
 pub record ChangesNoBooks (log inside rest : List Turn) (item : RoundItem) (items left : List RoundItem) (Comes : List Turn → Scene → Scene → Type 0) : Type 0 where
