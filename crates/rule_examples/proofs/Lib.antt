@@ -6,6 +6,8 @@ pub mod DayLogExampleLemmas
 pub mod DoneExampleLemmas
 pub mod ExampleLemmas
 pub mod MalformedExampleLemmas
+pub mod NextDayTextLemmas
+pub mod OutsideItemLemmas
 pub mod PaymentLogLemmas
 pub mod QueueExampleLemmas
 pub mod RecoveryLogLemmas

@@ -31,10 +31,10 @@ use Rattle.rule_examples.proofs.CauseExampleLemmas.{outside-cut}
 empty-spelled : Spells (object no_members) empty_message
 empty-spelled = spellable_written (object no_members) (spellable-tree 0 (object no_members) refl)
 
-empty-read : IsReadAs empty_message headless
+pub empty-read : IsReadAs empty_message headless
 empty-read = record { tree = object no_members; spelled = empty-spelled; faulty = inl (record { request = refl; response = refl }, refl) }
 
-empty-chunk : IsChunk (frame empty_message)
+pub empty-chunk : IsChunk (frame empty_message)
 empty-chunk = record { count = (omega arith, omega arith); bytes = bytes-tested (frame empty_message) refl }
 
 empty-said : HasFramed (outside_of polled_log) 1 (frame empty_message) (empty_message ∷ []) []
@@ -73,7 +73,7 @@ message-is-harmless = record {
 
 -- ---- bytes that begin no frame
 
-no-frame-chunk : IsChunk no_frame
+pub no-frame-chunk : IsChunk no_frame
 no-frame-chunk = record { count = (omega arith, omega arith); bytes = bytes-tested no_frame refl }
 
 no-frame-bad : BeginsWithBadLength no_frame

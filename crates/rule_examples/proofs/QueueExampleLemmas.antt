@@ -25,28 +25,28 @@ use Rattle.rule_examples.specs.QueueExample.{ExampleQueues, early_course, joinin
 queue-formed : IsSetup queue_setup
 queue-formed = record { name = formed.name; line = omega arith; wait = (omega arith, omega arith); slots = formed.slots; count = formed.count; each = formed.each; distinct = formed.distinct }
 
-abbrev started_view : View
+abbrev pub started_view : View
 started_view = after at_first (Make (Start queue_setup))
 
 ready-lawful : IsCourse started_view (drop 1 ready_none_course)
 unfolding decode_apdus decode_apdus_within decode_pt_message history
 ready-lawful = course-tested started_view (drop 1 ready_none_course) refl
 
-abbrev ready_view : View
+abbrev pub ready_view : View
 ready_view = view_from started_view (drop 1 ready_none_course)
 
 begun-lawful : IsCourse ready_view begun_course
 unfolding decode_apdus decode_apdus_within decode_pt_message history payment_request
 begun-lawful = (record { running = refl; calls = refl; items = refl }, ((refl, omega arith), (record { idle = record { round = refl; calls = refl }; first = refl }, (record { idle = record { round = refl; calls = refl }; first = refl }, (record { running = refl; calls = refl; items = refl }, ((record { polled = refl; connected_is = refl }, payment-chunk), (record { idle = record { round = refl; calls = refl }; waits = refl; bytes = payment_request; message = refl; reads = payment-read }, (record { idle = record { round = refl; calls = refl }; first = refl }, (record { idle = record { round = refl; calls = refl }; first = refl }, ((WriteBody 0 (Intent logged_intent), refl, refl), (refl, ((WriteGate 0 (Intent logged_intent), refl, refl), (refl, ((Ask (commands.Authorise 1099 978), refl, refl), (record { idle = record { round = refl; calls = refl }; first = refl }, (record { idle = record { round = refl; calls = refl }; first = refl }, tt))))))))))))))))
 
-abbrev serving_view : View
+abbrev pub serving_view : View
 serving_view = view_from ready_view begun_course
 
-joining-lawful : IsCourse serving_view joining_course
+pub joining-lawful : IsCourse serving_view joining_course
 unfolding decode_apdus decode_apdus_within decode_pt_message history payment_request day_request
 joining-lawful = (record { running = refl; calls = refl; items = refl }, ((record { polled = refl; connected_is = refl }, day-chunk), (record { idle = record { round = refl; calls = refl }; waits = refl; bytes = day_request; message = refl; reads = day-read }, (record { idle = record { round = refl; calls = refl }; first = refl }, (record { idle = record { round = refl; calls = refl }; first = refl }, (record { idle = record { round = refl; calls = refl }; first = refl }, (record { idle = record { round = refl; calls = refl }; first = refl }, tt)))))))
 
-abbrev joined_view : View
+abbrev pub joined_view : View
 joined_view = view_from serving_view joining_course
 
 early-lawful : IsCourse joined_view early_course
@@ -57,7 +57,7 @@ refused-lawful : IsCourse (view_from joined_view early_course) overdue_course
 unfolding decode_apdus decode_apdus_within decode_pt_message history payment_request day_request
 refused-lawful = (record { idle = record { round = refl; calls = refl }; first = refl }, (record { idle = record { round = refl; calls = refl }; first = refl }, ((failure_reply day_header Aborted, refl, refl), (record { idle = record { round = refl; calls = refl }; first = refl }, (record { running = refl; calls = refl; items = refl }, (refl, tt))))))
 
-serving-lawful : IsCourse at_first serving_course
+pub serving-lawful : IsCourse at_first serving_course
 serving-lawful = ((refl, queue-formed), course-append started_view (drop 1 ready_none_course) begun_course ready-lawful begun-lawful)
 
 pub example-queues : ExampleQueues

@@ -6,6 +6,7 @@ pub mod DayLogExample
 pub mod DoneExample
 pub mod Example
 pub mod MalformedExample
+pub mod OutsideItemExample
 pub mod PaymentLogExample
 pub mod QueueExample
 pub mod RecoveryLogExample

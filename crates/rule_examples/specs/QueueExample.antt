@@ -18,9 +18,9 @@ use Rattle.gw_rules.specs.View.{View, Move, Begin, Read, Make, view_from, at_fir
 
 -- ---- one waits
 
--- a gateway with one terminal, for which one request may wait, for two seconds
+-- a gateway with one terminal, for which two requests may wait, for two seconds
 abbrev pub queue_setup : Setup
-queue_setup = record terminal_setup { line = 1; wait = 2 }
+queue_setup = record terminal_setup { line = 2; wait = 2 }
 
 -- the terminal is ready, and a payment is begun at the moment 3
 abbrev pub serving_log : List Turn

@@ -14,6 +14,7 @@ ghost use Rattle.rule_examples.specs.DayLogExample.{DayIsLawful, DisplayIsLawful
 ghost use Rattle.rule_examples.specs.DoneExample.{ExampleDone};
 ghost use Rattle.rule_examples.specs.Example.{BadFrameIsLawful, CrashLeavesNoOther, CrashedIsLawful, CrowdedIsLawful, DiskFailureEnds, FailedSendIsLawful, GateEndsLooking, LooksMayFail, NoRunWhereNotOpened, NothingToLookAt, NothingToLookAtLater, PollBeforeCut, PollBeforeReply, PollEndsLooking, PollWhileCrowded, RefusedIsNotPolled, RestartedIsLawful, SilentIsLawful, UnaskedReply};
 ghost use Rattle.rule_examples.specs.MalformedExample.{ApduIsHarmless, FrameIsHarmless, MessageIsHarmless, TooLongIsHarmless};
+ghost use Rattle.rule_examples.specs.OutsideItemExample.{ApduLeavesOthers, CrowdedIsCut, FrameLeavesOther, MessageLeavesAll, TooLongLeavesOthers};
 ghost use Rattle.rule_examples.specs.PaymentLogExample.{BegunIsServedOpen, PaidHasNoneOpen, PaymentIsLawful, PaymentIsSilent};
 ghost use Rattle.rule_examples.specs.QueueExample.{ExampleQueues};
 ghost use Rattle.rule_examples.specs.RecoveryLogExample.{OpenIsReported};
@@ -51,6 +52,18 @@ pub fn law_malformed_examples()
     ensures frame { FrameIsHarmless }
     ensures outside { ApduIsHarmless }
     ensures too_long { TooLongIsHarmless }
+{}
+
+/// Where an Intent is kept, and a request of each of two tills waits, bytes outside the grammars leave the Intent, and the request of the other
+/// till. A till that says an object without members gets its reject, and both requests wait still; one whose bytes begin no frame is cut, and its
+/// own request leaves. A terminal that says a truncated Status, and one that begins an APDU above the limit, are cut, and both requests wait.
+/// A till that opens while 64 others are there is cut alone.
+pub fn law_outside_item_examples()
+    ensures message { MessageLeavesAll }
+    ensures frame { FrameLeavesOther }
+    ensures outside { ApduLeavesOthers }
+    ensures too_long { TooLongLeavesOthers }
+    ensures crowded { CrowdedIsCut }
 {}
 
 /// Two terminals whose deadlines come at one moment are both cut then, in the order of the setup: the other not before the first, and
