@@ -21,26 +21,26 @@ fn asker_but(till: u64, asker: Option<u64>) -> Option<u64>
     }
 }
 
-/// A request waits no longer.
+/// A request waits no longer. The look that has found it is a step, too.
 fn remove<L: Ledger>(lines: &mut Lines, id: LineId, steps: &mut Steps<L>)
     requires { IsSome (item_of lines.old id) }
     ensures removed { lines.new ≡ without_request id lines.old }
-    ensures few { steps.new ≤ steps.old + 7 }
+    ensures few { steps.new ≤ steps.old + 8 }
 {
+    steps.add(1);
     lines.take_counted(id, steps);
 }
 
-/// None waits at this seat any more. Each look for the first that waits there is a step.
+/// None waits at this seat any more. The last look, which finds none, is a step, too.
 fn clear_seat<L: Ledger>(lines: &mut Lines, seat: u16, steps: &mut Steps<L>)
     requires { AreLinesApart lines.old }
     ensures cleared { lines.new ≡ filter (λ waiting. not (waiting.item.seat == seat)) lines.old }
     ensures few { steps.new ≤ steps.old + (8 * length (of_seat seat lines.old) + 1) }
 {
-    steps.add(1);
     while let Some(id) = lines.first_of(seat) {
         remove(lines, id, steps);
-        steps.add(1);
     }
+    steps.add(1)
 }
 
 impl Queues {

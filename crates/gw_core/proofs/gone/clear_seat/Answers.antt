@@ -14,14 +14,14 @@ loop-id-preserved g c =
     (record {
       apart = left-apart (λ (w : Waiting). not (eqb w.id c.in-Some.id)) c.loop-id.lines c.loop-id.invariant.apart;
       others = left-at-seat c.args.seat c.in-Some.id c.loop-id.lines c.loop-id.invariant.apart c.in-Some.ensures.first ∙ c.loop-id.invariant.others;
-      few = omega (arith, fewer, c.loop-id.invariant.few, c.remove.ensures.few, c.add-in-Some.ensures);
+      few = omega (arith, fewer, c.loop-id.invariant.few, c.remove.ensures.few);
     })
 
 pub loop-id-init : goal.loop-id-init
-loop-id-init g c = record { apart = c.requires; others = refl; few = omega (arith, c.add.ensures) }
+loop-id-init g c = record { apart = c.requires; others = refl; few = omega arith }
 
 pub returns-clause-cleared : goal.returns-clause-cleared
 returns-clause-cleared g c = sym (none-left-at c.args.seat c.loop-id.lines c.in_default.ensures.first) ∙ c.loop-id.invariant.others
 
 pub returns-clause-few : goal.returns-clause-few
-returns-clause-few g c = omega (arith, c.loop-id.invariant.few)
+returns-clause-few g c = omega (arith, c.loop-id.invariant.few, c.add.ensures)

@@ -9,7 +9,7 @@ abbrev pub invariant-loop-id : goal.invariant-loop-id
 invariant-loop-id g l = record {
   apart : AreLinesApart l.lines;
   others : filter (λ (w : Waiting). not (eqb w.item.seat l.fn.seat)) l.lines ≡ filter (λ (w : Waiting). not (eqb w.item.seat l.fn.seat)) l.fn.lines;
-  few : l.steps + 8 * length (of_seat l.fn.seat l.lines) ≤ l.fn.steps + (8 * length (of_seat l.fn.seat l.fn.lines) + 1);
+  few : l.steps + 8 * length (of_seat l.fn.seat l.lines) ≤ l.fn.steps + 8 * length (of_seat l.fn.seat l.fn.lines);
 }
 
 abbrev pub decreases-loop-id : goal.decreases-loop-id
