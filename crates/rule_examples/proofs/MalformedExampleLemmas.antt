@@ -12,7 +12,7 @@ use Rattle.gw_owes.specs.ReadAs.{IsReadAs}
 use Rattle.gw_owes.specs.TerminalExample.{ack, outside_status}
 use Rattle.gw_rules.specs.CauseExample.{outside_apdu, too_long_log, too_long_course}
 use Rattle.gw_rules.specs.Example.{heard_log}
-use Rattle.gw_rules.specs.Lawful.{IsChunk, IsCourse}
+use Rattle.gw_rules.specs.Lawful.{IsChunk, IsCourse, IsLawful}
 use Rattle.gw_rules.specs.MalformedLaws.{HasFramed}
 use Rattle.gw_rules.specs.TerminalLogExample.{linked_log, items_begin}
 use Rattle.gw_rules.specs.View.{Move, Begin, Read, Make, at_first}
@@ -23,7 +23,7 @@ use Rattle.gw_rules.proofs.MalformedLemmas.{each-apdu-changes-no-books, each-fra
 use Rattle.gw_rules.proofs.PrefixLemmas.{lawful-along}
 use Rattle.gw_rules.proofs.TextLemmas.{bytes-tested, spellable-tree}
 use Rattle.rule_examples.specs.CauseExample.{outside_course}
-use Rattle.rule_examples.specs.MalformedExample.{ApduIsHarmless, FrameIsHarmless, MessageIsHarmless, TooLongIsHarmless, empty_message, headless, headless_reply, no_frame, polled_log, reject_course, reject_turns, unframed_course}
+use Rattle.rule_examples.specs.MalformedExample.{ApduIsHarmless, FrameIsHarmless, MessageIsHarmless, TooLongIsHarmless, empty_message, headless, headless_reply, no_frame, polled_log, reject_course, reject_turns, too_long_rest, unframed_course}
 use Rattle.rule_examples.proofs.CauseExampleLemmas.{outside-cut}
 
 -- ---- a message without a header
@@ -64,8 +64,10 @@ reject-lawful = course-append at_first (makes (heard_log (frame empty_message)))
 pub message-is-harmless : MessageIsHarmless
 message-is-harmless = record {
   along = record { turns = refl; lawful = reject-lawful };
+  round = (refl, tt);
   said = empty-said;
   reads = empty-read;
+  outside = tt;
   alone =
       each-message-changes-no-books polled_log reject_turns (Stopped ∷ []) 1 (frame empty_message) (pos 0) [] [] empty_message [] headless
       (lawful-along (heard_log (frame empty_message) ++ reject_turns ++ Polled (pos 0) ∷ Stopped ∷ []) reject_course refl reject-lawful) (refl, tt) empty-said empty-read tt;
@@ -102,7 +104,9 @@ unframed-lawful = course-append at_first (makes (heard_log no_frame)) unframed_m
 pub frame-is-harmless : FrameIsHarmless
 frame-is-harmless = record {
   along = record { turns = refl; lawful = unframed-lawful };
+  round = (refl, tt);
   said = no-frame-said;
+  bad = no-frame-bad;
   alone =
       each-frame-changes-no-books polled_log (CutTill 1 ∷ []) (Stopped ∷ []) 1 no_frame (pos 0) [] no_frame
       (lawful-along (heard_log no_frame ++ CutTill 1 ∷ Polled (pos 0) ∷ Stopped ∷ []) unframed_course refl unframed-lawful) (refl, tt) no-frame-said no-frame-bad;
@@ -110,13 +114,29 @@ frame-is-harmless = record {
 
 -- ---- a terminal
 
+apdu-lawful : IsLawful ((linked_log ++ Polled (pos 1) ∷ []) ++ HeardPt 0 outside_status ∷ CutPt 0 ∷ Polled (pos 2) ∷ Stopped ∷ [])
+apdu-lawful =
+    lawful-along (linked_log ++ Polled (pos 1) ∷ HeardPt 0 outside_status ∷ CutPt 0 ∷ Polled (pos 2) ∷ Stopped ∷ []) (outside_course ++ Begin ∷ Make (CutPt 0) ∷ (items_begin 4 ++ Make (Polled (pos 2)) ∷ Make Stopped ∷ [])) outside-cut.along.turns outside-cut.along.lawful
+
 pub apdu-is-harmless : ApduIsHarmless
-apdu-is-harmless =
-    each-apdu-changes-no-books (linked_log ++ Polled (pos 1) ∷ []) (CutPt 0 ∷ []) (Stopped ∷ []) 0 outside_status (pos 2) [] [] outside_apdu [] outside-cause.1.0
-    (lawful-along (linked_log ++ Polled (pos 1) ∷ HeardPt 0 outside_status ∷ CutPt 0 ∷ Polled (pos 2) ∷ Stopped ∷ []) (outside_course ++ Begin ∷ Make (CutPt 0) ∷ (items_begin 4 ++ Make (Polled (pos 2)) ∷ Make Stopped ∷ [])) outside-cut.along.turns outside-cut.along.lawful)
-    (refl, tt) outside-said outside-cause.1.1
+apdu-is-harmless = record {
+  lawful = apdu-lawful;
+  round = (refl, tt);
+  said = outside-said;
+  fault = outside-cause.1.0;
+  outside = outside-cause.1.1;
+  alone = each-apdu-changes-no-books (linked_log ++ Polled (pos 1) ∷ []) (CutPt 0 ∷ []) (Stopped ∷ []) 0 outside_status (pos 2) [] [] outside_apdu [] outside-cause.1.0 apdu-lawful (refl, tt) outside-said outside-cause.1.1;
+}
+
+too-long-lawful : IsLawful ((linked_log ++ Polled (pos 1) ∷ []) ++ HeardPt 0 (ack ++ too_long_rest) ∷ CutPt 0 ∷ Polled (pos 2) ∷ Stopped ∷ [])
+too-long-lawful =
+    lawful-along (too_long_log ++ CutPt 0 ∷ Polled (pos 2) ∷ Stopped ∷ []) (too_long_course ++ items_begin 4 ++ Make (CutPt 0) ∷ (items_begin 2 ++ Make (Polled (pos 2)) ∷ Make Stopped ∷ [])) too-long-cut.along.turns too-long-cut.along.lawful
 
 pub too-long-is-harmless : TooLongIsHarmless
-too-long-is-harmless =
-    each-too-long-changes-no-books (linked_log ++ Polled (pos 1) ∷ []) (CutPt 0 ∷ []) (Stopped ∷ []) 0 (ack ++ begun) (pos 2) (ack_apdu ∷ []) begun 12001
-    (lawful-along (too_long_log ++ CutPt 0 ∷ Polled (pos 2) ∷ Stopped ∷ []) (too_long_course ++ items_begin 4 ++ Make (CutPt 0) ∷ (items_begin 2 ++ Make (Polled (pos 2)) ∷ Make Stopped ∷ [])) too-long-cut.along.turns too-long-cut.along.lawful) (refl, tt) too-long-said is-too-long
+too-long-is-harmless = record {
+  lawful = too-long-lawful;
+  round = (refl, tt);
+  said = too-long-said;
+  long = is-too-long;
+  alone = each-too-long-changes-no-books (linked_log ++ Polled (pos 1) ∷ []) (CutPt 0 ∷ []) (Stopped ∷ []) 0 (ack ++ begun) (pos 2) (ack_apdu ∷ []) begun 12001 too-long-lawful (refl, tt) too-long-said is-too-long;
+}

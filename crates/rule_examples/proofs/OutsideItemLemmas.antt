@@ -24,8 +24,8 @@ use Rattle.gw_rules.proofs.CourseLemmas.{course-append}
 use Rattle.gw_rules.proofs.MalformedLemmas.{each-crowded-leaves-others, each-terminal-item-leaves-others, each-till-item-leaves-others}
 use Rattle.gw_rules.proofs.TextLemmas.{bytes-tested}
 use Rattle.rule_examples.specs.Example.{tills_open}
-use Rattle.rule_examples.specs.MalformedExample.{empty_message, headless, no_frame}
-use Rattle.rule_examples.specs.OutsideItemExample.{ApduLeavesOthers, CrowdedIsCut, FrameLeavesOther, IsScene, MessageLeavesAll, TooLongLeavesOthers, apdu_course, crowded_course, crowded_moves, frame_course, frame_moves, items_after_greeting, items_waiting, late_reject, message_course, message_moves, next_day_request, next_joining_course, terminal_moves, too_long, too_long_item_course, waiting_course, waiting_log}
+use Rattle.rule_examples.specs.MalformedExample.{empty_message, headless, no_frame, too_long_rest}
+use Rattle.rule_examples.specs.OutsideItemExample.{ApduLeavesOthers, CrowdedIsCut, FrameLeavesOther, IsScene, MessageLeavesAll, TooLongLeavesOthers, apdu_course, crowded_course, crowded_moves, frame_course, frame_moves, items_after_greeting, items_waiting, late_reject, message_course, message_moves, next_day_request, next_joining_course, terminal_moves, too_long_item_course, waiting_course, waiting_log}
 use Rattle.rule_examples.specs.QueueExample.{joining_course, serving_course}
 use Rattle.rule_examples.proofs.ExampleLemmas.{full-course}
 use Rattle.rule_examples.proofs.MalformedExampleLemmas.{empty-chunk, empty-read, no-frame-chunk}
@@ -153,17 +153,17 @@ apdu-leaves-others = record {
 
 -- ---- an APDU above the limit
 
-too-long-chunk : IsChunk too_long
-too-long-chunk = record { count = (omega arith, omega arith); bytes = bytes-tested too_long refl }
+too-long-chunk : IsChunk too_long_rest
+too-long-chunk = record { count = (omega arith, omega arith); bytes = bytes-tested too_long_rest refl }
 
-too-long-lawful : IsCourse waiting_view (Make (Polled (pos 3)) ∷ Make (HeardPt 0 too_long) ∷ [])
+too-long-lawful : IsCourse waiting_view (Make (Polled (pos 3)) ∷ Make (HeardPt 0 too_long_rest) ∷ [])
 unfolding decode_apdus decode_apdus_within decode_pt_message history payment_request day_request next_day_request
 too-long-lawful = (record { running = refl; calls = refl; items = refl }, ((record { polled = refl; connected_is = refl }, too-long-chunk), tt))
 
-too-long-premise : IsItemCourse (waiting_log ++ Polled (pos 3) ∷ HeardPt 0 too_long ∷ []) (view_from at_first too_long_item_course) (Oversized 0) items_waiting terminal_moves
+too-long-premise : IsItemCourse (waiting_log ++ Polled (pos 3) ∷ HeardPt 0 too_long_rest ∷ []) (view_from at_first too_long_item_course) (Oversized 0) items_waiting terminal_moves
 unfolding decode_apdus decode_apdus_within decode_pt_message history payment_request day_request next_day_request
 too-long-premise = record {
-  along = record { course = too_long_item_course; log_is = refl; lawful = course-append at_first waiting_course (Make (Polled (pos 3)) ∷ Make (HeardPt 0 too_long) ∷ []) waiting-lawful too-long-lawful; view_is = refl };
+  along = record { course = too_long_item_course; log_is = refl; lawful = course-append at_first waiting_course (Make (Polled (pos 3)) ∷ Make (HeardPt 0 too_long_rest) ∷ []) waiting-lawful too-long-lawful; view_is = refl };
   begins = record { idle = record { round = refl; calls = refl }; first = refl };
   items_are = refl;
   lawful = (refl, tt);
@@ -179,7 +179,7 @@ unfolding decode_apdus decode_apdus_within decode_pt_message history payment_req
 too-long-leaves-others = record {
   item = record { premise = too-long-premise; outside = tt; scene = too-long-scene; kept = refl; waits = refl };
   of_terminal = refl;
-  leaves = each-terminal-item-leaves-others (waiting_log ++ Polled (pos 3) ∷ HeardPt 0 too_long ∷ []) (view_from at_first too_long_item_course) 0 (Oversized 0) items_waiting terminal_moves too-long-premise refl tt;
+  leaves = each-terminal-item-leaves-others (waiting_log ++ Polled (pos 3) ∷ HeardPt 0 too_long_rest ∷ []) (view_from at_first too_long_item_course) 0 (Oversized 0) items_waiting terminal_moves too-long-premise refl tt;
   due = refl;
   link_ends = λ e. absurd (let n : false ≡ true = e in cc);
 }

@@ -29,7 +29,7 @@ use Rattle.gw_rules.specs.RowExample.{first_standing}
 use Rattle.gw_rules.specs.TerminalLogExample.{items_begin}
 use Rattle.gw_rules.specs.View.{View, Move, Begin, Read, Make, after, at_item, view_from, at_first}
 use Rattle.rule_examples.specs.Example.{tills_open}
-use Rattle.rule_examples.specs.MalformedExample.{empty_message, headless, no_frame}
+use Rattle.rule_examples.specs.MalformedExample.{empty_message, headless, no_frame, too_long_rest}
 use Rattle.rule_examples.specs.QueueExample.{joining_course, joining_log, services_in, serving_course, serving_log}
 
 -- ---- two tills wait
@@ -154,17 +154,13 @@ pub record ApduLeavesOthers : Type 0 where
 
 -- ---- an APDU above the limit
 
--- five bytes begin one of 12,001
-abbrev pub too_long : List ℕ
-too_long = 0x06 ∷ 0xD1 ∷ 0xFF ∷ 0xE1 ∷ 0x2E ∷ []
-
 -- the moves after which its item begins
 abbrev pub too_long_item_course : List Move
-too_long_item_course = waiting_course ++ Make (Polled (pos 3)) ∷ Make (HeardPt 0 too_long) ∷ []
+too_long_item_course = waiting_course ++ Make (Polled (pos 3)) ∷ Make (HeardPt 0 too_long_rest) ∷ []
 
 -- the Intent and both requests stay, and the terminal is due five seconds later
 pub record TooLongLeavesOthers : Type 0 where
-  pub item : HasItem (waiting_log ++ Polled (pos 3) ∷ HeardPt 0 too_long ∷ []) too_long_item_course (Oversized 0) items_waiting terminal_moves (codes "2" ∷ codes "3" ∷ [])
+  pub item : HasItem (waiting_log ++ Polled (pos 3) ∷ HeardPt 0 too_long_rest ∷ []) too_long_item_course (Oversized 0) items_waiting terminal_moves (codes "2" ∷ codes "3" ∷ [])
   pub of_terminal : IsOfBytes 0 (Oversized 0)
   pub leaves : ItemLeavesOthers (view_from at_first too_long_item_course) items_waiting terminal_moves (TerminalOutcome 0)
   pub due : first_standing (item_view too_long_item_course terminal_moves) ≡ Some (Unlinked (Some 8))
