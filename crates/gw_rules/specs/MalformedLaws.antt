@@ -117,12 +117,17 @@ abbrev pub EachTillItemLeavesOthers : Type 0
 EachTillItemLeavesOthers =
     (log : List Turn) (v : View) (till : ℕ) (item : RoundItem) (items : List RoundItem) (moves : List Move) → IsItemCourse log v item items moves → IsOfTillBytes till item → IsOfOutside item → ItemLeavesOthers v items moves (TillOutcome till item)
 
+-- nor does one of a message that isn't read, since its till is gone
+abbrev pub EachUnreadLeavesOthers : Type 0
+EachUnreadLeavesOthers =
+    (log : List Turn) (v : View) (till : ℕ) (bytes : List ℕ) (items : List RoundItem) (moves : List Move) → IsItemCourse log v (Message till bytes) items moves → ItemLeavesOthers v items moves (TillOutcome till (Message till bytes))
+
 -- a till is cut, and nothing else changes
 pub record IsCutAlone (till : ℕ) (turns : List Turn) (before after : Scene) : Type 0 where
   pub turns_are : turns ≡ CutTill till ∷ []
   pub after_is : after ≡ till_gone before till
 
--- so does a till more than may be there
+-- so is a till more than may be there
 abbrev pub EachCrowdedLeavesOthers : Type 0
 EachCrowdedLeavesOthers = (log : List Turn) (v : View) (till : ℕ) (items : List RoundItem) (moves : List Move) → IsItemCourse log v (Crowded till) items moves → ItemLeavesOthers v items moves (IsCutAlone till)
 
