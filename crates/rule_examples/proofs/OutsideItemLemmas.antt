@@ -3,13 +3,14 @@ use Rattle.std.proofs.Common.{◌≡◌, List, [], ◌∷◌, ◌++◌, true, fa
 use Rattle.std.specs.Prelude.{Bool, ◌==◌, length, pos}
 use Rattle.sale_frame.specs.Grammar.{frame}
 use Rattle.gw_site.specs.Outside.{is_connected}
-use Rattle.gw_site.specs.declared.turn.Turn.TheVariants.{Polled, HeardTill, HeardPt}
+use Rattle.gw_site.specs.declared.turn.Turn.TheVariants.{Polled, HeardTill, HeardPt, SentTill, CutTill}
 use Rattle.zvt_apdu.specs.DecodeStream.{decode_apdus, decode_apdus_within}
 use Rattle.zvt_bmp.specs.Decode.{decode_field_value, decode_status_field, decode_status_within, decode_status}
 use Rattle.zvt_msg.specs.MessageDecode.{decode_pt_message}
 use Rattle.gw_ledger.specs.History.{history}
 use Rattle.gw_owes.specs.Core.{Wait}
-use Rattle.gw_owes.specs.Items.{Asked, Crowded, Greet, Oversized, Unframed}
+use Rattle.gw_owes.specs.Items.{Asked, Crowded, Greet, Message, Oversized, Unframed}
+use Rattle.gw_owes.specs.Reply.{reply_value_bytes}
 use Rattle.gw_owes.specs.TerminalExample.{outside_status}
 use Rattle.gw_rules.specs.CauseExample.{outside_apdu}
 use Rattle.gw_rules.specs.DayLogExample.{day_request}
@@ -21,11 +22,11 @@ use Rattle.gw_rules.specs.Scene.{Scene}
 use Rattle.gw_rules.specs.View.{View, Begin, Read, Make, after, view_from, at_first}
 use Rattle.gw_rules.proofs.CauseExampleLemmas.{outside-cause}
 use Rattle.gw_rules.proofs.CourseLemmas.{course-append}
-use Rattle.gw_rules.proofs.MalformedLemmas.{each-crowded-leaves-others, each-terminal-item-leaves-others, each-till-item-leaves-others}
+use Rattle.gw_rules.proofs.MalformedLemmas.{each-crowded-leaves-others, each-terminal-item-leaves-others, each-till-item-leaves-others, each-unread-leaves-others}
 use Rattle.gw_rules.proofs.TextLemmas.{bytes-tested}
 use Rattle.rule_examples.specs.Example.{tills_open}
 use Rattle.rule_examples.specs.MalformedExample.{empty_message, headless, no_frame, too_long_rest}
-use Rattle.rule_examples.specs.OutsideItemExample.{ApduLeavesOthers, CrowdedIsCut, FrameLeavesOther, IsScene, MessageLeavesAll, TooLongLeavesOthers, apdu_course, crowded_course, crowded_moves, frame_course, frame_moves, items_after_greeting, items_waiting, late_reject, message_course, message_moves, next_day_request, next_joining_course, terminal_moves, too_long_item_course, waiting_course, waiting_log}
+use Rattle.rule_examples.specs.OutsideItemExample.{ApduLeavesOthers, CrowdedIsCut, FrameLeavesOther, IsScene, MessageLeavesAll, TooLongLeavesOthers, UnreadLeavesAll, apdu_course, crowded_course, crowded_moves, frame_course, frame_moves, items_after_greeting, items_waiting, late_reject, message_course, message_moves, next_day_request, next_joining_course, terminal_moves, too_long_item_course, unread_course, waiting_course, waiting_log}
 use Rattle.rule_examples.specs.QueueExample.{joining_course, serving_course}
 use Rattle.rule_examples.proofs.ExampleLemmas.{full-course}
 use Rattle.rule_examples.proofs.MalformedExampleLemmas.{empty-chunk, empty-read, no-frame-chunk}
@@ -72,6 +73,50 @@ message-leaves-all = record {
   of_till = refl;
   leaves = each-till-item-leaves-others (waiting_log ++ Polled (pos 3) ∷ HeardTill 2 (frame empty_message) ∷ []) (view_from at_first message_course) 2 (Asked 2 headless) items_waiting message_moves message-premise refl tt;
   none_leaves = λ e. absurd (let n : true ≡ false = ap (λ (waits : List Wait). length waits == 2) e in cc);
+}
+
+-- ---- a message after the till is gone
+
+twice-chunk : IsChunk (frame empty_message ++ frame empty_message)
+twice-chunk = record { count = (omega arith, omega arith); bytes = bytes-tested (frame empty_message ++ frame empty_message) refl }
+
+unread-lawful : IsCourse waiting_view (Make (Polled (pos 3)) ∷ Make (HeardTill 2 (frame empty_message ++ frame empty_message)) ∷ Read headless ∷ Begin ∷ Make (SentTill 2 [] false) ∷ Make (CutTill 2) ∷ [])
+unfolding decode_apdus decode_apdus_within decode_pt_message history payment_request day_request next_day_request
+unread-lawful = (
+  record { running = refl; calls = refl; items = refl },
+  (
+    (record { polled = refl; connected_is = refl }, twice-chunk),
+    (
+      record { idle = record { round = refl; calls = refl }; waits = refl; bytes = empty_message; message = refl; reads = empty-read },
+      (record { idle = record { round = refl; calls = refl }; first = refl }, ((late_reject, refl, (reply_value_bytes late_reject, refl)), (refl, tt))),
+    ),
+  ),
+)
+
+unread-premise : IsItemCourse (waiting_log ++ Polled (pos 3) ∷ HeardTill 2 (frame empty_message ++ frame empty_message) ∷ SentTill 2 [] false ∷ CutTill 2 ∷ []) (view_from at_first unread_course) (Message 2 empty_message) items_waiting []
+unfolding decode_apdus decode_apdus_within decode_pt_message history payment_request day_request next_day_request
+unread-premise = record {
+  along = record {
+    course = unread_course;
+    log_is = refl;
+    lawful = course-append at_first waiting_course (Make (Polled (pos 3)) ∷ Make (HeardTill 2 (frame empty_message ++ frame empty_message)) ∷ Read headless ∷ Begin ∷ Make (SentTill 2 [] false) ∷ Make (CutTill 2) ∷ []) waiting-lawful unread-lawful;
+    view_is = refl;
+  };
+  begins = record { idle = record { round = refl; calls = refl }; first = refl };
+  items_are = refl;
+  lawful = tt;
+  of_item = tt;
+}
+
+pub unread-leaves-all : UnreadLeavesAll
+unfolding decode_apdus decode_apdus_within decode_pt_message history payment_request day_request next_day_request
+unread-leaves-all = record {
+  premise = unread-premise;
+  waits = refl;
+  leaves =
+      each-unread-leaves-others (waiting_log ++ Polled (pos 3) ∷ HeardTill 2 (frame empty_message ++ frame empty_message) ∷ SentTill 2 [] false ∷ CutTill 2 ∷ []) (view_from at_first unread_course) 2 empty_message items_waiting [] unread-premise;
+  kept = refl;
+  still = refl;
 }
 
 -- ---- bytes that begin no frame

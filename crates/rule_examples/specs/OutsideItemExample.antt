@@ -11,7 +11,7 @@ use Rattle.sale_values.specs.declared.names.Period.TheVariants.{AcquirerReconcil
 use Rattle.sale_values.specs.declared.request.SaleRequest.TheVariants as requests
 use Rattle.jrn_record.specs.declared.records.Record.TheVariants.{Intent}
 use Rattle.gw_owes.specs.Core.{Wait}
-use Rattle.gw_owes.specs.Items.{RoundItem, Crowded, Asked, Unframed, Greet, Handle, NextWaiting, Oversized, Late, Overdue, Due}
+use Rattle.gw_owes.specs.Items.{RoundItem, Crowded, Message, Asked, Unframed, Greet, Handle, NextWaiting, Oversized, Late, Overdue, Due}
 use Rattle.gw_owes.specs.PaymentExample.{till_header}
 use Rattle.gw_owes.specs.ReadAs.{ReadAs, Request}
 use Rattle.gw_owes.specs.Replies.{reject_event}
@@ -108,6 +108,21 @@ pub record MessageLeavesAll : Type 0 where
   pub leaves : ItemLeavesOthers (view_from at_first message_course) items_waiting message_moves (TillOutcome 2 (Asked 2 headless))
   -- it would be wrong that its till's requests leave without a cut
   pub none_leaves : (item_view message_course message_moves).scene.core.waits ≡ not_of_till 2 (view_from at_first message_course).scene.core.waits → ⊥
+
+-- ---- a message after the till is gone
+
+-- the message comes twice, and the reply to the first can't be sent, so that the till is cut
+abbrev pub unread_course : List Move
+unread_course =
+    waiting_course ++ Make (Polled (pos 3)) ∷ Make (HeardTill 2 (frame empty_message ++ frame empty_message)) ∷ Read headless ∷ Begin ∷ Make (SentTill 2 [] false) ∷ Make (CutTill 2) ∷ []
+
+-- with that cut its own request leaves; then the second begins unread, and nothing more changes
+pub record UnreadLeavesAll : Type 0 where
+  pub premise : IsItemCourse (waiting_log ++ Polled (pos 3) ∷ HeardTill 2 (frame empty_message ++ frame empty_message) ∷ SentTill 2 [] false ∷ CutTill 2 ∷ []) (view_from at_first unread_course) (Message 2 empty_message) items_waiting []
+  pub waits : services_in (view_from at_first unread_course) ≡ codes "2" ∷ []
+  pub leaves : ItemLeavesOthers (view_from at_first unread_course) items_waiting [] (TillOutcome 2 (Message 2 empty_message))
+  pub kept : (item_view unread_course []).scene.kept ≡ Intent logged_intent ∷ []
+  pub still : services_in (item_view unread_course []) ≡ codes "2" ∷ []
 
 -- ---- bytes that begin no frame
 

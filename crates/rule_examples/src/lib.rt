@@ -14,7 +14,7 @@ ghost use Rattle.rule_examples.specs.DayLogExample.{DayIsLawful, DisplayIsLawful
 ghost use Rattle.rule_examples.specs.DoneExample.{ExampleDone};
 ghost use Rattle.rule_examples.specs.Example.{BadFrameIsLawful, CrashLeavesNoOther, CrashedIsLawful, CrowdedIsLawful, DiskFailureEnds, FailedSendIsLawful, GateEndsLooking, LooksMayFail, NoRunWhereNotOpened, NothingToLookAt, NothingToLookAtLater, PollBeforeCut, PollBeforeReply, PollEndsLooking, PollWhileCrowded, RefusedIsNotPolled, RestartedIsLawful, SilentIsLawful, UnaskedReply};
 ghost use Rattle.rule_examples.specs.MalformedExample.{ApduIsHarmless, FrameIsHarmless, MessageIsHarmless, TooLongIsHarmless};
-ghost use Rattle.rule_examples.specs.OutsideItemExample.{ApduLeavesOthers, CrowdedIsCut, FrameLeavesOther, MessageLeavesAll, TooLongLeavesOthers};
+ghost use Rattle.rule_examples.specs.OutsideItemExample.{ApduLeavesOthers, CrowdedIsCut, FrameLeavesOther, MessageLeavesAll, TooLongLeavesOthers, UnreadLeavesAll};
 ghost use Rattle.rule_examples.specs.PaymentLogExample.{BegunIsServedOpen, PaidHasNoneOpen, PaymentIsLawful, PaymentIsSilent};
 ghost use Rattle.rule_examples.specs.QueueExample.{ExampleQueues};
 ghost use Rattle.rule_examples.specs.RecoveryLogExample.{OpenIsReported};
@@ -55,11 +55,13 @@ pub fn law_malformed_examples()
 {}
 
 /// Where an Intent is kept, and a request of each of two tills waits, bytes outside the grammars leave the Intent, and the request of the other
-/// till. A till that says an object without members gets its reject, and both requests wait still; one whose bytes begin no frame is cut, and its
-/// own request leaves. A terminal that says a truncated Status, and one that begins an APDU above the limit, are cut, and both requests wait.
-/// A till that opens while 64 others are there is cut alone.
+/// till. A till that says an object without members gets its reject, and both requests wait still. Where that can't be sent the till is cut,
+/// its own request leaves, and what it said after that isn't read. A till whose bytes begin no frame is cut, and its own request leaves. A
+/// terminal that says a truncated Status, and one that begins an APDU above the limit, are cut, and both requests wait. A till that opens
+/// while 64 others are there is cut alone.
 pub fn law_outside_item_examples()
     ensures message { MessageLeavesAll }
+    ensures unread { UnreadLeavesAll }
     ensures frame { FrameLeavesOther }
     ensures outside { ApduLeavesOthers }
     ensures too_long { TooLongLeavesOthers }
