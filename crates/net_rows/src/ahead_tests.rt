@@ -1,8 +1,7 @@
 //! Tests of the connections to terminals that are begun before the links are asked for.
-use crate::fixture::{Steps, address, check, is_child};
-use crate::peer::{accepted, got_nothing, sends};
-use crate::rig::Rig;
+use crate::peer::{accepted, sends};
 use gw_site::What;
+use net_play::{Rig, Steps, address, check, got_nothing};
 use std::net::{TcpListener, TcpStream};
 use std::test::Fail;
 
@@ -53,9 +52,6 @@ fn begun_together(
 /// The first poll begins the connections to all terminals. Nothing is sent and heard on one until the link is asked for.
 #[test]
 fn connections_are_begun_together(rt: HostRuntime) -> Result<(), Fail> {
-    if is_child(&rt) {
-        return Ok(());
-    }
     let far = [address(&rt, 47026), address(&rt, 47027)];
     let first = listener_at(&rt, 47026)?;
     let second = listener_at(&rt, 47027)?;
@@ -104,9 +100,6 @@ fn closed_and_lost(rig: &mut Rig<'_>, listener: &TcpListener) -> Result<(), Fail
 /// A connection that its peer has closed isn't taken up, and after a link is lost one is begun before the next is asked for.
 #[test]
 fn connections_that_are_closed_and_lost(rt: HostRuntime) -> Result<(), Fail> {
-    if is_child(&rt) {
-        return Ok(());
-    }
     let listener = listener_at(&rt, 47029)?;
     let mut rig = Rig::opened(&rt, "lost", 47028, &[address(&rt, 47029)])?;
     closed_and_lost(&mut rig, &listener)

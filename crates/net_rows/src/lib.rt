@@ -1,4 +1,4 @@
-//! A site over loopback and real files: rows that no clause of one crate says.
+//! Tests of the sockets of a site, over loopback.
 #![tactic(auto)]
 
 /// Goes wrong with these words unless it holds.
@@ -14,16 +14,6 @@ macro_rules! check {
 #[cfg(test)]
 mod ahead_tests;
 #[cfg(test)]
-mod alone_tests;
-#[cfg(test)]
-mod file_tests;
-#[cfg(test)]
-mod fixture;
-#[cfg(test)]
 mod peer;
-#[cfg(test)]
-mod rig;
-#[cfg(test)]
-mod shell;
 #[cfg(test)]
 mod socket_tests;

@@ -36,12 +36,6 @@ pub(crate) fn accepted(listener: &TcpListener) -> Result<TcpStream, &'static str
     }
 }
 
-/// Whether a peer has got nothing, and its connection hasn't ended.
-pub(crate) fn got_nothing(peer: &mut TcpStream) -> bool {
-    let mut buf = [0; 16];
-    peer.set_nonblocking(true).is_ok() && peer.read(&mut buf).is_err()
-}
-
 /// What a read of a peer brings that doesn't wait.
 pub(crate) enum Part {
     Bytes(u64),

@@ -1,11 +1,10 @@
-//! Tests of the sockets, over loopback.
-use crate::fixture::{Steps, address, check, is_child, setup, terminal_at};
+//! Tests of tills' connections and of links to terminals.
 use crate::peer::{Part, accepted, gets, last_byte, read_part, sends, three_of};
-use crate::rig::Rig;
 use gw_base::Pts;
 use gw_bytes::{LONGEST_CHUNK, MOST_TERMINALS};
 use gw_site::What;
 use libc::net::{IPPROTO_TCP, TCP_KEEPIDLE, TCP_USER_TIMEOUT, getsockopt, listen};
+use net_play::{Rig, Steps, address, check, setup, terminal_at};
 use std::alloc::AllocError;
 use std::fs;
 use std::net::{Shutdown, SocketAddr, TcpListener, TcpStream};
@@ -68,9 +67,6 @@ fn a_till_and_a_terminal(rig: &mut Rig<'_>, listener: &TcpListener) -> Result<()
 
 #[test]
 fn a_till_and_a_terminal_over_loopback(rt: HostRuntime) -> Result<(), Fail> {
-    if is_child(&rt) {
-        return Ok(());
-    }
     let far = address(&rt, 47002);
     let listener = TcpListener::bind(&rt, far)?;
     let mut rig = Rig::opened(&rt, "loopback", 47001, &[far])?;
@@ -132,9 +128,6 @@ fn addresses_are_refused(rt: &HostRuntime, rig: &mut Rig<'_>) -> Result<(), Fail
 /// An address is an IP address and a port: to look a name up could take seconds. An opening that is refused for one makes no file.
 #[test]
 fn addresses_that_are_refused(rt: HostRuntime) -> Result<(), Fail> {
-    if is_child(&rt) {
-        return Ok(());
-    }
     let mut rig = Rig::new(&rt, "names", 47014)?;
     addresses_are_refused(&rt, &mut rig)
 }
@@ -270,9 +263,6 @@ fn peers_one_after_the_other(rt: &HostRuntime, rig: &mut Rig<'_>) -> Result<(), 
 
 #[test]
 fn peers_that_misbehave(rt: HostRuntime) -> Result<(), Fail> {
-    if is_child(&rt) {
-        return Ok(());
-    }
     let mut rig = Rig::opened(&rt, "peers", 47003, &[])?;
     peers_one_after_the_other(&rt, &mut rig)
 }
@@ -309,9 +299,6 @@ fn beside_a_hundred_peers(rt: &HostRuntime, rig: &mut Rig<'_>) -> Result<(), Fai
 
 #[test]
 fn a_hundred_connections(rt: HostRuntime) -> Result<(), Fail> {
-    if is_child(&rt) {
-        return Ok(());
-    }
     let mut rig = Rig::opened(&rt, "hundred", 47004, &[])?;
     beside_a_hundred_peers(&rt, &mut rig)
 }
@@ -420,9 +407,6 @@ fn links_to(rt: &HostRuntime, far: &[SocketAddr]) -> Result<(), Fail> {
 /// some later rounds takes less than one wait. A busy machine makes rounds longer, but hardly all of them.
 #[test]
 fn terminals_that_are_switched_off(rt: HostRuntime) -> Result<(), Fail> {
-    if is_child(&rt) {
-        return Ok(());
-    }
     let far = far_addresses(&rt)?;
     let _listeners = full_listeners(&rt, &far)?;
     links_to(&rt, &far)
@@ -528,9 +512,6 @@ fn a_link_is_made_and_lost(
 /// A link that isn't made in time goes on being made, and is the one that is taken up. One that its peer has closed meanwhile isn't.
 #[test]
 fn a_link_goes_on_being_made(rt: HostRuntime) -> Result<(), Fail> {
-    if is_child(&rt) {
-        return Ok(());
-    }
     let far = address(&rt, 47021);
     let mut rig = Rig::opened(&rt, "making", 47020, &[far])?;
     a_link_is_made_and_lost(&rt, &mut rig, far)
@@ -593,9 +574,6 @@ fn beside_each_other(rig: &mut Rig<'_>, listener: &TcpListener) -> Result<(), Fa
 /// Tills and terminals take turns, and the system watches the connections of both.
 #[test]
 fn a_till_beside_a_terminal(rt: HostRuntime) -> Result<(), Fail> {
-    if is_child(&rt) {
-        return Ok(());
-    }
     let far = address(&rt, 47024);
     let listener = TcpListener::bind(&rt, far)?;
     let mut rig = Rig::opened(&rt, "turns", 47023, &[far])?;

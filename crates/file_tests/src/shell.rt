@@ -1,8 +1,13 @@
 //! Commands of a shell, and this test program started anew by one.
-use crate::fixture::{is_child, path};
+use net_play::path;
 use std::process::Command;
 use std::test::Fail;
 use std::{env, fs};
+
+/// Whether this process was started by a test of another, and runs for that one alone.
+pub(crate) fn is_child(rt: &HostRuntime) -> bool {
+    env::var(rt, "FILE_TESTS_CHILD").is_ok()
+}
 
 /// Gives a shell its command.
 fn add_command(shell: &mut Command, command: &str) -> Result<(), Fail> {
@@ -38,7 +43,7 @@ pub(crate) type Row = (&'static str, &'static str, &'static str);
 fn command_of(rt: &HostRuntime, child: &str, row: &Row, file: &str) -> Result<String, Fail> {
     let (before, after, _) = row;
     let mut command = format!(in rt.alloc();
-        "{before} NET_ROWS_CHILD='{child}' NET_ROWS_FILE='{file}' exec"
+        "{before} FILE_TESTS_CHILD='{child}' FILE_TESTS_FILE='{file}' exec"
     )?;
     push_own_words(rt, &mut command)?;
     command.push_str(after)?;
@@ -86,8 +91,8 @@ pub(crate) fn report(rt: &HostRuntime, file: &str, found: &str) -> Result<(), Fa
 
 /// The file to which this process reports, where it was started for this.
 pub(crate) fn child_file(rt: &HostRuntime, child: &str) -> Option<String> {
-    match env::var(rt, "NET_ROWS_CHILD") {
-        Ok(name) if name.as_str() == child => env::var(rt, "NET_ROWS_FILE").ok(),
+    match env::var(rt, "FILE_TESTS_CHILD") {
+        Ok(name) if name.as_str() == child => env::var(rt, "FILE_TESTS_FILE").ok(),
         _ => None,
     }
 }

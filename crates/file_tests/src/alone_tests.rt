@@ -1,9 +1,7 @@
 //! Tests that need a process of their own, which they start through a shell.
-use crate::fixture::{Steps, check};
-use crate::peer::got_nothing;
-use crate::rig::Rig;
 use crate::shell::{Row, child_file, report, see_children};
 use gw_site::What;
+use net_play::{Rig, Steps, check, got_nothing};
 use std::fs::{self, File};
 use std::net::TcpStream;
 use std::test::Fail;

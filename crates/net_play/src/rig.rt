@@ -17,11 +17,12 @@ fn seconds(rt: &HostRuntime) -> io::Result<i64> {
 ///
 /// The site is in a box: it is large, and a function that has it by value takes far longer to prove.
 #[derive(Drop)]
-pub(crate) struct Rig<'a> {
+pub struct Rig<'a> {
     rt: &'a HostRuntime,
     port: u16,
     journal: String,
-    pub(crate) site: Box<NetSite<&'a HostRuntime>>,
+    /// The site itself, for what takes one.
+    pub site: Box<NetSite<&'a HostRuntime>>,
 }
 
 fn new_site(rt: &HostRuntime) -> Result<Box<NetSite<&HostRuntime>>, Fail> {
@@ -31,7 +32,7 @@ fn new_site(rt: &HostRuntime) -> Result<Box<NetSite<&HostRuntime>>, Fail> {
 
 impl<'a> Rig<'a> {
     /// A site on which nothing is open yet.
-    pub(crate) fn new(rt: &'a HostRuntime, name: &str, port: u16) -> Result<Rig<'a>, Fail> {
+    pub fn new(rt: &'a HostRuntime, name: &str, port: u16) -> Result<Rig<'a>, Fail> {
         let journal = path(rt, name)?;
         let site = new_site(rt)?;
         Ok(Rig {
@@ -43,7 +44,7 @@ impl<'a> Rig<'a> {
     }
 
     /// A site that was opened, with terminals at these addresses.
-    pub(crate) fn opened(
+    pub fn opened(
         rt: &'a HostRuntime,
         name: &str,
         port: u16,
@@ -55,7 +56,7 @@ impl<'a> Rig<'a> {
     }
 
     /// Whether it opens with this setup.
-    pub(crate) fn open_with(&mut self, setup: &Setup) -> Result<bool, Fail> {
+    pub fn open_with(&mut self, setup: &Setup) -> Result<bool, Fail> {
         if !setup.is_within_limits() {
             return Err(Fail::from("the setup isn't within the limits"));
         }
@@ -63,7 +64,7 @@ impl<'a> Rig<'a> {
     }
 
     /// A setup of its address and its file, with terminals at these addresses.
-    pub(crate) fn setup(&self, far: &[SocketAddr]) -> Result<Setup, Fail> {
+    pub fn setup(&self, far: &[SocketAddr]) -> Result<Setup, Fail> {
         self.setup_of(self.journal.as_str(), far)
     }
 
@@ -79,30 +80,30 @@ impl<'a> Rig<'a> {
     }
 
     /// Whether it opens, with terminals at these addresses.
-    pub(crate) fn open(&mut self, far: &[SocketAddr]) -> Result<bool, Fail> {
+    pub fn open(&mut self, far: &[SocketAddr]) -> Result<bool, Fail> {
         let setup = self.setup(far)?;
         self.open_with(&setup)
     }
 
     /// Whether it opens with another file.
-    pub(crate) fn open_file(&mut self, journal: &str) -> Result<bool, Fail> {
+    pub fn open_file(&mut self, journal: &str) -> Result<bool, Fail> {
         let setup = self.setup_of(journal, &[])?;
         self.open_with(&setup)
     }
 
     /// The path of its file.
-    pub(crate) fn journal(&self) -> &str {
+    pub fn journal(&self) -> &str {
         self.journal.as_str()
     }
 
     /// Removes its file.
-    pub(crate) fn remove_file(&self) -> Result<(), Fail> {
+    pub fn remove_file(&self) -> Result<(), Fail> {
         fs::remove_file(self.rt, self.journal.as_str())?;
         Ok(())
     }
 
     /// A peer that connects as a till does.
-    pub(crate) fn connect(&self) -> Result<TcpStream, &'static str> {
+    pub fn connect(&self) -> Result<TcpStream, &'static str> {
         match TcpStream::connect(self.rt, self.near()) {
             Ok(peer) => Ok(peer),
             Err(_) => Err("a till connects"),
@@ -115,7 +116,7 @@ impl<'a> Rig<'a> {
     }
 
     /// What the next poll brings.
-    pub(crate) fn poll(&mut self, buf: &mut [u8; 4096]) -> What {
+    pub fn poll(&mut self, buf: &mut [u8; 4096]) -> What {
         self.polled(buf).what
     }
 
@@ -131,13 +132,13 @@ impl<'a> Rig<'a> {
     }
 
     /// Whether the next poll brings this.
-    pub(crate) fn brings(&mut self, what: What) -> bool {
+    pub fn brings(&mut self, what: What) -> bool {
         let mut buf = [0; 4096];
         self.next(&mut buf) == what
     }
 
     /// Whether the next poll brings so many bytes, and these.
-    pub(crate) fn brings_bytes(&mut self, what: What, bytes: &[u8]) -> bool {
+    pub fn brings_bytes(&mut self, what: What, bytes: &[u8]) -> bool {
         let mut buf = [0; 4096];
         self.next(&mut buf) == what && buf.starts_with(bytes)
     }
@@ -152,7 +153,7 @@ impl<'a> Rig<'a> {
     }
 
     /// How long four polls took that brought nothing.
-    pub(crate) fn four_quiet_polls(&mut self) -> Result<Duration, Fail> {
+    pub fn four_quiet_polls(&mut self) -> Result<Duration, Fail> {
         let start = Instant::now(self.rt)?;
         for _ in 0..4 {
             check!(
@@ -164,45 +165,47 @@ impl<'a> Rig<'a> {
     }
 
     /// Whether a send to this till succeeds.
-    pub(crate) fn sends_till(&mut self, till: u64, bytes: &[u8]) -> bool {
+    pub fn sends_till(&mut self, till: u64, bytes: &[u8]) -> bool {
         self.site.send_till(till, bytes).is_ok()
     }
 
     /// Whether a send to this terminal succeeds.
-    pub(crate) fn sends_pt(&mut self, pt: u16, bytes: &[u8]) -> bool {
+    pub fn sends_pt(&mut self, pt: u16, bytes: &[u8]) -> bool {
         self.site.send_pt(pt, bytes).is_ok()
     }
 
     /// Whether a link to this terminal is made.
-    pub(crate) fn links(&mut self, pt: u16) -> bool {
+    pub fn links(&mut self, pt: u16) -> bool {
         self.site.link_pt(pt).is_ok()
     }
 
-    pub(crate) fn cut_till(&mut self, till: u64) {
+    /// Cuts a till's connection.
+    pub fn cut_till(&mut self, till: u64) {
         self.site.cut_till(till);
     }
 
-    pub(crate) fn cut_pt(&mut self, pt: u16) {
+    /// Cuts the link to a terminal.
+    pub fn cut_pt(&mut self, pt: u16) {
         self.site.cut_pt(pt);
     }
 
     /// The length of its file.
-    pub(crate) fn length(&mut self) -> Option<u64> {
+    pub fn length(&mut self) -> Option<u64> {
         self.site.length().ok()
     }
 
     /// Whether a read of its file succeeds.
-    pub(crate) fn reads(&mut self, offset: u64, buf: &mut [u8]) -> bool {
+    pub fn reads(&mut self, offset: u64, buf: &mut [u8]) -> bool {
         self.site.read_at(offset, buf).is_ok()
     }
 
     /// Whether a write to its file succeeds.
-    pub(crate) fn writes(&mut self, offset: u64, bytes: &[u8]) -> bool {
+    pub fn writes(&mut self, offset: u64, bytes: &[u8]) -> bool {
         self.site.write_at(offset, bytes).is_ok()
     }
 
     /// Whether a sync of its file succeeds.
-    pub(crate) fn syncs(&mut self) -> bool {
+    pub fn syncs(&mut self) -> bool {
         self.site.sync().is_ok()
     }
 }

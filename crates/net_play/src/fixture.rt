@@ -1,14 +1,15 @@
-//! What the tests share: addresses and paths of their own, setups, and steps that go wrong in words.
+//! Addresses and paths of a process's own, setups, what a peer has got, and steps that go wrong in words.
 use gw_base::{Currency, Ident, Pt, Pts, Setup, Text};
-use std::net::{Ipv4Addr, SocketAddr};
+use std::io::Read;
+use std::net::{Ipv4Addr, SocketAddr, TcpStream};
+use std::process;
 use std::test::Fail;
-use std::{env, process};
 
 /// What came of some steps: the words of the first that went wrong.
-pub(crate) type Steps = Result<(), &'static str>;
+pub type Steps = Result<(), &'static str>;
 
 /// Goes wrong with these words unless it holds.
-pub(crate) fn check(holds: bool, words: &'static str) -> Steps {
+pub fn check(holds: bool, words: &'static str) -> Steps {
     if holds {
         return Ok(());
     }
@@ -16,19 +17,14 @@ pub(crate) fn check(holds: bool, words: &'static str) -> Steps {
 }
 
 /// A loopback address of this process's own, so that runs side by side don't meet.
-pub(crate) fn address(rt: &HostRuntime, port: u16) -> SocketAddr {
+pub fn address(rt: &HostRuntime, port: u16) -> SocketAddr {
     let [_, a, b, c] = process::id(rt.process()).to_be_bytes();
     SocketAddr::from((Ipv4Addr::new(127, a, b, c), port))
 }
 
 /// A path of this process's own.
-pub(crate) fn path(rt: &HostRuntime, name: &str) -> Result<String, Fail> {
-    Ok(format!(in rt.alloc(); "/tmp/net_rows-{}-{name}", process::id(rt.process()))?)
-}
-
-/// Whether this process was started by a test of another, and runs for that one alone.
-pub(crate) fn is_child(rt: &HostRuntime) -> bool {
-    env::var(rt, "NET_ROWS_CHILD").is_ok()
+pub fn path(rt: &HostRuntime, name: &str) -> Result<String, Fail> {
+    Ok(format!(in rt.alloc(); "/tmp/net_play-{}-{name}", process::id(rt.process()))?)
 }
 
 fn text(rt: &HostRuntime, text: &str) -> Result<Text, Fail> {
@@ -41,7 +37,7 @@ fn poi(rt: &HostRuntime, number: usize) -> Result<Ident<40>, Fail> {
 }
 
 /// A terminal at this address, which may be no address.
-pub(crate) fn terminal_at(rt: &HostRuntime, number: usize, address: &str) -> Result<Pt, Fail> {
+pub fn terminal_at(rt: &HostRuntime, number: usize, address: &str) -> Result<Pt, Fail> {
     let poi = poi(rt, number)?;
     Ok(Pt {
         poi,
@@ -65,7 +61,7 @@ fn terminals_at(rt: &HostRuntime, far: &[SocketAddr]) -> Result<Vec<Pt>, Fail> {
 }
 
 /// A setup without a terminal.
-pub(crate) fn bare_setup(rt: &HostRuntime, listen: &str, journal: &str) -> Result<Setup, Fail> {
+fn bare_setup(rt: &HostRuntime, listen: &str, journal: &str) -> Result<Setup, Fail> {
     let name = Ident::of(b"GATEWAY").ok_or("an identifier")?;
     let listen = text(rt, listen)?;
     let journal = text(rt, journal)?;
@@ -81,7 +77,7 @@ pub(crate) fn bare_setup(rt: &HostRuntime, listen: &str, journal: &str) -> Resul
 }
 
 /// A setup with a terminal at each of these addresses.
-pub(crate) fn setup(
+pub fn setup(
     rt: &HostRuntime,
     listen: &str,
     journal: &str,
@@ -90,4 +86,10 @@ pub(crate) fn setup(
     let mut setup = bare_setup(rt, listen, journal)?;
     setup.terminals = Pts::new(terminals_at(rt, far)?);
     Ok(setup)
+}
+
+/// Whether a peer has got nothing, and its connection hasn't ended.
+pub fn got_nothing(peer: &mut TcpStream) -> bool {
+    let mut buf = [0; 16];
+    peer.set_nonblocking(true).is_ok() && peer.read(&mut buf).is_err()
 }

@@ -1,8 +1,7 @@
 //! Tests of the file.
-use crate::fixture::{Steps, check, is_child, path};
-use crate::rig::Rig;
-use crate::shell::run_in_shell;
+use crate::shell::{is_child, run_in_shell};
 use jrn_log::{AppendFault, Journal};
+use net_play::{Rig, Steps, check, path};
 use net_site::NetSite;
 use std::alloc::AllocError;
 use std::fs;
@@ -195,7 +194,7 @@ const OTHER_PATHS: [&str; 5] = [
     "/tmp",
     "/dev/zero",
     "/dev/null",
-    "/tmp/net_rows-none/journal",
+    "/tmp/file_tests-none/journal",
     "",
 ];
 
