@@ -1,15 +1,11 @@
-//! Plays tables of cases of tills: values, messages and replies, in files of the form that `case_files` says. The arguments are the
-//! names of the files.
+//! Plays tables of cases of tills: values and messages, in files of the form that `case_files` says. The arguments are the names of the
+//! files.
 #![tactic(auto)]
 
 mod frames;
 mod json;
 mod questions;
-mod received;
-mod replies;
 mod requests;
-mod result_bodies;
-mod translation;
 mod values;
 
 use crate::questions::OnTables;

@@ -1,5 +1,5 @@
 //! Questions by their first word.
-use crate::{frames, json, received, replies, requests, translation, values};
+use crate::{frames, json, requests, values};
 use case_files::{Questions, bytes_of, done};
 use std::alloc::Global;
 
@@ -11,7 +11,6 @@ fn push_on_bytes(alloc: Global, out: &mut String, word: &str, words: &str) -> an
         "frames_by_byte" => done(frames::push_by_byte(alloc, out, bytes)),
         "json_bytes" => done(json::push_bytes(alloc, out, bytes)),
         "json_string" => json::push_string(alloc, out, bytes),
-        "write_print_request" => replies::push_print_request(alloc, out, bytes),
         "digits" => values::push_read(out, bytes),
         "ident_40" => done(values::push_ident_40(out, bytes)),
         "ident_2" => done(values::push_ident_2(out, bytes)),
@@ -25,7 +24,6 @@ fn push_on_text(alloc: Global, out: &mut String, word: &str, words: &str) -> any
         "frames" => frames::push_frames(alloc, out, words),
         "json" => json::push_text(alloc, out, words),
         "json_member" => json::push_member(alloc, out, words),
-        "write_reply" => replies::push_reply(alloc, out, words),
         "class" | "message_type" | "period" => done(requests::push_named(out, word, words)),
         "request"
         | "headed"
@@ -34,9 +32,6 @@ fn push_on_text(alloc: Global, out: &mut String, word: &str, words: &str) -> any
         | "payment_in_two_chunks"
         | "display_lines"
         | "rewrite_request" => requests::push_on_message(alloc, out, word, words),
-        "reply" | "transaction" | "reversed_amount" | "reply_text" => {
-            done(received::push_on_reply(alloc, out, word, words))
-        }
         "stamp"
         | "amount"
         | "digits_of"
@@ -48,23 +43,17 @@ fn push_on_text(alloc: Global, out: &mut String, word: &str, words: &str) -> any
     }
 }
 
-/// The questions on values, messages of tills and what is translated for them.
+/// The questions on values and messages of tills.
 pub struct OnTables;
 
 impl Questions for OnTables {
     fn push_result(
         alloc: Global,
         out: &mut String,
-        before: &str,
+        _before: &str,
         line: &str,
     ) -> anyhow::Result<()> {
         let (word, words) = line.split_once(' ').unwrap_or((line, ""));
-        match word {
-            "let" => Ok(()),
-            "reply_to" => translation::push_reply(alloc, out, before, words),
-            "reply_to_closed" => translation::push_closed(alloc, out, before, words),
-            "text_of" => translation::push_text(alloc, out, before, words),
-            _ => push_on_text(alloc, out, word, words),
-        }
+        push_on_text(alloc, out, word, words)
     }
 }
