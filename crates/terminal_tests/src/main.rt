@@ -1,16 +1,14 @@
-//! Plays tables of cases of terminals and the journal: bytes, dialogues, records and the ledger, in files of the form that `case_files`
-//! says. The arguments are the names of the files.
+//! Plays tables of cases of terminals: bytes, dialogues and what is translated for them, in files of the form that `case_files` says. The
+//! arguments are the names of the files.
 #![tactic(auto)]
 
 mod apdus;
 mod commands;
 mod dialogues;
 mod fields;
-mod ledger;
 mod messages;
 mod objects;
 mod questions;
-mod records;
 mod translation;
 
 use crate::questions::OnTerminals;

@@ -1,5 +1,5 @@
 //! Questions by their first word.
-use crate::{apdus, commands, dialogues, fields, ledger, messages, objects, records, translation};
+use crate::{apdus, commands, dialogues, fields, messages, objects, translation};
 use anyhow::Context;
 use case_files::{Questions, bytes_of, done};
 use std::alloc::Global;
@@ -52,7 +52,7 @@ fn push_on_text(alloc: Global, out: &mut String, word: &str, words: &str) -> any
     }
 }
 
-/// The questions on bytes and dialogues of terminals, and on records.
+/// The questions on bytes and dialogues of terminals, and on what is translated for them.
 pub struct OnTerminals;
 
 impl Questions for OnTerminals {
@@ -65,23 +65,7 @@ impl Questions for OnTerminals {
         let (word, words) = line.split_once(' ').unwrap_or((line, ""));
         match word {
             "let" => Ok(()),
-            "record" => records::push_read(alloc, out, before, words),
             "command_for" => translation::push_command_for(alloc, out, before, words),
-            "refused"
-            | "totals"
-            | "open"
-            | "last"
-            | "reversed"
-            | "settled"
-            | "found"
-            | "named"
-            | "number"
-            | "open_count"
-            | "accepted"
-            | "approved"
-            | "unresolved"
-            | "sum" => { ledger::push_on_ledger(alloc, out, before, word, words) }
-            _ if ledger::is_record(before, line) => Ok(()),
             _ => push_on_text(alloc, out, word, words),
         }
     }
