@@ -3,7 +3,7 @@ use Rattle.std.proofs.Common.{◌≡◌, ◌<◌, ℕ, List, [], length, Some, N
 use Rattle.std.specs.Prelude.{◌⊎◌, ◌↔◌}
 use Rattle.sale_frame.proofs.FrameLemmas.{bad_is_no_prefix}
 use Rattle.sale_ws.specs.Gateway.{Heard, Brought, ReadFailed, NotAsked}
-use Rattle.sale_ws.specs.Turn.{Delivery, HasBytes, HasNoFrame, Results}
+use Rattle.sale_ws.specs.Turn.{Delivery, HasBytes, HasNoFrame, IsFaulty, Results}
 use Rattle.sale_ws.specs.inner.Steps.{IsHearing, IsPassed}
 use Rattle.sale_ws.specs.declared.bridge.Bridged.TheVariants.{Went, Ended}
 use Rattle.sale_ws.specs.declared.bridge.Hearing.{Hearing}
@@ -65,12 +65,22 @@ has-something heard bytes is = no-bytes heard (Brought None) is nothing-has-none
 was-asked : (heard : Heard) → HasBytes heard → heard ≡ NotAsked → ⊥
 was-asked heard bytes is = no-bytes heard NotAsked is unasked-has-none bytes
 
+was-read : (heard : Heard) → HasBytes heard → heard ≡ ReadFailed → ⊥
+was-read heard bytes is = no-bytes heard ReadFailed is failed-has-none bytes
+
+-- what was passed on is no fault
+not-faulty : (got : Got) → IsPassed got (Ok tt) → IsFaulty (Ok got) → ⊥
+not-faulty got passed (inl failed) = let no : false ≡ true = failed in cc
+not-faulty got passed (inr (n, none)) = passed n none
+
 module _ {W : Type 0} where
   pub read-failed : (read : W) (waiting left : List ℕ) → Results waiting left false (record { got = Err Failed; read = read; delivery = unheard waiting }) (Err Fault.Socket)
   read-failed read waiting left = record {
     ended = neither (λ e. cc) (neither-of (λ e. cc) (λ e. cc));
     outsized = λ n. neither (λ e. cc) (fault-is-no-message Failed n);
     unreadable = neither (λ e. cc) (λ bad. no-bytes NotAsked NotAsked refl unasked-has-none bad.0.0);
+    faultless = tt;
+    first = λ _. refl;
     asked = tt;
     delivered = tt;
     idle = neither (λ e. cc) (λ h. let e = h.0 in cc);
@@ -81,6 +91,8 @@ module _ {W : Type 0} where
     ended = neither (λ e. cc) (neither-of (λ e. cc) (λ e. cc));
     outsized = λ n. neither (λ e. cc) (fault-is-no-message Memory n);
     unreadable = neither (λ e. cc) (λ bad. no-bytes NotAsked NotAsked refl unasked-has-none bad.0.0);
+    faultless = tt;
+    first = λ _. refl;
     asked = tt;
     delivered = tt;
     idle = neither (λ e. cc) (λ h. let e = h.0 in cc);
@@ -91,6 +103,8 @@ module _ {W : Type 0} where
     ended = both refl (inl refl);
     outsized = λ n. neither (λ e. cc) (end-is-no-message n);
     unreadable = neither (λ e. cc) (λ bad. no-bytes NotAsked NotAsked refl unasked-has-none bad.0.0);
+    faultless = record { got = refl; heard = λ e. cc; sent = refl };
+    first = λ _. refl;
     asked = both refl refl;
     delivered = (refl, inr (refl, refl));
     idle = neither (λ e. cc) (λ h. let e = h.0 in cc);
@@ -101,6 +115,8 @@ module _ {W : Type 0} where
     ended = neither (λ e. cc) (neither-of (λ e. let is : got ≡ End = cc in not_end is) (λ e. cc));
     outsized = λ n. neither (λ e. cc) (passed n);
     unreadable = neither (λ e. cc) (λ bad. no-bytes NotAsked NotAsked refl unasked-has-none bad.0.0);
+    faultless = tt;
+    first = λ _. refl;
     asked = tt;
     delivered = tt;
     idle = neither (λ e. cc) (λ h. let e = h.1 in cc);
@@ -109,6 +125,8 @@ module _ {W : Type 0} where
     ended = neither (λ e. cc) (neither-of (λ e. let is : got ≡ End = cc in not_end is) (λ e. cc));
     outsized = λ n. (λ e. let same : size ≡ n = cc in subst (HasNoFrame (Ok got)) same passed, λ other. ap (λ k. Err (Fault.Length k)) (one-size (Ok got) size n passed other));
     unreadable = neither (λ e. cc) (λ bad. no-bytes NotAsked NotAsked refl unasked-has-none bad.0.0);
+    faultless = tt;
+    first = λ _. refl;
     asked = tt;
     delivered = tt;
     idle = neither (λ e. cc) (λ h. let e = h.1 in cc);
@@ -117,6 +135,8 @@ module _ {W : Type 0} where
     ended = neither (λ e. cc) (neither-of (λ e. let is : got ≡ End = cc in not_end is) (λ e. cc));
     outsized = λ n. neither (λ e. cc) (passed n);
     unreadable = neither (λ e. cc) (λ bad. no-bytes NotAsked NotAsked refl unasked-has-none bad.0.0);
+    faultless = tt;
+    first = λ _. refl;
     asked = tt;
     delivered = tt;
     idle = neither (λ e. cc) (λ h. let e = h.1 in cc);
@@ -126,10 +146,12 @@ module _ {W : Type 0} where
 
   pub heard-nothing : (read : W) (waiting left : List ℕ) (is_idle : Bool) (got : Got) (delivery : Delivery) → ¬ (got ≡ End) → IsPassed got (Ok tt) → (is_idle ≡ true) ↔ (got ≡ Nothing) → IsHearing (Ok Hearing.Nothing) waiting left delivery
       → Results waiting left is_idle (record { got = Ok got; read = read; delivery = delivery }) (Ok Went)
-  heard-nothing read waiting left is_idle got delivery not_end passed quiet (heard, (none, rest, same)) = record {
+  heard-nothing read waiting left is_idle got delivery not_end passed quiet (heard, (none, rest, same, sending)) = record {
     ended = neither (λ e. cc) (neither-of (λ e. let is : got ≡ End = cc in not_end is) (λ e. cc));
     outsized = λ n. neither (λ e. cc) (passed n);
     unreadable = neither (λ e. cc) (λ bad. has-something delivery.heard bad.0.0 heard);
+    faultless = record { got = refl; heard = λ e. cc; sent = sending };
+    first = λ faulty. absurd (not-faulty got passed faulty);
     asked = neither (λ e. cc) (λ e. let is : got ≡ End = cc in not_end is);
     delivered = (same ∙ sym rest, inr (none, rest));
     idle = (λ e. (ap Ok (quiet.0 e), heard), λ h. let is : got ≡ Nothing = cc in quiet.1 is);
@@ -137,10 +159,12 @@ module _ {W : Type 0} where
 
   pub heard-end : (read : W) (waiting left : List ℕ) (got : Got) (delivery : Delivery) → ¬ (got ≡ End) → IsPassed got (Ok tt) → IsHearing (Ok Hearing.Ended) waiting left delivery
       → Results waiting left false (record { got = Ok got; read = read; delivery = delivery }) (Ok Ended)
-  heard-end read waiting left got delivery not_end passed (heard, (none, rest, same)) = record {
+  heard-end read waiting left got delivery not_end passed (heard, (none, rest, same, sending)) = record {
     ended = both refl (inr heard);
     outsized = λ n. neither (λ e. cc) (passed n);
     unreadable = neither (λ e. cc) (λ bad. has-no-end delivery.heard bad.0.0 heard);
+    faultless = record { got = refl; heard = λ e. cc; sent = sending };
+    first = λ faulty. absurd (not-faulty got passed faulty);
     asked = neither (λ e. cc) (λ e. let is : got ≡ End = cc in not_end is);
     delivered = (same ∙ sym rest, inr (none, rest));
     idle = neither (λ e. cc) (λ h. let e = h.1 in cc);
@@ -152,6 +176,8 @@ module _ {W : Type 0} where
     ended = neither (λ e. cc) (neither-of (λ e. let is : got ≡ End = cc in not_end is) (has-no-end delivery.heard done.0));
     outsized = λ n. neither (λ e. cc) (passed n);
     unreadable = neither (λ e. cc) (λ bad. bad_is_no_prefix delivery.rest less bad.1);
+    faultless = record { got = refl; heard = was-read delivery.heard done.0; sent = done.1 };
+    first = λ faulty. absurd (not-faulty got passed faulty);
     asked = neither (was-asked delivery.heard done.0) (λ e. let is : got ≡ End = cc in not_end is);
     delivered = (same, inl (done, less));
     idle = neither (λ e. cc) (λ h. has-something delivery.heard done.0 h.1);
@@ -163,6 +189,8 @@ module _ {W : Type 0} where
     ended = neither (λ e. cc) (neither-of (λ e. let is : got ≡ End = cc in not_end is) (λ e. cc));
     outsized = λ n. neither (λ e. cc) (passed n);
     unreadable = neither (λ e. cc) (λ bad. no-bytes delivery.heard ReadFailed failed failed-has-none bad.0.0);
+    faultless = tt;
+    first = λ faulty. absurd (not-faulty got passed faulty);
     asked = tt;
     delivered = tt;
     idle = neither (λ e. cc) (λ h. let e = h.1 in cc);
@@ -171,6 +199,8 @@ module _ {W : Type 0} where
     ended = neither (λ e. cc) (neither-of (λ e. let is : got ≡ End = cc in not_end is) (has-no-end delivery.heard bad.0.0));
     outsized = λ n. neither (λ e. cc) (passed n);
     unreadable = both refl bad;
+    faultless = tt;
+    first = λ faulty. absurd (not-faulty got passed faulty);
     asked = tt;
     delivered = tt;
     idle = neither (λ e. cc) (λ h. has-something delivery.heard bad.0.0 h.1);
@@ -180,6 +210,8 @@ module _ {W : Type 0} where
     ended = neither (λ e. cc) (neither-of (λ e. let is : got ≡ End = cc in not_end is) (has-no-end delivery.heard bytes));
     outsized = λ n. neither (λ e. cc) (passed n);
     unreadable = neither (λ e. cc) (λ bad. let e = bad.0.1 in cc);
+    faultless = tt;
+    first = λ faulty. absurd (not-faulty got passed faulty);
     asked = tt;
     delivered = tt;
     idle = neither (λ e. cc) (λ h. has-something delivery.heard bytes h.1);
@@ -188,6 +220,8 @@ module _ {W : Type 0} where
     ended = neither (λ e. cc) (neither-of (λ e. let is : got ≡ End = cc in not_end is) (has-no-end delivery.heard bytes));
     outsized = λ n. neither (λ e. cc) (passed n);
     unreadable = neither (λ e. cc) (λ bad. let e = bad.0.1 in cc);
+    faultless = tt;
+    first = λ faulty. absurd (not-faulty got passed faulty);
     asked = tt;
     delivered = tt;
     idle = neither (λ e. cc) (λ h. has-something delivery.heard bytes h.1);

@@ -4,9 +4,10 @@ use Rattle.std.specs.Prelude.{◌↔◌, ◌==◌}
 use Rattle.std.proofs.lemmas.Bool.{eqb-true}
 use Rattle.std.proofs.lemmas.List.{append-nil}
 use Rattle.gw_site.specs.Streams.{AddsTo}
+use Rattle.sale_frame.specs.Grammar.{frame}
 use Rattle.sale_ws.specs.Gateway.{ObservedGate, Heard, Brought, ReadFailed, NotAsked, TakesChunk}
 use Rattle.sale_ws.specs.Socket.{ObservedWire, TakesGot}
-use Rattle.sale_ws.specs.Turn.{Delivery, Delivers, IsTurnOf, PassesOn, SendsFrame, SendsUntil, framed, waiting_after}
+use Rattle.sale_ws.specs.Turn.{Delivery, Delivers, IsTurnOf, PassesOn, SendsFrame, SendsUntil, framed, has_frame, waiting_after}
 use Rattle.sale_ws.specs.inner.Steps.{ChunkDelivered, Hears, IsDelivering, IsHearing, IsPassed}
 use Rattle.sale_ws.proofs.DeliveryLemmas.{DeliveredAs, adds-none}
 use Rattle.sale_ws.proofs.ResultLemmas.{heard-end, heard-fault, heard-messages, heard-nothing, not-passed, read-failed, read-without-memory, socket-ended, unheard}
@@ -16,9 +17,16 @@ use Rattle.sale_ws.specs.declared.bridge.Hearing.{Hearing}
 use Rattle.sale_ws.specs.declared.fault.BridgeFault.{BridgeFault}
 use Rattle.sale_ws.specs.declared.fault.BridgeFault.TheVariants as Fault
 use Rattle.sale_ws.specs.declared.wire.Got.{Got}
-use Rattle.sale_ws.specs.declared.wire.Got.TheVariants.{Nothing, End}
+use Rattle.sale_ws.specs.declared.wire.Got.TheVariants.{Message, Nothing, End}
 use Rattle.sale_ws.specs.declared.wire.WireFault.{WireFault}
 use Rattle.sale_ws.specs.declared.wire.WireFault.TheVariants.{Failed, Memory}
+
+-- the frame of a message that has one was written, whole
+pub writes-message : (a b : Option (List ℕ)) (message bytes : List ℕ) → has_frame message ≡ true → bytes ≡ frame message → ((before : List ℕ) → a ≡ Some before → b ≡ Some (before ++ bytes)) → AddsTo {E = BridgeFault} a b (framed (Ok (Message message))) (Ok tt)
+writes-message a b message bytes has is adds = λ before was. adds before was ∙ ap (λ added. Some (before ++ added)) (is ∙ sym (framed-is message has))
+  where
+    framed-is : (message : List ℕ) → has_frame message ≡ true → framed (Ok (Message message)) ≡ frame message
+    framed-is message has = rw has refl
 
 -- the socket's read, and what comes later leaves what is left
 pub takes-got-then : (a b c : Option (List Got)) (got : Result Got WireFault) → TakesGot a b got → c ≡ b → TakesGot a c got
@@ -59,7 +67,7 @@ hears-nothing observed sends chunks after wire waiting takes = (
     chunk = takes;
     asked = λ e. cc;
     delivered = undelivered observed sends wire waiting (Brought None) refl;
-    result_is = (refl, (refl, refl, refl));
+    result_is = (refl, (refl, refl, refl, refl));
   },
 )
 
@@ -90,7 +98,7 @@ brings-end observed sends wire waiting chunk empty =
       record {
         heard = ap (λ c. Brought (Some c)) (sym none);
         delivered = undelivered observed sends wire waiting (Brought (Some [])) (append-nil waiting);
-        result_is = (refl, (refl, refl, refl));
+        result_is = (refl, (refl, refl, refl, refl));
       },
     )
 

@@ -4,4 +4,5 @@ pub mod Socket
 pub mod Memory
 pub mod Kit
 pub mod Turn
+pub mod TurnExample
 pub mod inner

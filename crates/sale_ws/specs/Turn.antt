@@ -1,5 +1,5 @@
 -- One turn of a bridge: a read of the socket and a read of the gateway's connection, what each has sent to the other side, and the result.
-use Rattle.std.specs.Prelude.{◌≡◌, ◌⊎◌, ◌↔◌, ℕ, ◌<◌, ◌≤◌, Bool, true, false, ◌&&◌, nat_lt, nat_le, List, [], ◌∷◌, ◌++◌, length, Option, Some, None, Result, Ok, Err, OnOk, if◌then◌else◌}
+use Rattle.std.specs.Prelude.{◌≡◌, ◌⊎◌, ◌↔◌, ℕ, ◌<◌, ◌≤◌, Bool, true, false, ◌&&◌, nat_lt, nat_le, List, [], ◌∷◌, ◌++◌, length, Option, Some, None, Result, Ok, Err, OnOk, if◌then◌else◌, IsOk, IsErr}
 use Rattle.std.specs.List.{AllByRecursion}
 use Rattle.gw_bytes.specs.Bytes.{IsPrefix}
 use Rattle.gw_site.specs.Failures.{Rose}
@@ -33,6 +33,10 @@ framed (Err fault) = []
 -- the socket gave a message of this length that has no frame
 abbrev pub HasNoFrame : Result Got WireFault → ℕ → Type 0
 HasNoFrame got n = (message : List ℕ) × (got ≡ Ok (Message message)) × (has_frame message ≡ false) × (n ≡ length message)
+
+-- nothing can be passed on: the socket's read has failed, or its message has no frame
+abbrev pub IsFaulty : Result Got WireFault → Type 0
+IsFaulty got = IsErr got ⊎ ((n : ℕ) × HasNoFrame got n)
 
 -- the bytes are written; of those of a turn that ends before it reads the gateway's connection a prefix may be
 abbrev pub SendsFrame : Option (List ℕ) → Option (List ℕ) → List ℕ → Heard → Type 0
@@ -99,11 +103,19 @@ pub record TurnMet (W : Type 0) : Type 0 where
   pub read : W
   pub delivery : Delivery
 
+-- neither a read nor a send of the turn has failed
+pub record MetNoFailure {W : Type 0} (met : TurnMet W) : Type 0 where
+  pub got : IsOk met.got
+  pub heard : ¬ (met.delivery.heard ≡ ReadFailed)
+  pub sent : met.delivery.sending ≡ Ok tt
+
 -- the result of a turn, by what it met, the bytes that waited before it, those that wait after it, and whether it says that both reads found nothing
 pub record Results {W : Type 0} (waiting left : List ℕ) (is_idle : Bool) (met : TurnMet W) (result : Result Bridged BridgeFault) : Type 0 where
   pub ended : (result ≡ Ok Ended) ↔ ((met.got ≡ Ok End) ⊎ (met.delivery.heard ≡ Brought (Some [])))
   pub outsized : (n : ℕ) → (result ≡ Err (Length n)) ↔ HasNoFrame met.got n
   pub unreadable : (result ≡ Err Frame) ↔ HasBadRest met.delivery
+  pub faultless : OnOk result (MetNoFailure met)
+  pub first : IsFaulty met.got → met.delivery.heard ≡ NotAsked
   pub asked : OnOk result ((met.delivery.heard ≡ NotAsked) ↔ (met.got ≡ Ok End))
   pub delivered : OnOk result (IsDelivered waiting left met.delivery)
   pub idle : (is_idle ≡ true) ↔ ((met.got ≡ Ok Nothing) × (met.delivery.heard ≡ Brought None))

@@ -5,6 +5,7 @@
 mod bridge;
 mod fault;
 mod gate;
+mod laws;
 mod memory_gate;
 mod memory_wire;
 mod patient;
@@ -15,6 +16,7 @@ mod wire;
 pub use bridge::{Bridge, Bridged};
 pub use fault::BridgeFault;
 pub use gate::Gate;
+pub use laws::law_turn_examples;
 pub use memory_gate::{MemGate, Pieces};
 pub use memory_wire::{Gots, MemWire};
 pub use patient::Patient;

@@ -66,6 +66,18 @@ fn a_text_and_a_close(rt: HostRuntime) -> Result<(), Fail> {
     Ok(())
 }
 
+/// A frame without a mask isn't one of a till, and a stream that ends without a close has failed: neither is an end of the socket.
+#[test]
+fn a_broken_socket_fails(rt: HostRuntime) -> Result<(), Fail> {
+    let alloc = rt.alloc();
+    let unmasked = [0x82, 0x02, 0x7B, 0x7D];
+    let mut bridge = Bridge::new(alloc, socket(alloc, &unmasked), silent(alloc, None))?;
+    assert!(rt; bridge.turn(alloc) == Err(BridgeFault::Socket));
+    let mut bridge = Bridge::new(alloc, socket(alloc, &[]), silent(alloc, None))?;
+    assert!(rt; bridge.turn(alloc) == Err(BridgeFault::Socket));
+    Ok(())
+}
+
 /// A socket in memory gives its message, and then the end.
 #[test]
 fn a_socket_in_memory(rt: HostRuntime) -> Result<(), Fail> {

@@ -39,9 +39,9 @@ IsDelivering (Err (Fault.Length length)) left delivery = ⊥
 IsDelivering (Err Fault.Socket) left delivery = delivery.sending ≡ Err Failed
 IsDelivering (Err Fault.Memory) left delivery = delivery.sending ≡ Err Memory
 
--- nothing was sent, and the same bytes wait
+-- nothing was sent, no send has failed, and the same bytes wait
 abbrev pub HasNoneSent : List ℕ → List ℕ → Delivery → Type 0
-HasNoneSent waiting left delivery = (delivery.sent ≡ []) × (delivery.rest ≡ waiting) × (left ≡ waiting)
+HasNoneSent waiting left delivery = (delivery.sent ≡ []) × (delivery.rest ≡ waiting) × (left ≡ waiting) × (delivery.sending ≡ Ok tt)
 
 -- the result of a read of the gateway's connection, and of the delivery of what it brought
 abbrev pub IsHearing : Result Hearing BridgeFault → List ℕ → List ℕ → Delivery → Type 0
