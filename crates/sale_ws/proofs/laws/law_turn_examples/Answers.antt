@@ -22,12 +22,12 @@ returns c = record {
   turns = record {
     idle = heard-nothing tt [] [] true Nothing (only_heard (Brought None)) (λ e. cc) nothing-is-no-message (λ _. refl, λ _. refl) (refl, (refl, refl, refl, refl));
     failed = read-failed tt [] [];
-    failed_passed_over = λ gives. let no : false ≡ true = gives.faultless.got in cc;
-    read_after_failed = λ gives. was-not-read (gives.first (inl refl));
+    failed_passed_over = λ results. let no : false ≡ true = results.faultless.got in cc;
+    read_after_failed = λ results. was-not-read (results.first (inl refl));
     empty = not-passed tt [] [] (Message []) (Length 0) (λ e. cc) ([], refl, refl, refl);
-    empty_passed_over = λ gives. let e = (gives.outsized 0).1 ([], refl, refl, refl) in cc;
-    read_after_empty = λ gives. was-not-read (gives.first (inr (0, ([], refl, refl, refl))));
+    empty_passed_over = λ results. let e = (results.outsized 0).1 ([], refl, refl, refl) in cc;
+    read_after_empty = λ results. was-not-read (results.first (inr (0, ([], refl, refl, refl))));
     unheard = heard-fault tt [] [] Control (only_heard ReadFailed) Gate (λ e. cc) control-is-no-message refl;
-    unheard_passed_over = λ gives. gives.faultless.heard refl;
+    unheard_passed_over = λ results. results.faultless.heard refl;
   };
 }
