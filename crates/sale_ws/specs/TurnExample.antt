@@ -1,7 +1,7 @@
 -- Closed examples of the result of a turn: what it may be, and what it may not be, after a turn that met so little.
-use Rattle.std.specs.Prelude.{List, [], Bool, true, false, None, Result, Ok, Err}
+use Rattle.std.specs.Prelude.{[], Bool, true, false, None, Result, Ok, Err}
 use Rattle.sale_ws.specs.Gateway.{Heard, Brought, ReadFailed, NotAsked}
-use Rattle.sale_ws.specs.Turn.{Delivery, Results, TurnMet}
+use Rattle.sale_ws.specs.Turn.{Delivery, Results}
 use Rattle.sale_ws.specs.declared.bridge.Bridged.{Bridged}
 use Rattle.sale_ws.specs.declared.bridge.Bridged.TheVariants.{Went}
 use Rattle.sale_ws.specs.declared.fault.BridgeFault.{BridgeFault}

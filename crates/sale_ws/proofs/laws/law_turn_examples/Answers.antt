@@ -1,6 +1,6 @@
 -- The examples of turns.
-use Rattle.std.proofs.Common.{◌≡◌, ℕ, [], false, true, None, Ok, Err, refl, inl, inr}
-use Rattle.sale_ws.specs.Gateway.{Heard, Brought, ReadFailed, NotAsked}
+use Rattle.std.proofs.Common.{◌≡◌, ℕ, [], false, true, None, Ok, refl, inl, inr}
+use Rattle.sale_ws.specs.Gateway.{Brought, ReadFailed, NotAsked}
 use Rattle.sale_ws.specs.Turn.{HasNoFrame}
 use Rattle.sale_ws.specs.TurnExample.{only_heard}
 use Rattle.sale_ws.specs.declared.fault.BridgeFault.TheVariants.{Gate, Length}
