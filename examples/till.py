@@ -1,9 +1,14 @@
 """A till for the gateway in one file: payments, reversals and reconciliations that survive lost connections, restarts and power failures.
 
     till = Till(("127.0.0.1", 7000), "T1", "till.json", "till-1")
-    reply = till.resume() or till.pay(1099, "EUR", "27908")  # after a restart: is_unaccepted first
+    reply = till.resume()  # what became of the request that was open; it only asks
+    if reply and reply.condition == "NotAccepted":
+        reply = till.repeat()  # or till.stop(): the cashier chooses
+    if reply is None:
+        reply = till.pay(1099, "EUR", "27908")
     print(reply.result, reply.condition, reply.cents, reply.transaction)
-    till.done()  # once your own books have it
+    if reply.result != "Unknown":
+        till.done()  # once your own books have it
 
 docs/TILLS.md says why each step is as it is. It needs Python 3.8 or later on Linux, and nothing else."""
 import datetime
@@ -28,6 +33,8 @@ PAUSES = (1, 2, 4, 5)  # seconds between attempts to connect; the last one from 
 
 # The library's own: no connection could be made since the request was begun.
 NOT_SENT = {"Response": {"Result": "Failure", "ErrorCondition": "NotSent"}}
+# The library's own, and no end: a status has said NotFound.
+NOT_ACCEPTED = {"Response": {"Result": "Unknown", "ErrorCondition": "NotAccepted"}}
 
 
 class Lost(Exception):
@@ -76,7 +83,7 @@ class Connection:
             size = struct.unpack(">I", self.got[:4])[0] if len(self.got) >= 4 else None
             if size is not None and len(self.got) >= 4 + size:
                 text, self.got = self.got[4 : 4 + size], self.got[4 + size :]
-                return json.loads(text, parse_float=decimal.Decimal)
+                return self._message(text)
             rest = end - time.monotonic()
             if rest <= 0:
                 return None
@@ -90,6 +97,12 @@ class Connection:
             if not more:
                 raise Lost("the gateway has closed the connection")
             self.got += more
+
+    def _message(self, text):
+        try:
+            return json.loads(text, parse_float=decimal.Decimal)
+        except ValueError:
+            raise Lost("what replies is no gateway")
 
     def close(self):
         self.socket.close()
@@ -140,9 +153,9 @@ class Memory:
 class Reply:
     """What became of a request.
 
-    `result` is Success, Partial or Failure; or Unknown, as long as the gateway doesn't know or can't be reached. `condition` says why it is a
-    failure (NotSent where no connection could be made for it), `cents` is what was paid or given back, `transaction` is the text by which a
-    reversal names a payment, `body` the whole reply."""
+    `result` is Success, Partial or Failure; or Unknown, which is no end: the gateway doesn't know or can't be reached, or, with the condition
+    NotAccepted, hasn't accepted the request so far. `condition` says why it is a failure (NotSent where no connection could be made for it),
+    `cents` is what was paid or given back, `transaction` is the text by which a reversal names a payment, `body` the whole reply."""
 
     def __init__(self, body):
         self.body = body
@@ -203,21 +216,43 @@ class Till:
         """The request that has no end yet, or whose end wasn't confirmed, with its category and its body; None if there is no such request."""
         return self.memory.value["open"]
 
-    def is_unaccepted(self):
-        """Whether that request was sent before, and the gateway doesn't know it so far. Then `resume` would begin it. So the cashier chooses
-        that, or `abort` before `resume`, which stops it. It raises Lost if the gateway can't be asked."""
-        request = self.request
-        is_open = request is not None and "reply" not in request
-        return is_open and self.status(request["service"], poi=request["poi"]).condition == "NotFound"
-
     def resume(self, patience=PATIENCE):
-        """The end of that request, as after a restart of the till; None if there is no such request. It sends the request again."""
+        """What became of that request, as after a restart of the till; None if there is no such request. It asks by a status, which begins nothing.
+        Unknown with the condition NotAccepted: the gateway hasn't accepted it so far. Then the cashier chooses `repeat` or `stop`."""
         request = self.request
         if not request:
             return None
         if "reply" in request:
             return Reply(request["reply"])
-        return self._carry_out(request, patience, time.monotonic() + STRAY)
+        end, lost = time.monotonic() + patience, 0
+        while True:
+            try:
+                known, lost = self._known(request), 0
+                if known.is_recorded():
+                    # on record, so that no terminal is asked again: its reply says whether it is that of this sale
+                    return self._carry_out(request, patience, time.monotonic() + STRAY)
+                if known.condition == "NotFound":
+                    return Reply(NOT_ACCEPTED)
+            except Lost:
+                self._give_up()
+                lost += 1
+            pause = PAUSES[min(lost, len(PAUSES)) - 1] if lost else AGAIN
+            if time.monotonic() + pause >= end:
+                return Reply({})
+            if self.on_wait:
+                self.on_wait(patience - (end - time.monotonic()))
+            # `abort` is heard at once
+            (time.sleep if self.is_to_stop.is_set() else self.is_to_stop.wait)(pause)
+
+    def repeat(self, patience=PATIENCE):
+        """Sends that request again, which begins it if it wasn't accepted."""
+        self.is_to_stop.clear()
+        return self._again(patience)
+
+    def stop(self, patience=PATIENCE):
+        """Sends that request again, each time with an Abort right after it, until it has an end. It may be a Success: then it was too late."""
+        self.is_to_stop.set()
+        return self._again(patience)
 
     def done(self):
         """Your own books have the end that was returned: the next request may begin."""
@@ -228,7 +263,7 @@ class Till:
         self.memory.write()
 
     def abort(self):
-        """Asks the gateway to stop the request that is being carried out, from another thread. Its own reply says what became of it."""
+        """Asks the gateway to stop the request that is being carried out or resumed, from another thread. Its own reply says what became of it."""
         self.is_to_stop.set()
 
     # --- what is asked beside
@@ -255,6 +290,19 @@ class Till:
         self.connection = None
 
     # --- how a request is carried out
+
+    def _again(self, patience):
+        request = self.request
+        if not request or "reply" in request:
+            return self.resume()
+        return self._carry_out(request, patience, time.monotonic() + STRAY)
+
+    def _known(self, request):
+        """What a status says of the request. An Abort follows where it is to be stopped: it ends nothing that isn't known."""
+        known = self.status(request["service"], poi=request["poi"])
+        if known.condition == "InProgress" and self.is_to_stop.is_set():
+            self._send_abort(request)
+        return known
 
     def _begin(self, category, body, patience):
         self.is_to_stop.clear()
@@ -298,7 +346,7 @@ class Till:
                 # an Abort goes out right after each sending of a request that is stopped
                 again, is_stopped = time.monotonic() + SILENCE, False
             if self.is_to_stop.is_set() and not is_stopped:
-                self._send("Abort", self._own_number(), {"MessageReference": {"ServiceID": request["service"]}}, request["poi"])
+                self._send_abort(request)
                 is_stopped = True
             message = self.connection.receive(0.2)
             now = time.monotonic()
@@ -352,6 +400,9 @@ class Till:
     def _send_open(self, request):
         self.connection.owed += 1
         self._send(request["category"], request["service"], request["body"], request["poi"])
+
+    def _send_abort(self, request):
+        self._send("Abort", self._own_number(), {"MessageReference": {"ServiceID": request["service"]}}, request["poi"])
 
     # --- one message
 

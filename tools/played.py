@@ -88,7 +88,7 @@ class Terminal:
 
     A payment is approved at once, after the lines of `prints`. Where `holds` is set nothing is said of the next payment that is booked
     but its acknowledgement, until it is released. Where `loses` is set the next payment is acknowledged and not booked, and its connection
-    ends once it is released."""
+    ends once it is released. Where `stops` is set the next payment is acknowledged, and declined once a stop comes."""
 
     password = "123456"
 
@@ -100,6 +100,7 @@ class Terminal:
         self.commands = []  # the class and instruction of each command, and when its first bytes were read
         self.holds = threading.Event()
         self.loses = threading.Event()
+        self.stops = threading.Event()
         self.is_held = threading.Event()
         self.released = threading.Event()
         self.line = None
@@ -152,6 +153,9 @@ class Terminal:
                 line.sendall(ACK)
                 self.hold()
                 raise ConnectionAbortedError
+            if self.stops.is_set():
+                line.sendall(ACK)
+                return
             if head == "0601":
                 self.book.append(("payment", int(data[1:7].hex()), (len(self.book) + 1) % 10000))
             else:
@@ -166,7 +170,10 @@ class Terminal:
                 line.sendall(ACK)
             prints = b"".join(apdu("06d1", b"\x00" + text) for text in self.prints)
             line.sendall(prints + self._report() + COMPLETION)
-        elif head == "06e0":
+        elif head == "06b0" and self.stops.is_set():
+            self.stops.clear()
+            line.sendall(ACK + apdu("061e", b"\x6c"))
+        elif head in ("06b0", "06e0"):
             line.sendall(ACK)
         else:
             line.sendall(ACK + COMPLETION)
@@ -179,6 +186,10 @@ class Terminal:
     def charged(self):
         """How many payments are booked."""
         return sum(entry[0] == "payment" for entry in self.book)
+
+    def asked(self):
+        """How many payments it was asked for."""
+        return sum(head == "0601" for head, _ in self.commands)
 
     def restart(self):
         """Its connection ends, as where it is switched off and on."""

@@ -4,6 +4,7 @@ on the same journal; and what the tools ask and read-journal say beside it.
 
 try_serve.py PROGRAM: PROGRAM is a build of the program. It ends with status 1 at the first thing that differs."""
 import decimal
+import json
 import os
 import signal
 import subprocess
@@ -180,8 +181,10 @@ def is_killed_after_the_outcome(runs, till):
 
 
 def said_by(tool, *words):
-    """The last line that a tool prints, and its exit status."""
+    """The last line that a tool prints, and its exit status. After 7 and 8 standard error has one line, or one for each fault."""
     ended = subprocess.run([sys.executable, "-B", os.path.join(TOOLS, tool), *words], capture_output=True, text=True)
+    if ended.returncode in (7, 8) and not (ended.stderr and all(line.startswith("ask: ") for line in ended.stderr.splitlines())):
+        raise Differs("%s %s says of its status %d: %r" % (tool, " ".join(words), ended.returncode, ended.stderr))
     return (ended.stdout.splitlines() or [""])[-1], ended.returncode
 
 
@@ -206,16 +209,46 @@ def is_asked(runs, gateway, folder):
     same(said_by("ask", *by, "reverse", "T1", line.split()[1])[1], 0, "ask reverse")
     same(said_by("ask", *by, "resume", "T1"), ("nothing was open", 0), "ask resume")
     same(said_by("read-journal", runs.journal), ("open: none", 0), "read-journal")
+    asks_before_it_sends(terminal, by)
+    wanted = {"gumtwice_up 1", 'gumtwice_terminal{poi="T1",state="OK"} 1', 'gumtwice_terminal{poi="T1",state="Unreachable"} 0'}
+    wanted |= {"gumtwice_journal_records %d" % (os.path.getsize(runs.journal) // 256), "gumtwice_journal_slots 1000000"}
+    same(wanted - measured(gateway, folder, 0), set(), "what ask metrics leaves out")
+    return by
+
+
+def asks_before_it_sends(terminal, by):
+    """A payment whose ask ended before it was sent: nothing is begun until the cashier chooses, and it is charged once then."""
+    charged, sale = terminal.charged(), {"SaleTransactionID": {"TransactionID": "1", "TimeStamp": "2025-03-07T10:11:04+00:00"}}
+    with open(by[-1]) as file:
+        memory = json.load(file)
+    memory["count"] += 1
+    memory["open"] = dict(poi="T1", category="Payment", service=str(memory["count"]), body={"SaleData": sale})
+    memory["open"]["body"]["PaymentTransaction"] = {"AmountsReq": {"Currency": "EUR", "RequestedAmount": 2.5}}
+    with open(by[-1], "w") as file:
+        json.dump(memory, file)
+    for words in (["resume", "T1"], ["pay", "T1", "9.99"]):
+        same(said_by("ask", *by, *words), ("Unknown NotAccepted", 4), "ask %s with a payment that wasn't sent" % words[0])
+    same(terminal.charged(), charged, "payments booked for it")
+    same(said_by("ask", *by, "repeat", "T1")[1], 0, "ask repeat")
+    same(said_by("ask", *by, "stop", "T1"), ("nothing was open", 0), "ask stop after that")
+    same(terminal.charged(), charged + 1, "payments booked for it")
+
+
+def measured(gateway, folder, expected):
+    """The lines that ask metrics writes for a gateway, in a folder without them, with the exit status that is expected."""
     configuration, metrics = os.path.join(folder, "gateway.toml"), os.path.join(folder, "gateway.prom")
     with open(configuration, "w") as file:
         file.write(gateway.configuration)
-    same(said_by("ask", "metrics", configuration, metrics), ("", 0), "ask metrics")
+    same(said_by("ask", "metrics", configuration, metrics), ("", expected), "ask metrics")
     with open(metrics) as file:
-        seen = set(file.read().splitlines())
-    wanted = {"gumtwice_up 1", 'gumtwice_terminal{poi="T1",state="OK"} 1', 'gumtwice_terminal{poi="T1",state="Unreachable"} 0'}
-    wanted |= {"gumtwice_journal_records %d" % (os.path.getsize(runs.journal) // 256), "gumtwice_journal_slots 1000000"}
-    same(wanted - seen, set(), "what ask metrics leaves out")
-    return by
+        return set(file.read().splitlines())
+
+
+def is_gone(gateway, by, folder):
+    """What ask says of a gateway that is gone, of a journal and of a configuration that are missing: its status, and a line on standard error."""
+    same(said_by("ask", *by, "diagnosis", "T1"), ("", 7), "ask diagnosis of a gateway that is gone")
+    same("gumtwice_up 0" in measured(gateway, folder, 7), True, "gumtwice_up of a gateway that is gone")
+    same(said_by("ask", "metrics", os.path.join(folder, "none.toml")), ("", 8), "ask metrics without a configuration")
 
 
 def second_is_refused(runs):
@@ -240,7 +273,7 @@ def play(program, folder):
         till = is_killed_after_the_booking(runs, till)
         is_killed_after_the_outcome(runs, till)
         second_is_refused(runs)
-        same(said_by("ask", *by, "diagnosis", "T1"), ("", 7), "ask diagnosis of a gateway that is gone")
+        is_gone(gateway, by, folder)
     finally:
         runs.kill()
 

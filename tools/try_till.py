@@ -1,8 +1,10 @@
 """The till library against the built gateway and a played terminal: till and gateway are ended at every step of a payment, before it and after it,
-and each time the till's reply agrees with the terminal's book, which has the sale at most once.
+and each time the till's reply agrees with the terminal's book, which has the sale at most once. A till that is started again only asks first, and the
+cashier repeats what wasn't accepted, or stops it.
 
 try_till.py PROGRAM: PROGRAM is a build of the program. It ends with status 1 at the first thing that differs.
-try_till.py till HOST PORT FOLDER SALE STEP: a till that pays one sale, and ends as by a kill at its STEP."""
+try_till.py till HOST PORT FOLDER SALE CHOICE STEP: a till that pays one sale, and ends as by a kill at its STEP. CHOICE is the cashier's, repeat or
+stop, where a payment wasn't accepted before the till was started again."""
 import os
 import shutil
 import signal
@@ -51,13 +53,15 @@ def ends_at(step):
     library.Till._take = counting(library.Till._take)
 
 
-def pay_one(host, port, folder, sale, step):
+def pay_one(host, port, folder, sale, choice, step):
     """A till with books of its own: it finishes what is open, and pays the sale if its books don't have it."""
     ends_at(int(step))
     books = os.path.join(folder, "books")
     till = library.Till((host, int(port)), "T1", os.path.join(folder, "till.json"), "S")
     while True:
         reply = till.resume()
+        if reply and reply.condition == "NotAccepted":
+            reply = till.stop() if choice == "stop" else till.repeat()
         if reply is None:
             with open(books, "a+") as file:
                 file.seek(0)
@@ -71,21 +75,23 @@ def pay_one(host, port, folder, sale, step):
         till.done()
 
 
-def till_is_killed(gateway, terminal, folder):
+def till_is_killed(gateway, terminal, folder, choice):
     """Returns how many steps a payment has."""
     step = 0
     while True:
         step += 1
-        charged, own = terminal.charged(), os.path.join(folder, "till%d" % step)
+        charged, own = terminal.charged(), os.path.join(folder, "till that %ss %d" % (choice, step))
         os.mkdir(own)
-        words = [sys.executable, "-B", os.path.abspath(__file__), "till", *map(str, gateway.listen), own, "sale %d" % step]
+        words = [sys.executable, "-B", os.path.abspath(__file__), "till", *map(str, gateway.listen), own, "sale %s %d" % (choice, step), choice]
         ended = subprocess.run([*words, str(step)]).returncode
         same(subprocess.run([*words, "0"]).returncode, 0, "a till that was killed at step %d and started again" % step)
         with open(os.path.join(own, "books")) as file:
             lines = set(file)
         same(len(lines), 1, "ends of one sale in the books of a till that was killed at step %d" % step)
-        same(lines.pop().split()[2], "Success", "the end of that sale")
-        same(terminal.charged(), charged + 1, "payments booked for that sale")
+        end = lines.pop().split()[3]
+        if choice == "repeat":
+            same(end, "Success", "the end of that sale")
+        same(terminal.charged(), charged + (end == "Success"), "payments booked for that sale, whose end is %s" % end)
         if ended == 0:
             return step - 1
 
@@ -198,7 +204,57 @@ def is_ready(till):
         return False
 
 
-# --- what a till does about a ServiceID that was used, and a request that arrives late
+# --- what a till does about what it finds open, a ServiceID that was used, and a request that arrives late
+
+
+def open_till(bench, path, sale):
+    """A till that is started again after it was killed between the writing of its file and the sending of its request."""
+    till = library.Till(bench.listen, "T1", path, "S")
+    transaction = {"SaleTransactionID": {"TransactionID": sale, "TimeStamp": "2025-03-07T10:11:04+00:00"}}
+    till.memory.begin("T1", "Payment", {"SaleData": transaction, "PaymentTransaction": {"AmountsReq": {"Currency": "EUR", "RequestedAmount": 2.5}}})
+    return till
+
+
+def only_asks(till, terminal):
+    """A till that is started again begins nothing by itself, and nothing else before the open request has its end."""
+    asked = terminal.asked()
+    same(repr(till.resume()), "Unknown NotAccepted", "what became of a request that wasn't accepted")
+    for what, act in (("pay", lambda: till.pay(100, "EUR", "another")), ("done", till.done)):
+        try:
+            raise Differs("%s with a request that has no end gave %r" % (what, act()))
+        except library.Unfinished:
+            pass
+    same(terminal.asked(), asked, "payments that the terminal was asked for by a till that only asks")
+
+
+def cashier_chooses(bench, folder):
+    terminal = bench.terminal
+    charged, till = terminal.charged(), open_till(bench, os.path.join(folder, "stopped.json"), "stopped")
+    only_asks(till, terminal)
+    terminal.stops.set()
+    reply = till.stop(30)
+    same((reply.result, reply.condition, reply.is_recorded()), ("Failure", "Aborted", True), "a request that the cashier stops")
+    same((repr(till.resume()), terminal.charged()), (repr(reply), charged), "its end, and the payments booked for it")
+    till.done()
+    till = open_till(bench, os.path.join(folder, "repeated.json"), "repeated")
+    only_asks(till, terminal)
+    same((till.repeat(30).result, terminal.charged()), ("Success", charged + 1), "a request that the cashier repeats, and the payments booked")
+    till.done()
+
+
+def resume_waits(bench, folder):
+    """A request that is in progress is asked for by statuses until it has its end."""
+    terminal, till = bench.terminal, library.Till(bench.listen, "T1", os.path.join(folder, "waits.json"), "S")
+    charged, asked = terminal.charged(), terminal.asked()
+    terminal.is_held.clear()
+    terminal.holds.set()
+    same(repr(till.pay(250, "EUR", "waits", 0.5)), "Unknown", "a payment that the terminal holds")
+    till.close()
+    waited = []
+    till.on_wait = lambda seconds: (waited.append(seconds), len(waited) == 3 and terminal.released.set())
+    same(till.resume(30).result, "Success", "what became of it")
+    same((len(waited) >= 3, terminal.charged(), terminal.asked()), (True, charged + 1, asked + 1), "the payments booked for it")
+    till.done()
 
 
 def count_is_lost(bench, folder):
@@ -251,12 +307,14 @@ def play(program, folder):
     bench = Bench(program, folder)
     try:
         steps = gateway_is_killed(bench, folder)
-        own = till_is_killed(bench.started[-1], bench.terminal, folder)
+        own = [till_is_killed(bench.started[-1], bench.terminal, folder, choice) for choice in ("repeat", "stop")]
+        cashier_chooses(bench, folder)
+        resume_waits(bench, folder)
         count_is_lost(bench, folder)
         arrives_late(bench, folder)
     finally:
         bench.kill()
-    return "the gateway ended at %d steps of a payment and the till at %d" % (steps, own)
+    return "the gateway ended at %d steps of a payment and the till at %d, and at %d before a stop" % (steps, *own)
 
 
 def main():
