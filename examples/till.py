@@ -66,7 +66,7 @@ class Connection:
             if tls:
                 self.socket = tls.wrap_socket(self.socket, server_hostname=address[0])
         except OSError as fault:
-            raise Lost(str(fault))
+            raise Lost(fault.strerror or str(fault))
 
     def send(self, message):
         text = json.dumps(message).encode()
@@ -74,7 +74,7 @@ class Connection:
             self.socket.settimeout(AT_ONCE)
             self.socket.sendall(struct.pack(">I", len(text)) + text)
         except OSError as fault:
-            raise Lost(str(fault))
+            raise Lost(fault.strerror or str(fault))
 
     def receive(self, seconds):
         """The next message, or None if none came in so many seconds."""
@@ -93,7 +93,7 @@ class Connection:
             except socket.timeout:
                 return None
             except OSError as fault:
-                raise Lost(str(fault))
+                raise Lost(fault.strerror or str(fault))
             if not more:
                 raise Lost("the gateway has closed the connection")
             self.got += more
