@@ -31,7 +31,7 @@ use Rattle.gw_owes.proofs.FrameLemmas.{till-bytes-give}
 use Rattle.gw_owes.proofs.HandlingLemmas.{linked-row}
 use Rattle.gw_owes.proofs.ReadLemmas.{reads-one}
 use Rattle.gw_rules.specs.Lawful.{AllowedTurn, Begins, IsCourse, IsNext, Stands, first_message, may_begin, turns_of}
-use Rattle.gw_rules.specs.MalformedLaws.{AllWait, AreAfterMessage, AreOfItem, ChangesNoBooks, Disconnected, EachApduChangesNoBooks, EachCrowdedLeavesOthers, EachFrameChangesNoBooks, EachMessageChangesNoBooks, EachTerminalItemLeavesOthers, EachTillItemLeavesOthers, EachTooLongChangesNoBooks, EachUnreadLeavesOthers, HasFramed, IsCutAlone, IsItemCourse, ItemLeavesOthers, LeavesBooks, LeavesOthers, LeavesQueues, LinkEnds, MessageChangesNoBooks, OwnLeave, Replied, TerminalChangesNoBooks, TerminalOutcome, TillOutcome, Unreplied, WasCut, WasGone}
+use Rattle.gw_rules.specs.MalformedLaws.{AllWait, AreAfterMessage, AreOfItem, ChangesNoBooks, Disconnected, EachApduChangesNoBooks, EachCrowdedLeavesOthers, EachFrameChangesNoBooks, EachMessageChangesNoBooks, EachOfGoneTillLeavesOthers, EachTerminalItemLeavesOthers, EachTillItemLeavesOthers, EachTooLongChangesNoBooks, HasFramed, IsCutAlone, IsItemCourse, ItemLeavesOthers, LeavesBooks, LeavesOthers, LeavesQueues, LinkEnds, MessageChangesNoBooks, OwnLeave, Replied, TerminalChangesNoBooks, TerminalOutcome, TillOutcome, Unreplied, WasCut, WasGone}
 use Rattle.gw_rules.specs.OutsideLaws.{ArePaid, ChangesNothing, CutsLink, IsAlone, calls_of_loss, idle_with, link_cut, till_gone}
 use Rattle.gw_rules.specs.QueueLaws.{IsReadOutside}
 use Rattle.gw_rules.specs.Scene.{Scene, known_in, link_lost_at, row_at, row_in}
@@ -572,8 +572,8 @@ each-till-item-leaves-others log v till (Late pt) items moves h of outside = abs
 each-till-item-leaves-others log v till (Overdue key) items moves h of outside = absurd of
 each-till-item-leaves-others log v till (Due pt) items moves h of outside = absurd of
 
-pub each-unread-leaves-others : EachUnreadLeavesOthers
-each-unread-leaves-others log v till bytes items moves h =
+pub each-of-gone-till-leaves-others : EachOfGoneTillLeavesOthers
+each-of-gone-till-leaves-others log v till bytes items moves h =
     let item : RoundItem = Message till bytes in
     let gone : is_connected v.scene.outside.tills till ≡ false = not-true (is_connected v.scene.outside.tills till) (sym (ap (may_begin v.scene) h.items_are) ∙ h.begins.first) in
     let b = has-begun log v item items moves [] (item-setup log v item items moves h) h refl in

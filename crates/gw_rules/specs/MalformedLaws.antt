@@ -118,8 +118,8 @@ EachTillItemLeavesOthers =
     (log : List Turn) (v : View) (till : ℕ) (item : RoundItem) (items : List RoundItem) (moves : List Move) → IsItemCourse log v item items moves → IsOfTillBytes till item → IsOfOutside item → ItemLeavesOthers v items moves (TillOutcome till item)
 
 -- nor does one of a message that isn't read, since its till is gone
-abbrev pub EachUnreadLeavesOthers : Type 0
-EachUnreadLeavesOthers =
+abbrev pub EachOfGoneTillLeavesOthers : Type 0
+EachOfGoneTillLeavesOthers =
     (log : List Turn) (v : View) (till : ℕ) (bytes : List ℕ) (items : List RoundItem) (moves : List Move) → IsItemCourse log v (Message till bytes) items moves → ItemLeavesOthers v items moves (TillOutcome till (Message till bytes))
 
 -- a till is cut, and nothing else changes

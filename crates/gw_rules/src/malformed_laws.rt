@@ -1,5 +1,5 @@
 //! Laws of lawful logs on malformed bytes: they change no books. Each function does nothing: its contract is the law.
-ghost use Rattle.gw_rules.specs.MalformedLaws.{EachApduChangesNoBooks, EachCrowdedLeavesOthers, EachFrameChangesNoBooks, EachMessageChangesNoBooks, EachTerminalItemLeavesOthers, EachTillItemLeavesOthers, EachTooLongChangesNoBooks, EachUnreadLeavesOthers};
+ghost use Rattle.gw_rules.specs.MalformedLaws.{EachApduChangesNoBooks, EachCrowdedLeavesOthers, EachFrameChangesNoBooks, EachMessageChangesNoBooks, EachOfGoneTillLeavesOthers, EachTerminalItemLeavesOthers, EachTillItemLeavesOthers, EachTooLongChangesNoBooks};
 
 /// In a lawful log no malformed bytes of a till change the books: a message that is no JSON or no message of a till, and bytes that begin no frame.
 /// At each place of the log, whatever comes next, their item owes the till its reply or its cut and nothing else, and where the till is gone
@@ -8,7 +8,7 @@ ghost use Rattle.gw_rules.specs.MalformedLaws.{EachApduChangesNoBooks, EachCrowd
 /// their item begins before that.
 pub fn law_malformed_till_bytes()
     ensures each_item { EachTillItemLeavesOthers }
-    ensures unread { EachUnreadLeavesOthers }
+    ensures gone { EachOfGoneTillLeavesOthers }
     ensures crowded { EachCrowdedLeavesOthers }
     ensures message { EachMessageChangesNoBooks }
     ensures frame { EachFrameChangesNoBooks }

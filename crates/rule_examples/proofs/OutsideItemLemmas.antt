@@ -22,11 +22,11 @@ use Rattle.gw_rules.specs.Scene.{Scene}
 use Rattle.gw_rules.specs.View.{View, Begin, Read, Make, after, view_from, at_first}
 use Rattle.gw_rules.proofs.CauseExampleLemmas.{outside-cause}
 use Rattle.gw_rules.proofs.CourseLemmas.{course-append}
-use Rattle.gw_rules.proofs.MalformedLemmas.{each-crowded-leaves-others, each-terminal-item-leaves-others, each-till-item-leaves-others, each-unread-leaves-others}
+use Rattle.gw_rules.proofs.MalformedLemmas.{each-crowded-leaves-others, each-of-gone-till-leaves-others, each-terminal-item-leaves-others, each-till-item-leaves-others}
 use Rattle.gw_rules.proofs.TextLemmas.{bytes-tested}
 use Rattle.rule_examples.specs.Example.{tills_open}
 use Rattle.rule_examples.specs.MalformedExample.{empty_message, headless, no_frame, too_long_rest}
-use Rattle.rule_examples.specs.OutsideItemExample.{ApduLeavesOthers, CrowdedIsCut, FrameLeavesOther, IsScene, MessageLeavesAll, TooLongLeavesOthers, UnreadLeavesAll, apdu_course, crowded_course, crowded_moves, frame_course, frame_moves, items_after_greeting, items_waiting, late_reject, message_course, message_moves, next_day_request, next_joining_course, terminal_moves, too_long_item_course, unread_course, waiting_course, waiting_log}
+use Rattle.rule_examples.specs.OutsideItemExample.{ApduLeavesOthers, CrowdedIsCut, FrameLeavesOther, GoneTillLeavesAll, IsScene, MessageLeavesAll, TooLongLeavesOthers, apdu_course, crowded_course, crowded_moves, frame_course, frame_moves, gone_till_course, items_after_greeting, items_waiting, late_reject, message_course, message_moves, next_day_request, next_joining_course, terminal_moves, too_long_item_course, waiting_course, waiting_log}
 use Rattle.rule_examples.specs.QueueExample.{joining_course, serving_course}
 use Rattle.rule_examples.proofs.ExampleLemmas.{full-course}
 use Rattle.rule_examples.proofs.MalformedExampleLemmas.{empty-chunk, empty-read, no-frame-chunk}
@@ -80,9 +80,9 @@ message-leaves-all = record {
 twice-chunk : IsChunk (frame empty_message ++ frame empty_message)
 twice-chunk = record { count = (omega arith, omega arith); bytes = bytes-tested (frame empty_message ++ frame empty_message) refl }
 
-unread-lawful : IsCourse waiting_view (Make (Polled (pos 3)) ∷ Make (HeardTill 2 (frame empty_message ++ frame empty_message)) ∷ Read headless ∷ Begin ∷ Make (SentTill 2 [] false) ∷ Make (CutTill 2) ∷ [])
+gone-till-lawful : IsCourse waiting_view (Make (Polled (pos 3)) ∷ Make (HeardTill 2 (frame empty_message ++ frame empty_message)) ∷ Read headless ∷ Begin ∷ Make (SentTill 2 [] false) ∷ Make (CutTill 2) ∷ [])
 unfolding decode_apdus decode_apdus_within decode_pt_message history payment_request day_request next_day_request
-unread-lawful = (
+gone-till-lawful = (
   record { running = refl; calls = refl; items = refl },
   (
     (record { polled = refl; connected_is = refl }, twice-chunk),
@@ -93,13 +93,13 @@ unread-lawful = (
   ),
 )
 
-unread-premise : IsItemCourse (waiting_log ++ Polled (pos 3) ∷ HeardTill 2 (frame empty_message ++ frame empty_message) ∷ SentTill 2 [] false ∷ CutTill 2 ∷ []) (view_from at_first unread_course) (Message 2 empty_message) items_waiting []
+gone-till-premise : IsItemCourse (waiting_log ++ Polled (pos 3) ∷ HeardTill 2 (frame empty_message ++ frame empty_message) ∷ SentTill 2 [] false ∷ CutTill 2 ∷ []) (view_from at_first gone_till_course) (Message 2 empty_message) items_waiting []
 unfolding decode_apdus decode_apdus_within decode_pt_message history payment_request day_request next_day_request
-unread-premise = record {
+gone-till-premise = record {
   along = record {
-    course = unread_course;
+    course = gone_till_course;
     log_is = refl;
-    lawful = course-append at_first waiting_course (Make (Polled (pos 3)) ∷ Make (HeardTill 2 (frame empty_message ++ frame empty_message)) ∷ Read headless ∷ Begin ∷ Make (SentTill 2 [] false) ∷ Make (CutTill 2) ∷ []) waiting-lawful unread-lawful;
+    lawful = course-append at_first waiting_course (Make (Polled (pos 3)) ∷ Make (HeardTill 2 (frame empty_message ++ frame empty_message)) ∷ Read headless ∷ Begin ∷ Make (SentTill 2 [] false) ∷ Make (CutTill 2) ∷ []) waiting-lawful gone-till-lawful;
     view_is = refl;
   };
   begins = record { idle = record { round = refl; calls = refl }; first = refl };
@@ -108,13 +108,13 @@ unread-premise = record {
   of_item = tt;
 }
 
-pub unread-leaves-all : UnreadLeavesAll
+pub gone-till-leaves-all : GoneTillLeavesAll
 unfolding decode_apdus decode_apdus_within decode_pt_message history payment_request day_request next_day_request
-unread-leaves-all = record {
-  premise = unread-premise;
+gone-till-leaves-all = record {
+  premise = gone-till-premise;
   waits = refl;
   leaves =
-      each-unread-leaves-others (waiting_log ++ Polled (pos 3) ∷ HeardTill 2 (frame empty_message ++ frame empty_message) ∷ SentTill 2 [] false ∷ CutTill 2 ∷ []) (view_from at_first unread_course) 2 empty_message items_waiting [] unread-premise;
+      each-of-gone-till-leaves-others (waiting_log ++ Polled (pos 3) ∷ HeardTill 2 (frame empty_message ++ frame empty_message) ∷ SentTill 2 [] false ∷ CutTill 2 ∷ []) (view_from at_first gone_till_course) 2 empty_message items_waiting [] gone-till-premise;
   kept = refl;
   still = refl;
 }

@@ -112,17 +112,17 @@ pub record MessageLeavesAll : Type 0 where
 -- ---- a message after the till is gone
 
 -- the message comes twice, and the reply to the first can't be sent, so that the till is cut
-abbrev pub unread_course : List Move
-unread_course =
+abbrev pub gone_till_course : List Move
+gone_till_course =
     waiting_course ++ Make (Polled (pos 3)) ∷ Make (HeardTill 2 (frame empty_message ++ frame empty_message)) ∷ Read headless ∷ Begin ∷ Make (SentTill 2 [] false) ∷ Make (CutTill 2) ∷ []
 
 -- with that cut its own request leaves; then the second begins unread, and nothing more changes
-pub record UnreadLeavesAll : Type 0 where
-  pub premise : IsItemCourse (waiting_log ++ Polled (pos 3) ∷ HeardTill 2 (frame empty_message ++ frame empty_message) ∷ SentTill 2 [] false ∷ CutTill 2 ∷ []) (view_from at_first unread_course) (Message 2 empty_message) items_waiting []
-  pub waits : services_in (view_from at_first unread_course) ≡ codes "2" ∷ []
-  pub leaves : ItemLeavesOthers (view_from at_first unread_course) items_waiting [] (TillOutcome 2 (Message 2 empty_message))
-  pub kept : (item_view unread_course []).scene.kept ≡ Intent logged_intent ∷ []
-  pub still : services_in (item_view unread_course []) ≡ codes "2" ∷ []
+pub record GoneTillLeavesAll : Type 0 where
+  pub premise : IsItemCourse (waiting_log ++ Polled (pos 3) ∷ HeardTill 2 (frame empty_message ++ frame empty_message) ∷ SentTill 2 [] false ∷ CutTill 2 ∷ []) (view_from at_first gone_till_course) (Message 2 empty_message) items_waiting []
+  pub waits : services_in (view_from at_first gone_till_course) ≡ codes "2" ∷ []
+  pub leaves : ItemLeavesOthers (view_from at_first gone_till_course) items_waiting [] (TillOutcome 2 (Message 2 empty_message))
+  pub kept : (item_view gone_till_course []).scene.kept ≡ Intent logged_intent ∷ []
+  pub still : services_in (item_view gone_till_course []) ≡ codes "2" ∷ []
 
 -- ---- bytes that begin no frame
 

@@ -14,7 +14,7 @@ ghost use Rattle.rule_examples.specs.DayLogExample.{DayIsLawful, DisplayIsLawful
 ghost use Rattle.rule_examples.specs.DoneExample.{ExampleDone};
 ghost use Rattle.rule_examples.specs.Example.{BadFrameIsLawful, CrashLeavesNoOther, CrashedIsLawful, CrowdedIsLawful, DiskFailureEnds, FailedSendIsLawful, GateEndsLooking, LooksMayFail, NoRunWhereNotOpened, NothingToLookAt, NothingToLookAtLater, PollBeforeCut, PollBeforeReply, PollEndsLooking, PollWhileCrowded, RefusedIsNotPolled, RestartedIsLawful, SilentIsLawful, UnaskedReply};
 ghost use Rattle.rule_examples.specs.MalformedExample.{ApduIsHarmless, FrameIsHarmless, MessageIsHarmless, TooLongIsHarmless};
-ghost use Rattle.rule_examples.specs.OutsideItemExample.{ApduLeavesOthers, CrowdedIsCut, FrameLeavesOther, MessageLeavesAll, TooLongLeavesOthers, UnreadLeavesAll};
+ghost use Rattle.rule_examples.specs.OutsideItemExample.{ApduLeavesOthers, CrowdedIsCut, FrameLeavesOther, GoneTillLeavesAll, MessageLeavesAll, TooLongLeavesOthers};
 ghost use Rattle.rule_examples.specs.PaymentLogExample.{BegunIsServedOpen, PaidHasNoneOpen, PaymentIsLawful, PaymentIsSilent};
 ghost use Rattle.rule_examples.specs.QueueExample.{ExampleQueues};
 ghost use Rattle.rule_examples.specs.RecoveryLogExample.{OpenIsReported};
@@ -61,7 +61,7 @@ pub fn law_malformed_examples()
 /// while 64 others are there is cut alone.
 pub fn law_outside_item_examples()
     ensures message { MessageLeavesAll }
-    ensures unread { UnreadLeavesAll }
+    ensures gone { GoneTillLeavesAll }
     ensures frame { FrameLeavesOther }
     ensures outside { ApduLeavesOthers }
     ensures too_long { TooLongLeavesOthers }

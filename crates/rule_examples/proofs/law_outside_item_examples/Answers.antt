@@ -1,5 +1,5 @@
 -- Proof of the contract of `law_outside_item_examples`.
-use Rattle.rule_examples.proofs.OutsideItemLemmas.{apdu-leaves-others, crowded-is-cut, frame-leaves-other, message-leaves-all, too-long-leaves-others, unread-leaves-all}
+use Rattle.rule_examples.proofs.OutsideItemLemmas.{apdu-leaves-others, crowded-is-cut, frame-leaves-other, gone-till-leaves-all, message-leaves-all, too-long-leaves-others}
 use Rattle.rule_examples.proofs.law_outside_item_examples.Goals as goal
 
 pub returns-clause-message : goal.returns-clause-message
@@ -17,5 +17,5 @@ returns-clause-too_long c = too-long-leaves-others
 pub returns-clause-crowded : goal.returns-clause-crowded
 returns-clause-crowded c = crowded-is-cut
 
-pub returns-clause-unread : goal.returns-clause-unread
-returns-clause-unread c = unread-leaves-all
+pub returns-clause-gone : goal.returns-clause-gone
+returns-clause-gone c = gone-till-leaves-all

@@ -1,12 +1,12 @@
 -- Proof of the contract of `law_malformed_till_bytes`.
-use Rattle.gw_rules.proofs.MalformedLemmas.{each-crowded-leaves-others, each-frame-changes-no-books, each-message-changes-no-books, each-till-item-leaves-others, each-unread-leaves-others}
+use Rattle.gw_rules.proofs.MalformedLemmas.{each-crowded-leaves-others, each-frame-changes-no-books, each-message-changes-no-books, each-of-gone-till-leaves-others, each-till-item-leaves-others}
 use Rattle.gw_rules.proofs.malformed_laws.law_malformed_till_bytes.Goals as goal
 
 pub returns-clause-each_item : goal.returns-clause-each_item
 returns-clause-each_item c = each-till-item-leaves-others
 
-pub returns-clause-unread : goal.returns-clause-unread
-returns-clause-unread c = each-unread-leaves-others
+pub returns-clause-gone : goal.returns-clause-gone
+returns-clause-gone c = each-of-gone-till-leaves-others
 
 pub returns-clause-crowded : goal.returns-clause-crowded
 returns-clause-crowded c = each-crowded-leaves-others
