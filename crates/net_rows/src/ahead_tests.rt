@@ -12,9 +12,21 @@ fn listener_at(rt: &HostRuntime, port: u16) -> Result<TcpListener, Fail> {
     Ok(listener)
 }
 
-/// A connection that is there though no link was asked for. Nothing was sent on it.
-fn begun_ahead(listener: &TcpListener) -> Result<TcpStream, &'static str> {
-    let mut terminal = accepted(listener)?;
+/// The next connection that a listener has, while the site only polls.
+fn accepted_in_polls(rig: &mut Rig<'_>, listener: &TcpListener) -> Result<TcpStream, &'static str> {
+    let mut buf = [0; 4096];
+    for _ in 0..200 {
+        let _ = rig.poll(&mut buf);
+        if let Ok(terminal) = accepted(listener) {
+            return Ok(terminal);
+        }
+    }
+    Err("a connection is begun")
+}
+
+/// A connection that is made though no link was asked for. Nothing was sent on it.
+fn begun_ahead(rig: &mut Rig<'_>, listener: &TcpListener) -> Result<TcpStream, &'static str> {
+    let mut terminal = accepted_in_polls(rig, listener)?;
     check!(got_nothing(&mut terminal), "nothing is sent on it");
     check!(accepted(listener).is_err(), "there is one alone");
     Ok(terminal)
@@ -31,11 +43,9 @@ fn is_taken_up(rig: &mut Rig<'_>, pt: u16, terminal: &mut TcpStream) -> Steps {
 
 /// The first poll begins the connections to both terminals.
 fn both_are_begun(rig: &mut Rig<'_>, first: &TcpListener, second: &TcpListener) -> Steps {
-    let mut buf = [0; 4096];
     check!(accepted(first).is_err(), "an opening connects to none");
-    check!(rig.poll(&mut buf) == What::Nothing, "nothing comes");
-    let mut one = begun_ahead(first)?;
-    let mut other = begun_ahead(second)?;
+    let mut one = begun_ahead(rig, first)?;
+    let mut other = begun_ahead(rig, second)?;
     is_taken_up(rig, 1, &mut other)?;
     is_taken_up(rig, 0, &mut one)
 }
@@ -59,40 +69,25 @@ fn connections_are_begun_together(rt: HostRuntime) -> Result<(), Fail> {
     begun_together(&mut rig, &first, &second)
 }
 
-/// The peer sends a byte and closes before the link is asked for. Then another connection is made at once, and that byte isn't heard.
+/// The peer sends bytes and closes before the link is asked for. Then another connection is made at once, and those bytes aren't heard.
 fn closed_by_the_peer(rig: &mut Rig<'_>, listener: &TcpListener) -> Steps {
     let mut buf = [0; 4096];
-    check!(rig.poll(&mut buf) == What::Nothing, "nothing comes");
-    let mut early = begun_ahead(listener)?;
+    let mut early = begun_ahead(rig, listener)?;
     check!(sends(&mut early, b"xyz"), "bytes are sent");
     drop(early);
+    check!(rig.poll(&mut buf) == What::Nothing, "nothing is heard");
     check!(rig.links(0), "it is linked");
-    let mut terminal = accepted(listener)?;
+    let mut terminal = accepted_in_polls(rig, listener)?;
     check!(sends(&mut terminal, b"x"), "a byte is sent");
     check!(rig.brings(What::PtBytes(0, 1)), "by the new one");
     drop(terminal);
     check(rig.brings(What::PtClosed(0)), "the link is lost")
 }
 
-/// After the loss of a link another connection is begun while the site only polls.
-fn begun_after_the_loss(
-    rig: &mut Rig<'_>,
-    listener: &TcpListener,
-) -> Result<TcpStream, &'static str> {
-    let mut buf = [0; 4096];
-    check!(accepted(listener).is_err(), "it isn't begun at once");
-    for _ in 0..200 {
-        let _ = rig.poll(&mut buf);
-        if let Ok(terminal) = accepted(listener) {
-            return Ok(terminal);
-        }
-    }
-    Err("a connection is begun")
-}
-
 fn closed_and_lost(rig: &mut Rig<'_>, listener: &TcpListener) -> Result<(), Fail> {
     closed_by_the_peer(rig, listener)?;
-    let mut terminal = begun_after_the_loss(rig, listener)?;
+    check!(accepted(listener).is_err(), "none is begun at once");
+    let mut terminal = begun_ahead(rig, listener)?;
     is_taken_up(rig, 0, &mut terminal)?;
     rig.remove_file()
 }
