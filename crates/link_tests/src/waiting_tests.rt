@@ -6,6 +6,7 @@ use gw_base::{Ident, Key};
 use gw_links::{Item, LineId, Lines, Steps};
 use sale_values::{Class, Header, Kind, SaleRequest};
 use std::marker::Brand;
+use std::process::Abort;
 use std::sync::ledger::{Blank, Ledger};
 use std::test::Fail;
 
@@ -34,40 +35,106 @@ fn item(service: &[u8], seat: u16, terminal: u16, deadline: i64) -> Option<Item>
     })
 }
 
+// Of each function below that calls the lines nothing is said, so that those that call it have no facts to carry along.
+
+/// Adds a request. One that is refused comes back.
+fn add(lines: &mut Lines, waiting: Item) -> Result<LineId, Item> {
+    if waiting.seat >= 64 || waiting.terminal >= 32 {
+        return Err(waiting);
+    }
+    match lines.insert(waiting) {
+        Ok(id) => Ok(id),
+        Err((refused, _)) => Err(refused),
+    }
+}
+
+fn count(lines: &Lines, terminal: u16) -> usize {
+    lines.count(terminal)
+}
+
+fn due(lines: &Lines, now: i64) -> Option<LineId> {
+    lines.due(now)
+}
+
+fn front(lines: &Lines, terminal: u16) -> Option<LineId> {
+    lines.front(terminal)
+}
+
+fn first_of(lines: &Lines, seat: u16) -> Option<LineId> {
+    lines.first_of(seat)
+}
+
+fn find(lines: &Lines, key: &Key) -> Option<LineId> {
+    lines.find(key)
+}
+
+/// The key and the deadline of the first request that is due.
+fn seen_due(lines: &Lines, now: i64) -> Option<(Key, i64)> {
+    let item = lines.get(lines.due(now)?);
+    Some((item.key, item.deadline))
+}
+
+/// The key of the first request at a terminal.
+fn seen_front(lines: &Lines, terminal: u16) -> Option<Key> {
+    Some(lines.get(lines.front(terminal)?).key)
+}
+
+/// Takes out the first request that is due: its key and its deadline.
+fn take_due(lines: &mut Lines, now: i64) -> Option<(Key, i64)> {
+    let id = lines.due(now)?;
+    let taken = lines.take(id);
+    Some((taken.key, taken.deadline))
+}
+
+/// Whether a request has this ServiceID.
+fn is_service(key: &Key, service: &[u8]) -> bool {
+    key.service.as_bytes() == service
+}
+
+/// Whether a request with this key and deadline is the only one: that of terminal 2, and of seat 3.
+fn is_alone(lines: &Lines, key: &Key, deadline: i64) -> bool {
+    let id = due(lines, deadline);
+    id.is_some()
+        && front(lines, 2) == id
+        && first_of(lines, 3) == id
+        && find(lines, key) == id
+        && seen_due(lines, deadline) == Some((*key, deadline))
+}
+
 #[test]
 fn one_request(rt: HostRuntime) -> Result<(), Fail> {
     let mut lines = Lines::new(rt.alloc());
     let waiting = item(b"1", 3, 2, 60).expect(&rt, "a request");
-    assert!(rt; waiting.seat < 64 && waiting.terminal < 32);
     let key = waiting.key;
-    assert!(rt; lines.insert(waiting).is_ok());
-    assert_eq!(rt; lines.count(2), 1);
-    assert_eq!(rt; lines.count(0), 0);
-    assert_eq!(rt; lines.due(59), None);
-    let id = lines.due(60).expect(&rt, "a request is due");
-    assert_eq!(rt; lines.front(2), Some(id));
-    assert_eq!(rt; lines.first_of(3), Some(id));
-    assert_eq!(rt; lines.find(&key), Some(id));
-    assert_eq!(rt; lines.get(id).deadline, 60);
-    assert_eq!(rt; lines.take(id).deadline, 60);
-    assert_eq!(rt; lines.front(2), None);
+    assert!(rt; add(&mut lines, waiting).is_ok());
+    assert_eq!(rt; count(&lines, 2), 1);
+    assert_eq!(rt; count(&lines, 0), 0);
+    assert_eq!(rt; due(&lines, 59), None);
+    assert!(rt; is_alone(&lines, &key, 60));
+    assert!(rt; take_due(&mut lines, 60) == Some((key, 60)));
+    assert_eq!(rt; front(&lines, 2), None);
     Ok(())
+}
+
+/// Adds four requests of a terminal.
+fn add_four(lines: &mut Lines) -> Option<bool> {
+    for (service, deadline) in [(b"1", 70), (b"2", 60), (b"3", 70), (b"4", 60)] {
+        if add(lines, item(service, 0, 0, deadline)?).is_err() {
+            return Some(false);
+        }
+    }
+    Some(true)
 }
 
 #[test]
 fn by_deadline_and_acceptance(rt: HostRuntime) -> Result<(), Fail> {
     let mut lines = Lines::new(rt.alloc());
-    for (service, deadline) in [(b"1", 70), (b"2", 60), (b"3", 70), (b"4", 60)] {
-        let waiting = item(service, 0, 0, deadline).expect(&rt, "a request");
-        assert!(rt; waiting.seat < 64 && waiting.terminal < 32);
-        assert!(rt; lines.insert(waiting).is_ok());
-    }
+    assert!(rt; add_four(&mut lines) == Some(true));
     for service in [b"2", b"4", b"1", b"3"] {
-        let id = lines.due(70).expect(&rt, "a request is due");
-        let taken = lines.take(id);
-        assert!(rt; taken.key.service.as_bytes() == service.as_slice());
+        let (key, _) = take_due(&mut lines, 70).expect(&rt, "a request is due");
+        assert!(rt; is_service(&key, service));
     }
-    assert_eq!(rt; lines.count(0), 0);
+    assert_eq!(rt; count(&lines, 0), 0);
     Ok(())
 }
 
@@ -98,52 +165,71 @@ fn take_in_seven(lines: &mut Lines, id: LineId) -> Item
     take_counting::<Brand>(lines, id, Blank::new(1))
 }
 
+/// Takes out the request with this key: its own key.
+fn take_found(lines: &mut Lines, key: &Key) -> Option<Key> {
+    let id = lines.find(key)?;
+    Some(take_in_seven(lines, id).key)
+}
+
+/// Adds three requests of a till at a terminal.
+fn add_three(lines: &mut Lines) -> Option<bool> {
+    for (service, deadline) in [(b"1", 70), (b"2", 80), (b"3", 60)] {
+        if add(lines, item(service, 63, 31, deadline)?).is_err() {
+            return Some(false);
+        }
+    }
+    Some(true)
+}
+
+/// Which one of three is taken, and then the first of the terminal and of the till, and the first by deadline.
+fn check_taken(rt: &impl Abort, lines: &mut Lines, row: (&[u8], &[u8], &[u8])) {
+    let (service, first, soonest) = row;
+    let key = item(service, 63, 31, 0).expect(rt, "a request").key;
+    assert!(rt; take_found(lines, &key) == Some(key));
+    assert!(rt; find(lines, &key).is_none());
+    assert_eq!(rt; count(lines, 31), 2);
+    let oldest = seen_front(lines, 31).expect(rt, "two wait");
+    assert!(rt; is_service(&oldest, first));
+    assert!(rt; first_of(lines, 63).is_some() && first_of(lines, 63) == front(lines, 31));
+    let (sooner, _) = seen_due(lines, 80).expect(rt, "two are due");
+    assert!(rt; is_service(&sooner, soonest));
+}
+
 #[test]
 fn one_of_three_is_taken(rt: HostRuntime) -> Result<(), Fail> {
-    // Which one is taken, and then the first of the terminal and of the till, and the first by deadline: it is the first
-    // of the two lists by acceptance, in their middle and last by deadline, or last and first by deadline.
+    // It is the first of the two lists by acceptance, in their middle and last by deadline, or last and first by deadline.
     let rows = [(b"1", b"2", b"3"), (b"2", b"1", b"3"), (b"3", b"1", b"1")];
-    for (service, first, due) in rows {
+    for (service, first, soonest) in rows {
         let mut lines = Lines::new(rt.alloc());
-        for (service, deadline) in [(b"1", 70), (b"2", 80), (b"3", 60)] {
-            let waiting = item(service, 63, 31, deadline).expect(&rt, "a request");
-            assert!(rt; waiting.seat < 64 && waiting.terminal < 32);
-            assert!(rt; lines.insert(waiting).is_ok());
-        }
-        let key = item(service, 63, 31, 0).expect(&rt, "a request").key;
-        let id = lines.find(&key).expect(&rt, "it waits");
-        let taken = take_in_seven(&mut lines, id);
-        assert!(rt; taken.key == key);
-        assert!(rt; lines.find(&key).is_none());
-        assert_eq!(rt; lines.count(31), 2);
-        let oldest = lines.front(31).expect(&rt, "two wait");
-        assert!(rt; lines.get(oldest).key.service.as_bytes() == first.as_slice());
-        assert_eq!(rt; lines.first_of(63), Some(oldest));
-        let soonest = lines.due(80).expect(&rt, "two are due");
-        assert!(rt; lines.get(soonest).key.service.as_bytes() == due.as_slice());
+        assert!(rt; add_three(&mut lines) == Some(true));
+        check_taken(&rt, &mut lines, (service, first, soonest));
     }
     Ok(())
 }
 
+/// Adds a request. With ample memory it is accepted; where an allocation fails, the others stay and the request comes back.
+fn check_added(rt: &impl Abort, lines: &mut Lines, waiting: Item) {
+    let (key, before) = (waiting.key, count(lines, 0));
+    match add(lines, waiting) {
+        Ok(id) => {
+            assert!(rt; count(lines, 0) > before);
+            assert_eq!(rt; find(lines, &key), Some(id));
+        }
+        Err(refused) => {
+            assert!(rt; refused.key == key);
+            assert_eq!(rt; count(lines, 0), before);
+            assert!(rt; find(lines, &key).is_none());
+        }
+    }
+}
+
 #[test]
 fn a_refused_request_comes_back(rt: HostRuntime) -> Result<(), Fail> {
-    // With ample memory each is accepted; where an allocation fails, the others stay and the request comes back.
     let mut lines = Lines::new(rt.alloc());
     for service in [b"1", b"2", b"3", b"4", b"5"] {
         let waiting = item(service, 0, 0, 60).expect(&rt, "a request");
         assert!(rt; waiting.seat < 64 && waiting.terminal < 32);
-        let (key, count) = (waiting.key, lines.count(0));
-        match lines.insert(waiting) {
-            Ok(id) => {
-                assert!(rt; lines.count(0) > count);
-                assert_eq!(rt; lines.find(&key), Some(id));
-            }
-            Err((refused, _)) => {
-                assert!(rt; refused.key == key);
-                assert_eq!(rt; lines.count(0), count);
-                assert!(rt; lines.find(&key).is_none());
-            }
-        }
+        check_added(&rt, &mut lines, waiting);
     }
     Ok(())
 }
