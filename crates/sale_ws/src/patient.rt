@@ -1,5 +1,5 @@
 //! A TCP stream whose writes wait for their peer, for a bounded time.
-ghost use Rattle.std.specs.Prelude.{◌≤◌, IfOk, length};
+ghost use Rattle.std.specs.Prelude.{◌≡◌, ◌≤◌, ◌+◌, IfOk, false, if◌then◌else◌, length, nat_lt};
 
 use libc::net::{POLLOUT, poll};
 use libc::types::pollfd;
@@ -28,7 +28,9 @@ pub struct Patient {
 
 impl Patient {
     /// This stream.
-    pub fn new(stream: TcpStream) -> Patient {
+    pub fn new(stream: TcpStream) -> Patient
+        ensures { result ≡ record { stream = stream; waits = 0; has_heard = false } }
+    {
         Patient {
             stream,
             waits: 0,
@@ -37,12 +39,17 @@ impl Patient {
     }
 
     /// The stream.
-    pub fn stream(&self) -> &TcpStream {
+    pub fn stream(&self) -> &TcpStream
+        ensures { result.now ≡ self.now.stream }
+    {
         &self.stream
     }
 
     /// Waits until the peer may take bytes. False if it has waited too often.
-    fn wait(&mut self) -> bool {
+    fn wait(&mut self) -> bool
+        ensures waited { result ≡ nat_lt self.old.waits 20 }
+        ensures counted { self.new.waits ≡ (if result then self.old.waits + 1 else self.old.waits) }
+    {
         if self.waits >= MOST_WAITS {
             return false;
         }
