@@ -47,7 +47,7 @@ impl Patient {
 
     /// Waits until the peer may take bytes. False if it has waited too often.
     fn wait(&mut self) -> bool
-        ensures waited { result ≡ nat_lt self.old.waits 20 }
+        ensures allowed { result ≡ nat_lt self.old.waits 20 }
         ensures counted { self.new.waits ≡ (if result then self.old.waits + 1 else self.old.waits) }
     {
         if self.waits >= MOST_WAITS {
@@ -70,6 +70,27 @@ impl Patient {
         let mut writer = &self.stream;
         writer.write(bytes)
     }
+
+    /// One write, which waits for the peer if need be, as often as there are waits left.
+    fn write_waiting(&mut self, bytes: &[u8]) -> io::Result<usize>
+        ensures bound { IfOk result (λ count. count ≤ length bytes.now) }
+        ensures waits { self.old.waits ≤ self.new.waits }
+    {
+        for _ in 0..=MOST_WAITS {
+            match self.write_now(bytes) {
+                Ok(count) => return Ok(count),
+                Err(error) => {
+                    if error.kind() != ErrorKind::WouldBlock {
+                        return Err(error);
+                    }
+                }
+            }
+            if !self.wait() {
+                return Err(io::Error::from(ErrorKind::TimedOut));
+            }
+        }
+        Err(io::Error::from(ErrorKind::TimedOut))
+    }
 }
 
 impl Read for Patient {
@@ -88,20 +109,7 @@ impl Read for Patient {
 
 impl Write for Patient {
     fn write(&mut self, buf: &[u8]) -> io::Result<usize> {
-        for _ in 0..=MOST_WAITS {
-            match self.write_now(buf) {
-                Ok(count) => return Ok(count),
-                Err(error) => {
-                    if error.kind() != ErrorKind::WouldBlock {
-                        return Err(error);
-                    }
-                }
-            }
-            if !self.wait() {
-                return Err(io::Error::from(ErrorKind::TimedOut));
-            }
-        }
-        Err(io::Error::from(ErrorKind::TimedOut))
+        self.write_waiting(buf)
     }
 
     fn flush(&mut self) -> io::Result<()> {
