@@ -56,7 +56,7 @@ fn due(lines: &Lines, now: i64) -> Option<LineId> {
     lines.due(now)
 }
 
-fn front(lines: &Lines, terminal: u16) -> Option<LineId> {
+fn first_at(lines: &Lines, terminal: u16) -> Option<LineId> {
     lines.front(terminal)
 }
 
@@ -75,7 +75,7 @@ fn seen_due(lines: &Lines, now: i64) -> Option<(Key, i64)> {
 }
 
 /// The key of the first request at a terminal.
-fn seen_front(lines: &Lines, terminal: u16) -> Option<Key> {
+fn seen_first(lines: &Lines, terminal: u16) -> Option<Key> {
     Some(lines.get(lines.front(terminal)?).key)
 }
 
@@ -95,7 +95,7 @@ fn is_service(key: &Key, service: &[u8]) -> bool {
 fn is_alone(lines: &Lines, key: &Key, deadline: i64) -> bool {
     let id = due(lines, deadline);
     id.is_some()
-        && front(lines, 2) == id
+        && first_at(lines, 2) == id
         && first_of(lines, 3) == id
         && find(lines, key) == id
         && seen_due(lines, deadline) == Some((*key, deadline))
@@ -112,7 +112,7 @@ fn one_request(rt: HostRuntime) -> Result<(), Fail> {
     assert_eq!(rt; due(&lines, 59), None);
     assert!(rt; is_alone(&lines, &key, 60));
     assert!(rt; take_due(&mut lines, 60) == Some((key, 60)));
-    assert_eq!(rt; front(&lines, 2), None);
+    assert_eq!(rt; first_at(&lines, 2), None);
     Ok(())
 }
 
@@ -188,9 +188,9 @@ fn check_taken(rt: &impl Abort, lines: &mut Lines, row: (&[u8], &[u8], &[u8])) {
     assert!(rt; take_found(lines, &key) == Some(key));
     assert!(rt; find(lines, &key).is_none());
     assert_eq!(rt; count(lines, 31), 2);
-    let oldest = seen_front(lines, 31).expect(rt, "two wait");
+    let oldest = seen_first(lines, 31).expect(rt, "two wait");
     assert!(rt; is_service(&oldest, first));
-    assert!(rt; first_of(lines, 63).is_some() && first_of(lines, 63) == front(lines, 31));
+    assert!(rt; first_of(lines, 63).is_some() && first_of(lines, 63) == first_at(lines, 31));
     let (sooner, _) = seen_due(lines, 80).expect(rt, "two are due");
     assert!(rt; is_service(&sooner, soonest));
 }
