@@ -32,13 +32,14 @@ fn begun_ahead(rig: &mut Rig<'_>, listener: &TcpListener) -> Result<TcpStream, &
     Ok(terminal)
 }
 
-/// A link is that of this connection, whose byte is heard only then.
+/// A link is that of this connection. What was sent on it before isn't heard.
 fn is_taken_up(rig: &mut Rig<'_>, pt: u16, terminal: &mut TcpStream) -> Steps {
     let mut buf = [0; 4096];
-    check!(sends(terminal, b"x"), "a byte is sent");
-    check!(rig.poll(&mut buf) == What::Nothing, "it isn't linked yet");
+    check!(sends(terminal, b"xyz"), "bytes are sent");
+    check!(rig.poll(&mut buf) == What::Nothing, "nothing is heard");
     check!(rig.links(pt), "it is linked");
-    check(rig.brings(What::PtBytes(pt, 1)), "by that connection")
+    check!(sends(terminal, b"x"), "a byte is sent");
+    check(rig.brings(What::PtBytes(pt, 1)), "it is heard alone")
 }
 
 /// The first poll begins the connections to both terminals.
@@ -59,7 +60,7 @@ fn begun_together(
     rig.remove_file()
 }
 
-/// The first poll begins the connections to all terminals. Nothing is sent and heard on one until the link is asked for.
+/// The first poll begins the connections to all terminals. Nothing is sent on one until the link is asked for, and what came before isn't heard.
 #[test]
 fn connections_are_begun_together(rt: HostRuntime) -> Result<(), Fail> {
     let far = [address(&rt, 47026), address(&rt, 47027)];

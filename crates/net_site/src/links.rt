@@ -104,11 +104,14 @@ fn progress_of(stream: &mio::net::TcpStream, millis: i32) -> io::Result<Progress
     Ok(Progress::Made)
 }
 
-/// Takes up a connection that is made.
+/// Takes up a connection that is made. What its peer has sent before is dropped: it answers no command of this link.
 fn take_up(stream: mio::net::TcpStream) -> io::Result<Link> {
     let stream = TcpStream::from(stream);
     connection::set_up(&stream)?;
-    Ok(Link::Up(stream))
+    if connection::skip(&stream) {
+        return Ok(Link::Up(stream));
+    }
+    Err(io::Error::from(ErrorKind::ConnectionReset))
 }
 
 /// Whether a connection that was begun so many seconds ago is to be begun anew.
@@ -184,10 +187,14 @@ fn go_on<R: Net>(
     let Link::Making(stream, begun) = old else {
         return begin(rt, address, now, millis);
     };
-    let wait = if begun == now { millis } else { 0 };
+    let (wait, rest) = if begun == now {
+        (millis, 0)
+    } else {
+        (0, millis)
+    };
     match taken(stream, begun, wait) {
         Ok(link) => Ok(link),
-        Err(_) => begin(rt, address, now, millis),
+        Err(_) => begin(rt, address, now, rest),
     }
 }
 
