@@ -412,34 +412,32 @@ fn terminals_that_are_switched_off(rt: HostRuntime) -> Result<(), Fail> {
     links_to(&rt, &far)
 }
 
-/// Accepts a connection, if one waits, and sends a byte to it.
-fn greet(listener: &TcpListener, greeted: &mut Vec<TcpStream>) -> Result<(), Fail> {
-    let Ok(mut peer) = accepted(listener) else {
-        return Ok(());
-    };
-    check!(sends(&mut peer, b"x"), "a byte is sent");
-    greeted.push(peer)?;
+/// Accepts a connection, if one waits.
+fn accept_next(listener: &TcpListener, peers: &mut Vec<TcpStream>) -> Result<(), Fail> {
+    if let Ok(peer) = accepted(listener) {
+        peers.push(peer)?;
+    }
     Ok(())
 }
 
 /// Accepts so many connections while the site only polls.
-fn greet_while_polling(
+fn accepted_while_polling(
     rt: &HostRuntime,
     rig: &mut Rig<'_>,
     listener: &TcpListener,
     count: usize,
 ) -> Result<Vec<TcpStream>, Fail> {
     let mut buf = [0; LONGEST_CHUNK];
-    let mut greeted = Vec::new(rt.alloc());
+    let mut peers = Vec::new(rt.alloc());
     for _ in 0..200 {
-        if greeted.len() == count {
+        if peers.len() == count {
             break;
         }
-        greet(listener, &mut greeted)?;
+        accept_next(listener, &mut peers)?;
         let _ = rig.poll(&mut buf);
     }
-    check!(greeted.len() == count, "so many connections are made");
-    Ok(greeted)
+    check!(peers.len() == count, "so many connections are made");
+    Ok(peers)
 }
 
 /// The link is not made in time, then all that wait are accepted, of which so many filled the queue.
@@ -451,9 +449,15 @@ fn a_link_is_taken_up(
 ) -> Result<(), Fail> {
     check!(!rig.links(0), "nobody accepts");
     listener.set_nonblocking(true)?;
-    let _greeted = greet_while_polling(rt, rig, listener, before.saturating_add(1))?;
+    let mut peers = accepted_while_polling(rt, rig, listener, before.saturating_add(1))?;
     check!(rig.links(0), "it is taken up");
-    check!(rig.brings(What::PtBytes(0, 1)), "it is the one accepted");
+    for peer in peers.iter_mut() {
+        check!(sends(peer, b"x"), "a byte is sent");
+    }
+    check!(
+        rig.brings(What::PtBytes(0, 1)),
+        "it is one of those accepted"
+    );
     Ok(())
 }
 
@@ -466,7 +470,7 @@ fn a_link_is_begun_anew(
 ) -> Result<(), Fail> {
     rig.cut_pt(0);
     check!(!rig.links(0), "nobody accepts");
-    drop(greet_while_polling(rt, rig, listener, before.saturating_add(1))?);
+    drop(accepted_while_polling(rt, rig, listener, before.saturating_add(1))?);
     check!(rig.links(0), "another one is begun at once");
     let mut terminal = accepted(listener)?;
     check!(sends(&mut terminal, b"x"), "a byte is sent");
