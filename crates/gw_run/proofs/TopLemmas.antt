@@ -37,10 +37,21 @@ none-or-some order e = absurd (let h : ◌≡◌ {A = Option Order} None (Some o
 asked : (words : List (List ℕ)) (order other : Order) → Some order ≡ order_of words → order_of words ≡ Some other → order ≡ other
 asked words order other is e = same-order order other (is ∙ e)
 
+-- words ask for one mode
+pub one-mode : {A : Type 0} (words : List (List ℕ)) (order other : Order) → Some order ≡ order_of words → order_of words ≡ Some other → (order.mode ≡ other.mode → ⊥) → A
+one-mode words order other is e differ = absurd (differ (ap (λ (o : Order). o.mode) (asked words order other is e)))
+
+serve-or-drill : (from payments : ℕ) → Serve ≡ Drill from payments → ⊥
+serve-or-drill from payments e = cc
+
+replay-or-drill : (from payments : ℕ) → Replay ≡ Drill from payments → ⊥
+replay-or-drill from payments e = cc
+
 -- words that ask to serve ask for nothing else
 pub serve-alone : {A : Type 0} (words : List (List ℕ)) (order : Order) → Some order ≡ order_of words → order.mode ≡ Serve → AskNotToServe words → A
 serve-alone words order is serve (inl (turns, e)) = modes-differ (sym serve ∙ ap (λ (o : Order). o.mode) (asked words order _ is e))
-serve-alone words order is serve (inr none) = none-or-some order (sym none ∙ sym is)
+serve-alone words order is serve (inr (inl none)) = none-or-some order (sym none ∙ sym is)
+serve-alone words order is serve (inr (inr (from, payments, (turns, e)))) = one-mode words order _ is e (λ same. serve-or-drill from payments (sym serve ∙ same))
 
 pub serve-no-replay : {A : Type 0} (words : List (List ℕ)) (order : Order) → Some order ≡ order_of words → order.mode ≡ Serve → AskForReplay words → A
 serve-no-replay words order is serve replay = serve-alone words order is serve (inl replay)

@@ -1,0 +1,4 @@
+-- The lemmas of what a drill counts, and of its books.
+pub mod CountLemmas
+pub mod ExchangeLemmas
+pub mod HonestLemmas

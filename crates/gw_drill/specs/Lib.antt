@@ -1,0 +1,3 @@
+-- The definitions of what a drill counts, and of its books.
+pub mod Counts
+pub mod DrillBooks

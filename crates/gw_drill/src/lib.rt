@@ -1,0 +1,17 @@
+//! What a drill counts, and the books of its terminals: what its log says of them, and that they are honest for it.
+#![tactic(auto)]
+
+mod counts;
+
+ghost use Rattle.gw_drill.specs.DrillBooks.{DrillIsHonest};
+
+pub use counts::Counts;
+
+/// Along each lawful log whose runs start with the drill's setup, and in which each hearing of a terminal is of what it had sent, the
+/// books of the drill's terminals, with the places at which they book, are honest. So the headline holds of each drill: what was done,
+/// and what tills were sent, agrees with these books. They are the books that the commands sent to the terminals give, by their numbers.
+pub fn law_drill_books()
+    ensures honest { DrillIsHonest }
+{
+    gw_played::law_played();
+}
