@@ -1,13 +1,17 @@
 -- The books of the drill's terminals, by its log.
-use Rattle.std.specs.Prelude.{◌≡◌, ℕ, ◌==◌, bytes_eq, if◌then◌else◌, List, [], ◌∷◌, ◌++◌, reverse}
+use Rattle.std.specs.Prelude.{◌≡◌, ℕ, ◌==◌, true, bytes_eq, if◌then◌else◌, List, [], ◌∷◌, ◌++◌, reverse, Some}
 use Rattle.std.specs.List.{flat_map}
 use Rattle.gw_base.specs.declared.setup.Setup.{Setup}
+use Rattle.gw_site.specs.Steps.{SiteStep}
 use Rattle.gw_site.specs.declared.turn.Turn.{Turn}
 use Rattle.gw_site.specs.declared.turn.Turn.TheVariants.{Start, OpenFailed, Polled, Opened, HeardTill, Closed, HeardPt, Lost, Stopped, Linked, LinkFailed, SentTill, SentPt, CutTill, CutPt, Wrote, Synced, DiskFailed, Crash}
 use Rattle.pt_core.specs.Exchange.{Exchange, Links, Sends, Hears, HearsSent, met_of}
 use Rattle.pt_core.specs.History.{Setting, book_after}
 use Rattle.pt_core.specs.declared.book.BookEntry.{BookEntry}
-use Rattle.gw_script.specs.site.Drill.{drill_given, drill_payments, drill_poi, drill_setting}
+use Rattle.gw_script.specs.site.Calls.{LeadsBy, are_scripted}
+use Rattle.gw_script.specs.site.Drill.{drill_begins, drill_given, drill_payments, drill_poi, drill_setting}
+use Rattle.gw_script.specs.site.Peers.{book_of_peer}
+use Rattle.gw_script.specs.site.Playing.{Play}
 use Rattle.gw_script.specs.site.ScriptLine.{setup_of}
 use Rattle.gw_rules.specs.Laws.{IsLeanCourse}
 use Rattle.gw_rules.specs.View.{Move}
@@ -86,7 +90,46 @@ pub record AreHonest (from payments : ℕ) (log : List Turn) : Type 0 where
 abbrev pub StartWith : Setup → List Turn → Type 0
 StartWith own log = (before after : List Turn) (setup : Setup) → log ≡ before ++ Start setup ∷ after → setup ≡ own
 
--- ---- the law
+-- the turn is no failure of an opening or of the disk
+abbrev pub IsNoFailure : Turn → Type 0
+IsNoFailure (Start setup) = Unit {0}
+IsNoFailure OpenFailed = ⊥
+IsNoFailure (Polled now) = Unit {0}
+IsNoFailure (Opened till) = Unit {0}
+IsNoFailure (HeardTill till bytes) = Unit {0}
+IsNoFailure (Closed till) = Unit {0}
+IsNoFailure (HeardPt pt bytes) = Unit {0}
+IsNoFailure (Lost pt) = Unit {0}
+IsNoFailure Stopped = Unit {0}
+IsNoFailure (Linked pt) = Unit {0}
+IsNoFailure (LinkFailed pt) = Unit {0}
+IsNoFailure (SentTill till bytes sent) = Unit {0}
+IsNoFailure (SentPt pt bytes sent) = Unit {0}
+IsNoFailure (CutTill till) = Unit {0}
+IsNoFailure (CutPt pt) = Unit {0}
+IsNoFailure (Wrote offset bytes) = Unit {0}
+IsNoFailure Synced = Unit {0}
+IsNoFailure DiskFailed = ⊥
+IsNoFailure (Crash file) = Unit {0}
+
+-- none of the turns is
+abbrev pub NoneFails : List Turn → Type 0
+NoneFails [] = Unit {0}
+NoneFails (turn ∷ turns) = IsNoFailure turn × NoneFails turns
+
+-- at this place of the drill, with this log, the books of its terminals are those by the log, at each hearing of one what was heard is a prefix of what it had sent, and no opening and no call on the disk has failed
+pub record IsDrillAt (from payments : ℕ) (log : List Turn) (place : Play) : Type 0 where
+  pub first_book : book_of_peer place.peers 0 ≡ Some (drill_book from payments 0 log)
+  pub second_book : book_of_peer place.peers 1 ≡ Some (drill_book from payments 1 log)
+  pub first_hears : HearsSent (setting_at from payments 0) (exchanges_at 0 log)
+  pub second_hears : HearsSent (setting_at from payments 1) (exchanges_at 1 log)
+  pub none_fails : NoneFails log
+
+-- ---- the laws
+
+-- so it is wherever steps have led, none of which was beside the drill
+abbrev pub DrillIsAt : Type 0
+DrillIsAt = (from payments : ℕ) (steps : List SiteStep) (log : List Turn) (place : Play) → are_scripted steps ≡ true → LeadsBy [] (drill_begins from payments) steps log place → IsDrillAt from payments log place
 
 -- the books of the drill's terminals are honest for each lawful log whose runs start with the drill's setup, and in which at each hearing of a terminal what was heard is a prefix of what it had sent
 abbrev pub DrillIsHonest : Type 0

@@ -132,7 +132,7 @@ module _ (rules : LawfulRefusedOnlyWithFewerSlots) (own : Setup) (whole : Plan) 
   all-moves : moves_of (m.played.acts ++ r.done.acts) ≡ moves_of m.played.acts ++ r.moves
   all-moves = moves_of-append m.played.acts r.done.acts ∙ ap (λ l. moves_of m.played.acts ++ l) r.done.moves_are
 
-  played-on : HasPlayed own whole new.plan after
+  abbrev played-on : HasPlayed own whole new.plan after
   played-on = record {
     acts = m.played.acts ++ r.done.acts;
     done = record {

@@ -12,12 +12,12 @@ use Rattle.gw_run.specs.LogWritten.{Adds}
 use Rattle.gw_run.specs.Replay.{IsReportedEnd, ReplayCause, ReplayPrinted, WritesTail}
 use Rattle.gw_run.specs.Serve.{HasServed, IsUntouched, ServeCause, ServePrinted, Serves, SiteCalls, serve_status}
 use Rattle.gw_run.specs.Top.{Cause, HasRisen, IsEnded, Stream, status_of, tail_of}
-use Rattle.gw_run.specs.Words.{AreRefused, AskForReplay, AskNotToServe, AskToServe, order_of}
+use Rattle.gw_run.specs.Words.{AreRefused, AskForDrill, AskForReplay, AskForReplayOrNothing, AskNotToServe, AskToReadNothing, AskToServe, order_of}
 use Rattle.gw_run.specs.declared.ending.Ending.{Ending}
 use Rattle.gw_run.specs.declared.ending.Ending.TheVariants.{Played, Memory, OutputFailed}
 use Rattle.gw_run.specs.declared.serving.ServeEnding.{ServeEnding}
 use Rattle.gw_run.specs.declared.serving.ServeEnding.TheVariants.{Config, Other}
-use Rattle.gw_run.specs.declared.words.Mode.TheVariants.{Serve, Replay}
+use Rattle.gw_run.specs.declared.words.Mode.TheVariants.{Serve, Replay, Drill}
 use Rattle.gw_run.specs.declared.words.Order.{Order}
 use Rattle.gw_run.proofs.ReplayLemmas.{IsFault, fault-printed, observed-cause}
 use Rattle.gw_run.proofs.RunEndLemmas.{zero-played}
@@ -74,6 +74,38 @@ replay-alone words order turns is replay e = modes-differ (sym (ap (λ (o : Orde
 -- nor do words that are refused
 pub refused-alone : {A : Type 0} (words : List (List ℕ)) (order : Order) → None ≡ order_of words → order_of words ≡ Some order → A
 refused-alone words order none e = none-or-some order (none ∙ e)
+
+-- words that ask for a drill
+pub drill-alone : {A : Type 0} (words : List (List ℕ)) (order : Order) (from payments turns : ℕ) → Some order ≡ order_of words → order.mode ≡ Drill from payments → AskToServe words turns → A
+drill-alone words order from payments turns is drill e = one-mode words order _ is e (λ same. serve-or-drill from payments (sym same ∙ drill))
+
+pub drill-no-replay : {A : Type 0} (words : List (List ℕ)) (order : Order) (from payments : ℕ) → Some order ≡ order_of words → order.mode ≡ Drill from payments → AskForReplayOrNothing words → A
+drill-no-replay words order from payments is drill (inl (turns, e)) = one-mode words order _ is e (λ same. replay-or-drill from payments (sym same ∙ drill))
+drill-no-replay words order from payments is drill (inr none) = none-or-some order (sym none ∙ sym is)
+
+-- nor do words that ask to serve, or for a replay, ask for one
+pub serve-no-drill : {A : Type 0} (words : List (List ℕ)) (order : Order) (from payments : ℕ) → Some order ≡ order_of words → order.mode ≡ Serve → AskForDrill words from payments → A
+serve-no-drill words order from payments is serve (turns, e) = one-mode words order _ is e (λ same. serve-or-drill from payments (sym serve ∙ same))
+
+pub replay-no-drill : {A : Type 0} (words : List (List ℕ)) (order : Order) (from payments : ℕ) → Some order ≡ order_of words → order.mode ≡ Replay → AskForDrill words from payments → A
+replay-no-drill words order from payments is replay (turns, e) = one-mode words order _ is e (λ same. replay-or-drill from payments (sym replay ∙ same))
+
+pub refused-no-drill : {A : Type 0} (words : List (List ℕ)) (from payments : ℕ) → None ≡ order_of words → AskForDrill words from payments → A
+refused-no-drill words from payments none (turns, e) = none-or-some _ (none ∙ e)
+
+-- a replay reads its script
+pub replay-reads : {A : Type 0} (words : List (List ℕ)) (order : Order) → Some order ≡ order_of words → order.mode ≡ Replay → AskToReadNothing words → A
+replay-reads words order is replay (inl none) = none-or-some order (sym none ∙ sym is)
+replay-reads words order is replay (inr (from, payments, asks)) = replay-no-drill words order from payments is replay asks
+
+pub serve-reads : {A : Type 0} (words : List (List ℕ)) (order : Order) → Some order ≡ order_of words → order.mode ≡ Serve → AskToReadNothing words → A
+serve-reads words order is serve nothing = serve-alone words order is serve (inr nothing)
+
+same-drill : (from payments other more : ℕ) → Drill from payments ≡ Drill other more → (from ≡ other) × (payments ≡ more)
+same-drill from payments other more e = (cc, cc)
+
+pub drill-numbers : (words : List (List ℕ)) (order : Order) (from payments other more : ℕ) → Some order ≡ order_of words → order.mode ≡ Drill from payments → AskForDrill words other more → (from ≡ other) × (payments ≡ more)
+drill-numbers words order from payments other more is drill (turns, e) = same-drill from payments other more (sym drill ∙ ap (λ (o : Order). o.mode) (asked words order _ is e))
 
 -- ---- a replay, and words that are refused
 

@@ -1,5 +1,5 @@
 //! The runs over a site in memory: the engine is started again, with the same setup, after each power failure.
-ghost use Rattle.std.specs.Prelude.{◌≡◌, ◌≢◌, ◌⊎◌, ◌×◌, ℕ, Some, [], true, false, IfOk, OnErr};
+ghost use Rattle.std.specs.Prelude.{◌≡◌, ◌≢◌, ◌⊎◌, ℕ, Some, [], true, false, IfOk, OnErr};
 ghost use Rattle.gw_base.specs.Setup.{IsSetup};
 ghost use Rattle.gw_site.specs.Steps.{Plan};
 ghost use Rattle.gw_script.specs.site.ScriptLine.{setup_of};
