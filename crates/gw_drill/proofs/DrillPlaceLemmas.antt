@@ -1,5 +1,5 @@
 -- The drill's own lines and terminals, and so what its log and place are.
-use Rattle.std.proofs.Common.{◌≡◌, ℕ, zero, suc, ◌+◌, true, false, List, [], ◌∷◌, ◌++◌, refl, sym, ◌∙◌, ap, subst}
+use Rattle.std.proofs.Common.{◌≡◌, ℕ, zero, suc, ◌+◌, ◌-◌, ◌*◌, true, false, List, [], ◌∷◌, ◌++◌, refl, sym, ◌∙◌, ap, subst}
 use Rattle.std.specs.Prelude.{Option, Some, None, option_map}
 use Rattle.std.specs.List.{flat_map}
 use Rattle.zvt_apdu.specs.DecodeStream.{decode_apdus}
@@ -8,10 +8,10 @@ use Rattle.pt_core.specs.Serving.{TerminalValue}
 use Rattle.gw_site.specs.Steps.{SiteStep}
 use Rattle.gw_site.specs.declared.turn.Turn.{Turn}
 use Rattle.gw_script.specs.site.Calls.{LeadsBy, are_scripted}
-use Rattle.gw_script.specs.site.Drill.{DrillPayment, drill_begins, drill_lines, drill_payments, drill_status_frame, drill_terminals, payment_lines, payment_waits, payment_ends, power_set, power_unset}
+use Rattle.gw_script.specs.site.Drill.{DrillPayment, drill_begins, drill_lines, drill_payment_frame, drill_payments, drill_terminals, payment_begins, payment_lines, payment_waits, payment_ends, power_set, power_unset}
 use Rattle.gw_script.specs.site.Hazards.{Armed, Hazard, no_hazard}
 use Rattle.gw_script.specs.site.Playing.{Play, early_hazard, early_lines}
-use Rattle.gw_script.specs.site.ScriptLine.{PlayedLine, At, Poll, Fail, Power, ForgetPower}
+use Rattle.gw_script.specs.site.ScriptLine.{FromTill, PlayedLine, At, Poll, Fail, Power, ForgetPower}
 use Rattle.gw_drill.specs.DrillBooks.{DrillIsAt, IsDrillAt, exchanges_at, setting_at}
 use Rattle.gw_drill.proofs.PeerLemmas.{Follows, MetLaws}
 use Rattle.gw_drill.proofs.PlaceLemmas.{AreOfTills, Goes, steps-go}
@@ -35,7 +35,9 @@ unset-of-tills None = tt
 unset-of-tills (Some power) = tt
 
 payment-of-tills : (payment : DrillPayment) → AreOfTills (payment_lines payment)
-payment-of-tills payment = (tt, (tt, more-of-tills (power_set payment.power) _ (set-of-tills payment.power) (tt, (tt, (tt, more-of-tills (power_unset payment.power) (payment_ends payment) (unset-of-tills payment.power) (tt, (tt, (tt, (tt, tt)))))))))
+payment-of-tills payment =
+    more-of-tills (payment_begins payment) (Poll (FromTill (2 * payment.number - 1) (drill_payment_frame payment)) ∷ (payment_waits payment ++ payment_ends payment)) (tt, (tt, set-of-tills payment.power))
+    (tt, more-of-tills (payment_waits payment) (payment_ends payment) (tt, (tt, unset-of-tills payment.power)) (tt, (tt, (tt, (tt, tt)))))
 
 lines-of-tills : (payments : List DrillPayment) → AreOfTills (drill_lines payments)
 lines-of-tills [] = tt
@@ -74,7 +76,6 @@ module _ (laws : DrillLaws) (from payments : ℕ) where
         follows = follows;
         lines = early-of-tills lines of_tills;
         calm = record { opens = ap (λ (h : Hazard). h.fail_open) hazard; write = ap (λ (h : Hazard). h.fail_write) hazard; sync = ap (λ (h : Hazard). h.fail_sync) hazard; lengths = ap (λ (h : Hazard). h.fail_length) hazard; read = ap (λ (h : Hazard). h.fail_read) hazard };
-        none_fails = tt;
       }
 
   first-follows : Follows 0 (setting_at from payments 0) [] (drill_begins from payments).peers
@@ -92,7 +93,6 @@ module _ (laws : DrillLaws) (from payments : ℕ) where
         second_book = ap (option_map (λ (terminal : TerminalValue). terminal.account.book)) second.follows.terminal;
         first_hears = first.follows.hears;
         second_hears = second.follows.hears;
-        none_fails = first.none_fails;
       }
 
 pub drill-is-at : DrillLaws → DrillIsAt

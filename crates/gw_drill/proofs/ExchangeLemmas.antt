@@ -111,7 +111,7 @@ same-where scene number pt exchange is known =
     ap (λ poi. if bytes_eq poi (drill_poi number) then exchange ∷ [] else []) known ∙ ap (λ test. if test then exchange ∷ [] else []) (is pt)
 
 -- no event comes where there is no run, and nothing is owed
-resting-polls : {A : Type 0} (v : View) → IsResting v → v.scene.stage ≡ AtPoll → A
+pub resting-polls : {A : Type 0} (v : View) → IsResting v → v.scene.stage ≡ AtPoll → A
 resting-polls v rests e = absurd (let n : Resting ≡ AtPoll = sym rests.resting ∙ e in cc)
 
 -- what a turn does by the POIID is what it does by the number
@@ -145,7 +145,7 @@ where-reversed number pt exchange = by_test (pt == number)
     by_test false = refl
 
 -- it is one thing at most
-one-reversed : (number : ℕ) (turn : Turn) → reverse (exchange_at number turn) ≡ exchange_at number turn
+pub one-reversed : (number : ℕ) (turn : Turn) → reverse (exchange_at number turn) ≡ exchange_at number turn
 one-reversed number (HeardPt pt bytes) = where-reversed number pt (Hears bytes)
 one-reversed number (Linked pt) = where-reversed number pt Links
 one-reversed number (SentPt pt bytes sent) = where-reversed number pt (Sends bytes)
@@ -169,7 +169,7 @@ one-reversed number (Crash file) = refl
 -- ---- along a course
 
 -- without their places they are what was done
-placed-are : (place : ℕ) (exchanges : List Exchange) → exchanges_in (map (λ (exchange : Exchange). let one : PlacedExchange = record { place = place; exchange = exchange } in one) exchanges) ≡ exchanges
+pub placed-are : (place : ℕ) (exchanges : List Exchange) → exchanges_in (map (λ (exchange : Exchange). let one : PlacedExchange = record { place = place; exchange = exchange } in one) exchanges) ≡ exchanges
 placed-are place [] = refl
 placed-are place (exchange ∷ exchanges) = ap (λ l. exchange ∷ l) (placed-are place exchanges)
 

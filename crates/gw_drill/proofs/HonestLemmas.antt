@@ -1,5 +1,5 @@
 -- The books of the drill's terminals are honest for its log.
-use Rattle.std.proofs.Common.{◌≡◌, ℕ, zero, suc, ◌+◌, Bool, true, false, List, [], ◌∷◌, ◌++◌, map, reverse, refl, sym, ◌∙◌, ap, subst, append-nil, inl, inr}
+use Rattle.std.proofs.Common.{◌≡◌, ℕ, zero, suc, ◌+◌, Bool, true, false, List, [], ◌∷◌, ◌++◌, length, map, reverse, refl, sym, ◌∙◌, ap, subst, append-nil, inl, inr}
 use Rattle.std.specs.Prelude.{◌⊎◌, Option, Some, None, bytes_eq, if◌then◌else◌, slice_get}
 use Rattle.std.specs.List.{flat_map, list_any}
 use Rattle.std.proofs.lemmas.List.{map-append}
@@ -143,7 +143,9 @@ abbrev AreLinks : List MadeLink → Type 0
 AreLinks links = (at : ℕ) (link : MadeLink) → slice_get links at ≡ Some link → list_any (bytes_eq link.numbering.poi) drill_pois ≡ true
 
 one-more-link : (new : MadeLink) (links : List MadeLink) → list_any (bytes_eq new.numbering.poi) drill_pois ≡ true → AreLinks links → AreLinks (new ∷ links)
-one-more-link new links own are zero link found = subst (λ (one : MadeLink). list_any (bytes_eq one.numbering.poi) drill_pois ≡ true) (let n : Some new ≡ Some link = found in cc) own
+one-more-link new links own are zero link found =
+    let same : new ≡ link = (let n : Some new ≡ Some link = found in cc) in
+    ap (λ (one : MadeLink). list_any (bytes_eq one.numbering.poi) drill_pois) (sym same) ∙ own
 one-more-link new links own are (suc at) link found = are at link found
 
 linked-own : (v : View) (pt : ℕ) → Agrees v → InDrill v → HasSetup v.scene → AllowedTurn v (Linked pt) → list_any (bytes_eq (poi_of_number v.scene pt)) drill_pois ≡ true
@@ -160,7 +162,7 @@ wrote-links true past are = are
 wrote-links false past are = are
 
 turn-links : (v : View) (past : Past) (turn : Turn) → Agrees v → InDrill v → AllowedTurn v turn → AreLinks past.links → AreLinks (past_after v past (Make turn)).links
-turn-links v past (Linked pt) agrees drill ok are = elim agrees.run [ inl known ↦ one-more-link _ past.links (linked-own v pt agrees drill known ok) are | inr rests ↦ no-call v.calls _ rests.calls ok ]
+turn-links v past (Linked pt) agrees drill ok are = elim agrees.run [ inl known ↦ one-more-link (record { place = past.place; numbering = numbering_of_number v.scene pt; records = length v.scene.kept }) past.links (linked-own v pt agrees drill known ok) are | inr rests ↦ no-call v.calls _ rests.calls ok ]
 turn-links v past (Start setup) agrees drill ok are = are
 turn-links v past OpenFailed agrees drill ok are = are
 turn-links v past (Polled now) agrees drill ok are = are

@@ -110,20 +110,19 @@ module _ (pt : ℕ) where
       by_test false cut e = e
 
   -- nothing of it is to come
-  record ComesNone (events : List Event) : Type 0 where
-    bytes : coming_bytes events ≡ []
-    cut : comes_cut events ≡ false
+  pub record ComesNone (events : List Event) : Type 0 where
+    pub bytes : coming_bytes events ≡ []
+    pub cut : comes_cut events ≡ false
 
   none-of-bytes : (other : ℕ) (bytes : List ℕ) → (other == pt) ≡ false → ComesNone (bytes_coming other bytes)
   none-of-bytes other [] e = record { bytes = refl; cut = refl }
   none-of-bytes other (byte ∷ bytes) e = record { bytes = ap (λ test. if test then (byte ∷ bytes) ++ [] else []) e; cut = refl }
 
+  abbrev no_bytes : List ℕ
+  no_bytes = []
+
   none-of-cut : (other : ℕ) (cut : Bool) → (other == pt) ≡ false → ComesNone (cut_coming other cut)
-  none-of-cut other true e = record { bytes = by_test (other == pt); cut = ap (λ test. if test then true else false) e }
-    where
-      by_test : (test : Bool) → (if test then [] else []) ≡ []
-      by_test true = refl
-      by_test false = refl
+  none-of-cut other true e = record { bytes = ap (λ test. if test then no_bytes else no_bytes) e; cut = ap (λ test. if test then true else false) e }
   none-of-cut other false e = record { bytes = refl; cut = refl }
 
   none-then : (events more : List Event) → ComesNone events → ComesNone more → ComesNone (events ++ more)
@@ -206,34 +205,25 @@ module _ (pt : ℕ) where
       → OnTheWay setting exchanges coming → OnTheWay setting (Sends bytes ∷ exchanges) (coming ++ coming_of pt done.bytes done.cut)
   way-sent setting exchanges bytes coming done sent way = by_cut (comes_cut coming) refl
     where
-      more : List Event
-      more = coming_of pt done.bytes done.cut
-
-      heard : List ℕ
-      heard = heard_on_link exchanges
-
-      before : List ℕ
-      before = sent_on_link setting (met_of exchanges)
-
-      by_cut : (cut : Bool) → comes_cut coming ≡ cut → OnTheWay setting (Sends bytes ∷ exchanges) (coming ++ more)
+      by_cut : (cut : Bool) → comes_cut coming ≡ cut → OnTheWay setting (Sends bytes ∷ exchanges) (coming ++ (coming_of pt done.bytes done.cut))
       by_cut true e =
-          let bytes_are : coming_bytes (coming ++ more) ≡ coming_bytes coming = bytes-then coming more ∙ ap (λ cut. if cut then coming_bytes coming else coming_bytes coming ++ coming_bytes more) e in
-          let cut_is : comes_cut (coming ++ more) ≡ true = cut-then coming more ∙ ap (λ cut. if cut then true else comes_cut more) e in
+          let bytes_are : coming_bytes (coming ++ (coming_of pt done.bytes done.cut)) ≡ coming_bytes coming = bytes-then coming (coming_of pt done.bytes done.cut) ∙ ap (λ cut. if cut then coming_bytes coming else coming_bytes coming ++ coming_bytes (coming_of pt done.bytes done.cut)) e in
+          let cut_is : comes_cut (coming ++ (coming_of pt done.bytes done.cut)) ≡ true = cut-then coming (coming_of pt done.bytes done.cut) ∙ ap (λ cut. if cut then true else comes_cut (coming_of pt done.bytes done.cut)) e in
           record {
-            prefix = (way.prefix.0 ++ done.bytes, sent ∙ ap (λ l. l ++ done.bytes) way.prefix.1 ∙ append_assoc (heard ++ coming_bytes coming) way.prefix.0 done.bytes ∙ ap (λ l. (heard ++ l) ++ (way.prefix.0 ++ done.bytes)) (sym bytes_are));
+            prefix = (way.prefix.0 ++ done.bytes, sent ∙ ap (λ l. l ++ done.bytes) way.prefix.1 ∙ append_assoc ((heard_on_link exchanges) ++ coming_bytes coming) way.prefix.0 done.bytes ∙ ap (λ l. ((heard_on_link exchanges) ++ l) ++ (way.prefix.0 ++ done.bytes)) (sym bytes_are));
             whole = λ uncut. absurd (let n : true ≡ false = sym cut_is ∙ uncut in cc);
           }
       by_cut false e =
-          let bytes_are : coming_bytes (coming ++ more) ≡ coming_bytes coming ++ coming_bytes more = bytes-then coming more ∙ ap (λ cut. if cut then coming_bytes coming else coming_bytes coming ++ coming_bytes more) e in
-          let cut_is : comes_cut (coming ++ more) ≡ comes_cut more = cut-then coming more ∙ ap (λ cut. if cut then true else comes_cut more) e in
-          let all : heard ++ coming_bytes coming ≡ before = way.whole e in
+          let bytes_are : coming_bytes (coming ++ (coming_of pt done.bytes done.cut)) ≡ coming_bytes coming ++ coming_bytes (coming_of pt done.bytes done.cut) = bytes-then coming (coming_of pt done.bytes done.cut) ∙ ap (λ cut. if cut then coming_bytes coming else coming_bytes coming ++ coming_bytes (coming_of pt done.bytes done.cut)) e in
+          let cut_is : comes_cut (coming ++ (coming_of pt done.bytes done.cut)) ≡ comes_cut (coming_of pt done.bytes done.cut) = cut-then coming (coming_of pt done.bytes done.cut) ∙ ap (λ cut. if cut then true else comes_cut (coming_of pt done.bytes done.cut)) e in
+          let all : (heard_on_link exchanges) ++ coming_bytes coming ≡ (sent_on_link setting (met_of exchanges)) = way.whole e in
           elim (own-bytes done.bytes done.cut) [
             | inl own ↦ (
-                let is : heard ++ coming_bytes (coming ++ more) ≡ sent_on_link setting (Chunk bytes ∷ met_of exchanges) =
-                ap (λ l. heard ++ l) bytes_are ∙ sym (append_assoc heard (coming_bytes coming) (coming_bytes more)) ∙ ap (λ l. l ++ coming_bytes more) all ∙ ap (λ l. before ++ l) own ∙ sym sent in
-                record { prefix = ([], sym is ∙ sym (append-nil (heard ++ coming_bytes (coming ++ more)))); whole = λ uncut. is })
+                let is : (heard_on_link exchanges) ++ coming_bytes (coming ++ (coming_of pt done.bytes done.cut)) ≡ sent_on_link setting (Chunk bytes ∷ met_of exchanges) =
+                ap (λ l. (heard_on_link exchanges) ++ l) bytes_are ∙ sym (append_assoc (heard_on_link exchanges) (coming_bytes coming) (coming_bytes (coming_of pt done.bytes done.cut))) ∙ ap (λ l. l ++ coming_bytes (coming_of pt done.bytes done.cut)) all ∙ ap (λ l. (sent_on_link setting (met_of exchanges)) ++ l) own ∙ sym sent in
+                record { prefix = ([], sym is ∙ sym (append-nil ((heard_on_link exchanges) ++ coming_bytes (coming ++ (coming_of pt done.bytes done.cut))))); whole = λ uncut. is })
             | inr lost ↦ (
-                let is : heard ++ coming_bytes (coming ++ more) ≡ before = ap (λ l. heard ++ l) (bytes_are ∙ ap (λ l. coming_bytes coming ++ l) lost.0 ∙ append-nil (coming_bytes coming)) ∙ all in
+                let is : (heard_on_link exchanges) ++ coming_bytes (coming ++ (coming_of pt done.bytes done.cut)) ≡ (sent_on_link setting (met_of exchanges)) = ap (λ l. (heard_on_link exchanges) ++ l) (bytes_are ∙ ap (λ l. coming_bytes coming ++ l) lost.0 ∙ append-nil (coming_bytes coming)) ∙ all in
                 record { prefix = (done.bytes, sent ∙ ap (λ l. l ++ done.bytes) (sym is)); whole = λ uncut. absurd (let n : true ≡ false = sym (cut_is ∙ lost.1) ∙ uncut in cc) })
           ]
 
@@ -333,29 +323,27 @@ module _ (pt : ℕ) where
       by_test true e = subst (λ n. Follows setting (log ++ SentPt n bytes sent ∷ []) (peers_after_bytes n bytes peers)) (sym (is-same number pt e)) (sent-own setting laws log bytes sent peers f)
       by_test false e = sent-other setting log number bytes sent peers e f
 
-  -- nothing of it is left
-  none-left : (events : List Event) → ComesNone (filter (λ event. not (is_event_of pt event)) events)
+  -- what is left of it once the terminal of a number is linked
+  abbrev left_for : ℕ → List Event → List Event
+  left_for number events = filter (λ event. not (is_event_of number event)) events
+
+  -- nothing of its own
+  none-left : (events : List Event) → ComesNone (left_for pt events)
   none-left [] = record { bytes = refl; cut = refl }
   none-left (Open till ∷ events) = let h = none-left events in record { bytes = h.bytes; cut = h.cut }
   none-left (Close till ∷ events) = let h = none-left events in record { bytes = h.bytes; cut = h.cut }
   none-left (FromTill till bytes ∷ events) = let h = none-left events in record { bytes = h.bytes; cut = h.cut }
   none-left (Tick ∷ events) = let h = none-left events in record { bytes = h.bytes; cut = h.cut }
-  none-left (FromPt other bytes ∷ events) = by_test (other == pt) refl
+  none-left (FromPt other bytes ∷ events) = by_test (other == pt) refl (none-left events)
     where
-      rest : List Event
-      rest = filter (λ event. not (is_event_of pt event)) events
-
-      by_test : (test : Bool) → (other == pt) ≡ test → ComesNone (if not test then FromPt other bytes ∷ rest else rest)
-      by_test true e = none-left events
-      by_test false e = let h = none-left events in record { bytes = ap (λ test. if test then bytes ++ coming_bytes rest else coming_bytes rest) e ∙ h.bytes; cut = h.cut }
-  none-left (Lose other ∷ events) = by_test (other == pt) refl
+      by_test : (test : Bool) → (other == pt) ≡ test → ComesNone (left_for pt events) → ComesNone (if not test then FromPt other bytes ∷ left_for pt events else left_for pt events)
+      by_test true e h = h
+      by_test false e h = record { bytes = ap (λ test. if test then bytes ++ coming_bytes (left_for pt events) else coming_bytes (left_for pt events)) e ∙ h.bytes; cut = h.cut }
+  none-left (Lose other ∷ events) = by_test (other == pt) refl (none-left events)
     where
-      rest : List Event
-      rest = filter (λ event. not (is_event_of pt event)) events
-
-      by_test : (test : Bool) → (other == pt) ≡ test → ComesNone (if not test then Lose other ∷ rest else rest)
-      by_test true e = none-left events
-      by_test false e = let h = none-left events in record { bytes = ap (λ test. if test then [] else coming_bytes rest) e ∙ h.bytes; cut = ap (λ test. if test then true else comes_cut rest) e ∙ h.cut }
+      by_test : (test : Bool) → (other == pt) ≡ test → ComesNone (left_for pt events) → ComesNone (if not test then Lose other ∷ left_for pt events else left_for pt events)
+      by_test true e h = h
+      by_test false e h = record { bytes = ap (λ test. if test then [] else coming_bytes (left_for pt events)) e ∙ h.bytes; cut = ap (λ test. if test then true else comes_cut (left_for pt events)) e ∙ h.cut }
 
   -- what is left where another is linked
   others-left : (number : ℕ) (events : List Event) → (number == pt) ≡ false → (coming_bytes (filter (λ event. not (is_event_of number event)) events) ≡ coming_bytes events) × (comes_cut (filter (λ event. not (is_event_of number event)) events) ≡ comes_cut events)
@@ -364,28 +352,20 @@ module _ (pt : ℕ) where
   others-left number (Close till ∷ events) e = others-left number events e
   others-left number (FromTill till bytes ∷ events) e = others-left number events e
   others-left number (Tick ∷ events) e = others-left number events e
-  others-left number (FromPt other bytes ∷ events) e = by_test (other == number) refl
+  others-left number (FromPt other bytes ∷ events) e = by_test (other == number) refl (others-left number events e)
     where
-      rest : List Event
-      rest = filter (λ event. not (is_event_of number event)) events
-
-      by_test : (test : Bool) → (other == number) ≡ test → (coming_bytes (if not test then FromPt other bytes ∷ rest else rest) ≡ coming_bytes (FromPt other bytes ∷ events)) × (comes_cut (if not test then FromPt other bytes ∷ rest else rest) ≡ comes_cut events)
-      by_test true same =
+      by_test : (test : Bool) → (other == number) ≡ test → (coming_bytes (left_for number events) ≡ coming_bytes events) × (comes_cut (left_for number events) ≡ comes_cut events) → (coming_bytes (if not test then FromPt other bytes ∷ left_for number events else left_for number events) ≡ coming_bytes (FromPt other bytes ∷ events)) × (comes_cut (if not test then FromPt other bytes ∷ left_for number events else left_for number events) ≡ comes_cut events)
+      by_test true same h =
           let own : (other == pt) ≡ false = ap (λ n. n == pt) (is-same other number same) ∙ e in
-          let h = others-left number events e in
           (h.0 ∙ sym (ap (λ test. if test then bytes ++ coming_bytes events else coming_bytes events) own), h.1)
-      by_test false differ = let h = others-left number events e in (ap (λ l. if other == pt then bytes ++ l else l) h.0, h.1)
-  others-left number (Lose other ∷ events) e = by_test (other == number) refl
+      by_test false differ h = (ap (λ l. if other == pt then bytes ++ l else l) h.0, h.1)
+  others-left number (Lose other ∷ events) e = by_test (other == number) refl (others-left number events e)
     where
-      rest : List Event
-      rest = filter (λ event. not (is_event_of number event)) events
-
-      by_test : (test : Bool) → (other == number) ≡ test → (coming_bytes (if not test then Lose other ∷ rest else rest) ≡ coming_bytes (Lose other ∷ events)) × (comes_cut (if not test then Lose other ∷ rest else rest) ≡ comes_cut (Lose other ∷ events))
-      by_test true same =
+      by_test : (test : Bool) → (other == number) ≡ test → (coming_bytes (left_for number events) ≡ coming_bytes events) × (comes_cut (left_for number events) ≡ comes_cut events) → (coming_bytes (if not test then Lose other ∷ left_for number events else left_for number events) ≡ coming_bytes (Lose other ∷ events)) × (comes_cut (if not test then Lose other ∷ left_for number events else left_for number events) ≡ comes_cut (Lose other ∷ events))
+      by_test true same h =
           let own : (other == pt) ≡ false = ap (λ n. n == pt) (is-same other number same) ∙ e in
-          let h = others-left number events e in
           (h.0 ∙ sym (ap (λ test. if test then [] else coming_bytes events) own), h.1 ∙ sym (ap (λ test. if test then true else comes_cut events) own))
-      by_test false differ = let h = others-left number events e in (ap (λ l. if other == pt then [] else l) h.0, ap (λ l. if other == pt then true else l) h.1)
+      by_test false differ h = (ap (λ l. if other == pt then [] else l) h.0, ap (λ l. if other == pt then true else l) h.1)
 
   -- it is linked: nothing was sent on the new link
   fresh-way : (setting : Setting) (exchanges : List Exchange) (coming : List Event) → sent_on_link setting (NewLink ∷ met_of exchanges) ≡ [] → ComesNone coming → OnTheWay setting (Links ∷ exchanges) coming
@@ -407,13 +387,10 @@ module _ (pt : ℕ) where
       apart : pt ≢ number
       apart is = differs number pt e (sym is)
 
-      links : List Connection
-      links = (outside_of log).links
-
       leaves : LeavesLink log (Linked number)
       leaves = record {
         none = other-exchange number Links e;
-        links = λ connected. sym (connected-old (without links number) number pt apart ∙ connected-other links number pt apart) ∙ connected;
+        links = λ connected. sym (connected-old (without (outside_of log).links number) number pt apart ∙ connected-other (outside_of log).links number pt apart) ∙ connected;
       }
 
       by_peer : (found : Option TerminalValue) → Follows setting (log ++ Linked number ∷ []) (linked_to_peer found number peers)
@@ -453,7 +430,7 @@ module _ (pt : ℕ) where
       by_test false e there = sym (connected-other (outside_of log).links number pt (λ is. differs number pt e (sym is))) ∙ there
 
   -- the first that comes of it is heard
-  heard-own : (setting : Setting) (log : List Turn) (bytes : List ℕ) (coming : List Event) (peers : Peers) → peers.coming ≡ FromPt pt bytes ∷ coming → is_connected (outside_of log).links pt ≡ true → Follows setting log peers
+  pub heard-own : (setting : Setting) (log : List Turn) (bytes : List ℕ) (coming : List Event) (peers : Peers) → peers.coming ≡ FromPt pt bytes ∷ coming → is_connected (outside_of log).links pt ≡ true → Follows setting log peers
       → Follows setting (log ++ HeardPt pt bytes ∷ []) (record peers { coming = coming })
   heard-own setting log bytes coming peers comes connected f =
       let exchanges = exchanges_at pt log in

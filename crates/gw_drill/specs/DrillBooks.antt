@@ -90,40 +90,12 @@ pub record AreHonest (from payments : ℕ) (log : List Turn) : Type 0 where
 abbrev pub StartWith : Setup → List Turn → Type 0
 StartWith own log = (before after : List Turn) (setup : Setup) → log ≡ before ++ Start setup ∷ after → setup ≡ own
 
--- the turn is no failure of an opening or of the disk
-abbrev pub IsNoFailure : Turn → Type 0
-IsNoFailure (Start setup) = Unit {0}
-IsNoFailure OpenFailed = ⊥
-IsNoFailure (Polled now) = Unit {0}
-IsNoFailure (Opened till) = Unit {0}
-IsNoFailure (HeardTill till bytes) = Unit {0}
-IsNoFailure (Closed till) = Unit {0}
-IsNoFailure (HeardPt pt bytes) = Unit {0}
-IsNoFailure (Lost pt) = Unit {0}
-IsNoFailure Stopped = Unit {0}
-IsNoFailure (Linked pt) = Unit {0}
-IsNoFailure (LinkFailed pt) = Unit {0}
-IsNoFailure (SentTill till bytes sent) = Unit {0}
-IsNoFailure (SentPt pt bytes sent) = Unit {0}
-IsNoFailure (CutTill till) = Unit {0}
-IsNoFailure (CutPt pt) = Unit {0}
-IsNoFailure (Wrote offset bytes) = Unit {0}
-IsNoFailure Synced = Unit {0}
-IsNoFailure DiskFailed = ⊥
-IsNoFailure (Crash file) = Unit {0}
-
--- none of the turns is
-abbrev pub NoneFails : List Turn → Type 0
-NoneFails [] = Unit {0}
-NoneFails (turn ∷ turns) = IsNoFailure turn × NoneFails turns
-
--- at this place of the drill, with this log, the books of its terminals are those by the log, at each hearing of one what was heard is a prefix of what it had sent, and no opening and no call on the disk has failed
+-- at this place of the drill, with this log, the books of its terminals are those by the log, and at each hearing of one what was heard is a prefix of what it had sent
 pub record IsDrillAt (from payments : ℕ) (log : List Turn) (place : Play) : Type 0 where
   pub first_book : book_of_peer place.peers 0 ≡ Some (drill_book from payments 0 log)
   pub second_book : book_of_peer place.peers 1 ≡ Some (drill_book from payments 1 log)
   pub first_hears : HearsSent (setting_at from payments 0) (exchanges_at 0 log)
   pub second_hears : HearsSent (setting_at from payments 1) (exchanges_at 1 log)
-  pub none_fails : NoneFails log
 
 -- ---- the laws
 

@@ -10,8 +10,7 @@ pub use counts::Counts;
 /// Along each lawful log whose runs start with the drill's setup, and in which each hearing of a terminal is of what it had sent, the
 /// books of the drill's terminals, with the places at which they book, are honest. So the headline holds of each drill: what was done,
 /// and what tills were sent, agrees with these books. They are the books that the commands sent to the terminals give, by their numbers.
-/// Wherever the drill is played to, its terminals have these books, what was heard of them is what they had sent, and no opening and no call
-/// on the disk has failed.
+/// Wherever the drill is played to, its terminals have these books, and what was heard of them is a prefix of what they had sent.
 pub fn law_drill_books()
     ensures honest { DrillIsHonest }
     ensures at { DrillIsAt }

@@ -2,6 +2,7 @@
 pub mod ByLinesActLemmas
 pub mod ByLinesLemmas
 pub mod DrillLemmas
+pub mod DrillSiteLemmas
 pub mod EndLemmas
 pub mod ExampleActLemmas
 pub mod ExampleLemmas
