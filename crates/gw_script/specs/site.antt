@@ -11,6 +11,7 @@ pub mod Example
 pub mod Grammar
 pub mod Hazards
 pub mod Laws
+pub mod NoFailures
 pub mod Peers
 pub mod Playing
 pub mod PowerExample

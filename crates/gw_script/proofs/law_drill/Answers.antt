@@ -4,6 +4,7 @@ use Rattle.std.specs.Fmt.{digits}
 use Rattle.sale_values.specs.Money.{money_text}
 use Rattle.zvt_apdu.specs.DecodeStream.{decode_apdus, decode_apdus_within}
 use Rattle.zvt_msg.specs.CommandDecode.{decode_command}
+use Rattle.gw_script.proofs.site.NoFailureLemmas.{drill-fails-no-call, no-call-fails}
 use Rattle.gw_script.proofs.law_drill.Goals as goal
 
 pub returns-clause-one : goal.returns-clause-one
@@ -23,3 +24,9 @@ returns-clause-comes c = record { place = _; reached = (_, _, (record { no_event
 pub returns-clause-silent : goal.returns-clause-silent
 unfolding decode_apdus decode_apdus_within decode_command
 returns-clause-silent c = record { place = _; reached = (_, _, (record { no_event = refl; no_failure = refl; power = refl }, refl), refl, (_, _, (record { no_event = refl; no_failure = refl; power = refl }, refl), refl, (_, _, (record { no_event = refl; no_failure = refl; power = refl }, refl), refl, (_, _, (record { no_event = refl; no_failure = refl; power = refl }, refl), refl, (_, _, (record { no_event = refl; no_failure = refl; power = refl }, refl), refl, (refl, refl)))))) }
+
+pub returns-clause-no_failures : goal.returns-clause-no_failures
+returns-clause-no_failures c = no-call-fails
+
+pub returns-clause-none : goal.returns-clause-none
+returns-clause-none c = drill-fails-no-call

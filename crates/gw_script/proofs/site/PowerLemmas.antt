@@ -325,7 +325,7 @@ call_none o p SyncCall none = either_none p.hazard.fail_sync (DiskFailed ∷ [])
 sum_within : (whole first more left most : ℕ) → whole ≡ first + more → first ≡ 0 → left ≤ most → (later : ℕ) → more + later ≤ left → whole + later ≤ most
 sum_within whole first more left most sum none a later b = omega arith
 
-steps_count : (steps : List SiteStep) → are_scripted steps ≡ true → (past : List Turn) (p : Play) (turns : List Turn) (after : Play) → LeadsBy past p steps turns after → power_failures turns + power_failures_left after ≤ power_failures_left p
+pub steps_count : (steps : List SiteStep) → are_scripted steps ≡ true → (past : List Turn) (p : Play) (turns : List Turn) (after : Play) → LeadsBy past p steps turns after → power_failures turns + power_failures_left after ≤ power_failures_left p
 steps_count [] own past p turns after (none, same) = omega (arith, ap power_failures none, ap power_failures_left same)
 steps_count (Made call ∷ steps) own past p turns after (made, later, (idle, made_is), is, rest) =
     sum_within (power_failures turns) (power_failures made) (power_failures later) (power_failures_left (place_after (outside_of past) p call)) (power_failures_left p)

@@ -157,7 +157,7 @@ payment_ends payment = Poll (Open (2 * payment.number)) ∷ Poll (FromTill (2 * 
 
 -- the lines of one payment: a till opens and asks it, time passes, and its status is asked
 abbrev pub payment_lines : DrillPayment → List PlayedLine
-payment_lines payment = payment_begins payment ++ Poll (FromTill (2 * payment.number - 1) (drill_payment_frame payment)) ∷ payment_waits payment ++ payment_ends payment
+payment_lines payment = payment_begins payment ++ (Poll (FromTill (2 * payment.number - 1) (drill_payment_frame payment)) ∷ (payment_waits payment ++ payment_ends payment))
 
 -- the lines of all payments
 abbrev pub drill_lines : List DrillPayment → List PlayedLine
@@ -188,6 +188,10 @@ drill_setting pt payments = record { none = 131; plays = drill_plays pt payments
 -- the terminals, which have met nothing yet
 abbrev pub drill_terminals : List DrillPayment → List TerminalValue
 drill_terminals payments = terminal_after (drill_setting 0 payments) [] ∷ terminal_after (drill_setting 1 payments) [] ∷ []
+
+-- what determines what is played in a drill: a text that no script has, by its two numbers
+abbrev pub drill_origin : ℕ → ℕ → List ℕ
+drill_origin from payments = 254 ∷ 10 ∷ from ∷ payments ∷ []
 
 -- before the first turn of the drill
 abbrev pub drill_begins : ℕ → ℕ → Play
