@@ -9,7 +9,7 @@ use Rattle.gw_run.specs.LogWritten.{Adds}
 use Rattle.gw_run.specs.Replay.{IsReportedEnd, WritesTail}
 use Rattle.gw_run.specs.Top.{HasRisen, Stream, status_of, tail_of}
 use Rattle.gw_run.specs.declared.ending.Ending.{Ending}
-use Rattle.gw_run.specs.declared.ending.Ending.TheVariants.{Played, Memory, OutputFailed}
+use Rattle.gw_run.specs.declared.ending.Ending.TheVariants.{Played, Words, Long, Line as AtLine, Input, NotOpened, Memory, OutputFailed, Disk, LongJournal, CutJournal, BadSlot}
 
 -- ---- what is printed
 
@@ -51,3 +51,28 @@ drill-ended status from payments out ending s cause printed = record {
   cause = cause;
   output = λ written e. let y = printed written e in (y.0, y.2, y.1);
 }
+
+-- for the numbers that the words ask for
+pub drill-ended-as : (status from payments other more : ℕ) (out : Stream) (ending : Ending) → (from ≡ other) × (payments ≡ more) → status ≡ status_of ending → DrillCause ending out → Adds out.before out.after (DrillPrinted from payments ending) → HasDrilled status other more out
+drill-ended-as status from payments other more out ending same s cause printed =
+    subst (λ n. HasDrilled status other n out) same.1 (subst (λ n. HasDrilled status n payments out) same.0 (drill-ended status from payments out ending s cause printed))
+
+-- without memory for the words
+pub memory-drilled : (status from payments : ℕ) (out : Stream) (ending : Ending) → status ≡ status_of ending → (ending ≡ OutputFailed → HasRisen out) → IsReportedEnd Memory ending → Adds out.before out.after (WritesTail Memory ending) → HasDrilled status from payments out
+memory-drilled status from payments out ending s rose which printed = drill-ended status from payments out ending s (drill-cause ending out (refused-end Memory ending refl which) rose)
+    (λ written e. let y = printed written e in (y.0, refused-printed from payments Memory ending y.0 refl y.1, y.2))
+
+-- no write has failed, so that it has ended well or memory was refused
+pub drill-complete : (status : ℕ) (ending : Ending) (out : Stream) → status ≡ status_of ending → DrillCause ending out → (HasRisen out → ⊥) → (status ≡ 0) ⊎ (status ≡ 71)
+drill-complete status Played out s cause calm = inl s
+drill-complete status Memory out s cause calm = inr s
+drill-complete status OutputFailed out s cause calm = absurd (calm cause)
+drill-complete status Words out s cause calm = absurd cause
+drill-complete status Long out s cause calm = absurd cause
+drill-complete status (AtLine line) out s cause calm = absurd cause
+drill-complete status Input out s cause calm = absurd cause
+drill-complete status NotOpened out s cause calm = absurd cause
+drill-complete status Disk out s cause calm = absurd cause
+drill-complete status (LongJournal size) out s cause calm = absurd cause
+drill-complete status (CutJournal slot) out s cause calm = absurd cause
+drill-complete status (BadSlot slot) out s cause calm = absurd cause

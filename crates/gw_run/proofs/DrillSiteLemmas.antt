@@ -3,7 +3,7 @@ use Rattle.std.proofs.Common.{◌≡◌, ℕ, ◌<◌, ◌≤◌, ◌+◌, List,
 use Rattle.std.proofs.Math.Logic.{∥∥₁_elim}
 use Rattle.std.proofs.lemmas.List.{length-map}
 use Rattle.std.specs.List.{AllByRecursion}
-use Rattle.std.specs.Prelude.{◌⊎◌, Bool, Option, Some, None}
+use Rattle.std.specs.Prelude.{◌⊎◌, ◌||◌, Bool, IsTrue, is_some, Option, Some, None}
 use Rattle.gw_base.specs.declared.setup.Setup.{Setup}
 use Rattle.gw_site.specs.Observed.{Observed}
 use Rattle.gw_site.specs.Steps.{Plan, PowerBack, SiteStep, TakenStep, log_of_parts, steps_of, turns_of_steps}
@@ -12,17 +12,21 @@ use Rattle.gw_site.specs.declared.turn.Turn.TheVariants.{Start, OpenFailed, Stop
 use Rattle.jrn_record.specs.Grammar.{record_body}
 use Rattle.jrn_record.specs.declared.records.Record.{Record}
 use Rattle.gw_ledger.specs.Sums.{tally_of}
+use Rattle.pt_core.specs.Book.{all_fit, last_trace}
+use Rattle.pt_core.specs.Exchange.{met_of}
+use Rattle.pt_core.specs.History.{Met, Setting, book_after}
 use Rattle.pt_core.specs.declared.book.BookEntry.{BookEntry}
 use Rattle.gw_script.proofs.site.StepTurnLemmas.{from_computed, to_log}
 use Rattle.gw_script.proofs.site.NoFailureLemmas.{drill-fails-no-call, no-call-fails}
 use Rattle.gw_script.proofs.site.PowerLemmas.{power-fails-once-per-line, steps_count}
 use Rattle.gw_script.specs.site.Calls.{LeadsBy, are_scripted}
-use Rattle.gw_script.specs.site.Drill.{drill_begins, drill_lines, drill_payments, drill_script, drill_terminals, drill_turns}
+use Rattle.gw_script.specs.site.Drill.{drill_begins, drill_lines, drill_origin, drill_payments, drill_script, drill_terminals, drill_turns}
 use Rattle.gw_script.specs.site.NoFailures.{HasNoFailedCall, is_failed_call}
 use Rattle.gw_script.specs.site.Peers.{book_of_peer}
 use Rattle.gw_script.specs.site.Playing.{Play, begins}
 use Rattle.gw_script.specs.site.Powers.{power_failures, power_failures_left, power_lines}
-use Rattle.sim_site.specs.Sites.{IsDrillPlayedTo, log_of, place_of, sim_observed}
+use Rattle.gw_script.specs.site.ScriptLine.{Script, setup_of}
+use Rattle.sim_site.specs.Sites.{IsDrillPlayedTo, is_log_full, log_of, place_of, played_script, sim_observed}
 use Rattle.sim_site.specs.declared.site.SimSite.{SimSite}
 use Rattle.gw_site.specs.Sorts.{sort_of}
 use Rattle.gw_rules.specs.Acts.{Act, Unopened, moves_of, taken_of}
@@ -36,12 +40,12 @@ use Rattle.gw_dispatch.specs.declared.engine.Ended.{Ended}
 use Rattle.gw_dispatch.specs.declared.engine.Ended.TheVariants.{Done, NotOpened as RunNotOpened, NoMemory, Disk as RunDisk, TooLong, Cut, BadRecord}
 use Rattle.gw_dispatch.specs.declared.engine.TalliedEnd.{TalliedEnd}
 use Rattle.gw_drill.specs.Counts.{IsCountable, counts_of}
-use Rattle.gw_drill.specs.DrillBooks.{AreHonest, DrillIsAt, DrillIsHonest, IsDrillAt, StartWith, drill_book, drill_setup}
+use Rattle.gw_drill.specs.DrillBooks.{DrillIsAt, DrillIsHonest, StartWith, drill_book, drill_setup, exchanges_at, setting_at}
 use Rattle.gw_drill.specs.declared.counts.Counts.{Counts}
 use Rattle.gw_run.specs.Drill.{HasCounted, IsDrillLog}
 use Rattle.gw_run.specs.Drills.{HasRunDrill}
 use Rattle.gw_run.specs.RunEnds.{ending_of}
-use Rattle.gw_run.specs.Runs.{FailsAtMost, HasPlayed, view_of}
+use Rattle.gw_run.specs.Runs.{FailsAtMost, HasPlayed, HasTallied, HasTalliedFrom, IsUnbegun, view_of}
 use Rattle.gw_run.specs.ScriptLog.{AreOpenings, HasLastTurn, is_power_failure}
 use Rattle.gw_run.specs.Top.{ShowsEnd}
 use Rattle.gw_run.specs.declared.ending.Ending.{Ending}
@@ -188,3 +192,57 @@ drill-fails from payments steps parts scripted e counted =
     let lines = (drill_script from payments).lines in
     let few : power_failures_left (begins lines) ≤ power_lines lines = power-fails-once-per-line.steps_leave lines [] [] (begins lines) refl (refl, refl) in
     omega (arith, most, few)
+
+-- ---- as it is asked
+
+lit-room : (short other : Bool) → (short || other) ≡ false → short ≡ false
+lit-room true other e = e
+lit-room false other e = refl
+
+-- the books of the site's place, by what is known of its log
+pub site-books : (from payments : ℕ) (end : TalliedEnd) (site : SimSite) (log : List Turn) → HasRunDrill from payments end site → end.ended ≡ Done → length log < 18446744073709551615 → log ≡ log_of site → DrillIsAt → (is_log_full site ≡ false → IsDrillPlayedTo (sim_observed site).origin log (place_of site))
+    → (book_of_peer (place_of site).peers 0 ≡ Some (drill_book from payments 0 (log_of site))) × (book_of_peer (place_of site).peers 1 ≡ Some (drill_book from payments 1 (log_of site)))
+site-books from payments end site log ran done few log_is is_at played_to =
+    let other : end.ended ≡ NoMemory → ⊥ = λ memory. (let n : Done ≡ NoMemory = sym done ∙ memory in cc) in
+    let few_there : length (log_of site) < 18446744073709551615 = subst (λ l. length l < 18446744073709551615) log_is few in
+    let room : is_log_full site ≡ false = lit-room site.played.short (is_some site.played.place.off) (ran.lit other) in
+    books-are from payments end site ran few_there done is_at (subst (λ l. IsDrillPlayedTo (sim_observed site).origin l (place_of site)) log_is (played_to room))
+
+-- one of them, as it was given
+pub book-is : (book drill : List BookEntry) (peers : Option (List BookEntry)) → Some book ≡ peers → peers ≡ Some drill → book ≡ drill
+book-is book drill peers given is = let n : Some book ≡ Some drill = given ∙ is in cc
+
+-- it can be counted
+pub book-countable : (from payments pt : ℕ) (log : List Turn) (book : List BookEntry) → ((setting : Setting) (met : List Met) → IsTrue (all_fit (book_after setting met))) → ((setting : Setting) (met : List Met) → length (book_after setting met) ≤ last_trace) → book ≡ drill_book from payments pt log → IsCountable book
+book-countable from payments pt log book fit few is = subst IsCountable (sym is) (record { fit = fit (setting_at from payments pt) (met_of (exchanges_at pt log)); few = few (setting_at from payments pt) (met_of (exchanges_at pt log)) })
+
+-- the drill has counted this
+pub has-counted : (from payments : ℕ) (end : TalliedEnd) (site : SimSite) (log : List Turn) (counts : Counts) (first second : List BookEntry) → HasRunDrill from payments end site → end.ended ≡ Done → length log < 18446744073709551615 → log ≡ log_of site
+    → EachLogAgrees → EachHasOneLeanCourse → EachLawfulHasKept → DrillIsAt → DrillIsHonest → first ≡ drill_book from payments 0 (log_of site) → second ≡ drill_book from payments 1 (log_of site) → counts ≡ counts_of end.tally first second → HasCounted from payments counts
+has-counted from payments end site log counts first second ran done few log_is headline one_course has_kept is_at is_honest first_is second_is counts_are =
+    let few_there : length (log_of site) < 18446744073709551615 = subst (λ l. length l < 18446744073709551615) log_is few in
+    subst (HasCounted from payments) (sym counts_are) (counted from payments end site ran few_there done headline one_course has_kept is_at is_honest first second first_is second_is)
+
+-- or memory was refused
+pub end-refused : (from payments : ℕ) (end : TalliedEnd) (site : SimSite) (log : List Turn) → HasRunDrill from payments end site → (end.ended ≡ Done → ⊥) → length log < 18446744073709551615 → log ≡ log_of site → ending_of end.ended ≡ Memory
+end-refused from payments end site log ran undone few log_is = refused from payments end site ran (subst (λ l. length l < 18446744073709551615) log_is few) undone
+
+-- ---- before the first run
+
+-- nothing was played of the drill
+pub drill-unbegun : (from payments : ℕ) (site : SimSite) → sim_observed site ≡ record { log = Some []; faults = 0; dark = false; origin = drill_origin from payments; plan = Some (drill_turns from payments) } → played_script site ≡ drill_script from payments → IsUnbegun (played_script site).lines (sim_observed site)
+drill-unbegun from payments site fresh script = subst (λ (s : Script). IsUnbegun s.lines (sim_observed site)) (sym script) (record {
+  log_is = ap (λ (o : Observed). o.log) fresh;
+  whole = drill_turns from payments;
+  plan_is = ap (λ (o : Observed). o.plan) fresh;
+  few = drill-fails from payments;
+})
+
+-- and all runs were made
+pub drill-ran : (from payments : ℕ) (old site : SimSite) (end : TalliedEnd) → sim_observed old ≡ record { log = Some []; faults = 0; dark = false; origin = drill_origin from payments; plan = Some (drill_turns from payments) } → played_script old ≡ drill_script from payments
+    → HasTalliedFrom (sim_observed old) (setup_of (played_script old).given) end (sim_observed site) (log_of site) → ((end.ended ≡ NoMemory → ⊥) → (sim_observed site).dark ≡ false) → (sim_observed site).origin ≡ (sim_observed old).origin → HasRunDrill from payments end site
+drill-ran from payments old site end fresh script ran lit origin = record {
+  ran = subst (λ (s : Script). HasTallied (setup_of s.given) (drill_turns from payments) end (sim_observed site) (log_of site)) script (ran (drill_turns from payments) (ap (λ (o : Observed). o.plan) fresh));
+  lit = lit;
+  origin_is = origin ∙ ap (λ (o : Observed). o.origin) fresh;
+}

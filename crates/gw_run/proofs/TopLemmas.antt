@@ -98,6 +98,11 @@ pub replay-reads : {A : Type 0} (words : List (List ℕ)) (order : Order) → So
 replay-reads words order is replay (inl none) = none-or-some order (sym none ∙ sym is)
 replay-reads words order is replay (inr (from, payments, asks)) = replay-no-drill words order from payments is replay asks
 
+-- what serves is no replay, nor refused
+pub serve-ends-none : {A : Type 0} (words : List (List ℕ)) (order : Order) → Some order ≡ order_of words → order.mode ≡ Serve → AskForReplayOrNothing words → A
+serve-ends-none words order is serve (inl replay) = serve-no-replay words order is serve replay
+serve-ends-none words order is serve (inr none) = none-or-some order (sym none ∙ sym is)
+
 pub serve-reads : {A : Type 0} (words : List (List ℕ)) (order : Order) → Some order ≡ order_of words → order.mode ≡ Serve → AskToReadNothing words → A
 serve-reads words order is serve nothing = serve-alone words order is serve (inr nothing)
 

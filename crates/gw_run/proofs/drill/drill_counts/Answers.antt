@@ -1,0 +1,6 @@
+-- Proof of the contract of `drill_counts`.
+use Rattle.gw_run.proofs.DrillSiteLemmas.{drill-ran, drill-unbegun}
+use Rattle.gw_run.proofs.drill.drill_counts.Goals as goal
+
+pub play_site-end-requires : goal.play_site-end-requires
+play_site-end-requires c = drill-unbegun c.args.from c.args.payments c.in-Ok.site c.in-Ok.ensures.site c.in-Ok.ensures.script
