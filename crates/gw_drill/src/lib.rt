@@ -3,6 +3,7 @@
 
 mod counts;
 
+ghost use Rattle.gw_drill.specs.CountsExample.{NothingIsCounted, OneIsCounted};
 ghost use Rattle.gw_drill.specs.DrillBooks.{DrillIsAt, DrillIsHonest};
 
 pub use counts::Counts;
@@ -19,3 +20,9 @@ pub fn law_drill_books()
     pt_core::law_met();
     zvt_apdu::law_decode_apdus();
 }
+
+/// The six lines of a drill with no payment, and of one with an approved payment: these are computed.
+pub fn law_drill_counts()
+    ensures none { NothingIsCounted }
+    ensures one { OneIsCounted }
+{}
