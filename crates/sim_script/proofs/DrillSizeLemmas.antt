@@ -1,9 +1,9 @@
 -- How long the drill's messages are at most.
-use Rattle.std.proofs.Common.{◌≡◌, ℕ, codes, ◌+◌, ◌*◌, ◌/◌, ◌%◌, ◌<◌, ◌≤◌, ◌^◌, List, [], ◌∷◌, ◌++◌, length, refl, zero, suc, arith, length-append, lit≤, lit<, nat_eq, Bool, true, false}
+use Rattle.std.proofs.Common.{◌≡◌, ℕ, codes, ◌+◌, ◌*◌, ◌/◌, ◌%◌, ◌≤◌, List, [], ◌∷◌, ◌++◌, length, refl, zero, suc, arith, length-append, lit≤, lit<, nat_eq, Bool, true, false}
 use Rattle.std.specs.Prelude.{flat_map, nat_lt, ◌||◌, if◌then◌else◌}
 use Rattle.std.specs.Fmt.{decimal}
 use Rattle.std.specs.Char.{digit_char}
-use Rattle.std.proofs.lemmas.Fmt.{length-decimal-le, decimal_nonempty}
+use Rattle.std.proofs.lemmas.Fmt.{length-decimal-le}
 use Rattle.json_text.specs.Canonical.{canonical, canonical_byte, canonical_first, canonical_first_member, canonical_more, canonical_more_members, canonical_string}
 use Rattle.json_text.specs.Tree.{Tree, null, boolean, number, string, array, object, Elements, no_elements, element, Members, no_members, member}
 use Rattle.gw_base.specs.Digits.{digits}

@@ -1,5 +1,5 @@
 -- A payment of the drill, as it is drawn and as the drill's definition has it.
-use Rattle.std.specs.Prelude.{ℕ, ◌≤◌, option_map}
+use Rattle.std.specs.Prelude.{◌≤◌, option_map}
 use Rattle.gw_script.specs.site.Drill.{DrillPayment}
 use Rattle.gw_script.specs.site.Hazards.{Armed}
 use Rattle.sim_script.specs.Values.{image_value}

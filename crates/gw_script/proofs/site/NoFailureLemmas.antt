@@ -4,14 +4,13 @@ use Rattle.std.specs.Prelude.{Bool, ◌-◌, ◌==◌, nat_le, not, if◌then◌
 use Rattle.gw_base.specs.declared.setup.Setup.{Setup}
 use Rattle.gw_site.specs.Outside.{Outside, outside_of}
 use Rattle.gw_site.specs.declared.turn.Turn.{Turn}
-use Rattle.gw_site.specs.declared.turn.Turn.TheVariants.{Start, OpenFailed, Linked, LinkFailed, Polled, SentPt, SentTill, Synced, DiskFailed, Wrote, Stopped, Crash}
+use Rattle.gw_site.specs.declared.turn.Turn.TheVariants.{Start, OpenFailed, Linked, LinkFailed, SentPt, SentTill, Synced, DiskFailed, Wrote, Crash}
 use Rattle.gw_site.specs.Steps.{ImageKind, SiteCall, OpenCall, PollCall, SendTillCall, SendPtCall, LinkCall, CutTillCall, CutPtCall, LengthCall, ReadCall, WriteCall, SyncCall, SiteStep, Made, PowerBack, StopAfter, Holding}
-use Rattle.pt_core.specs.Serving.{TerminalValue}
 use Rattle.gw_script.specs.site.Calls.{LeadsBy, call_turns, place_after, play_from, polled_place, polled_turns, set_to_fail}
 use Rattle.gw_script.specs.site.Drill.{DrillPayment, drill_lines, payment_lines, power_set, power_unset}
 use Rattle.gw_script.specs.site.Hazards.{Armed, Hazard, crash_file, is_failing, no_hazard, sent_of, takes_most}
-use Rattle.gw_script.specs.site.NoFailures.{DrillFailsNoCall, HasNoFailedCall, HaveNoFailingCall, NoCallFails, is_failed_call}
-use Rattle.gw_script.specs.site.Playing.{DiskCall, Length, Play, Read, Sync, Write, after_poll, applies, begins_with, brings, brought, counted, early_hazard, early_lines, is_off, linked_to_pt, met, met_coming, one_call_less, power_forgotten, powered, restarted, send_failed_pt, send_failed_till, sent_to_pt, then_coming}
+use Rattle.gw_script.specs.site.NoFailures.{DrillFailsNoCall, HasNoFailedCall, HaveNoFailingCall, NoCallFails}
+use Rattle.gw_script.specs.site.Playing.{DiskCall, Length, Play, Read, Sync, Write, after_poll, applies, begins_with, brings, counted, early_hazard, early_lines, is_off, linked_to_pt, met, met_coming, one_call_less, power_forgotten, powered, restarted, send_failed_pt, send_failed_till, sent_to_pt, then_coming}
 use Rattle.gw_script.specs.site.ScriptLine.{Event, Open, Close, FromTill, FromPt, Lose, Tick, PlayedLine, At, Poll, Fail, Power, ForgetPower}
 
 -- no call is to fail, and none by the lines that are left

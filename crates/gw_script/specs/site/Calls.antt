@@ -1,6 +1,5 @@
 -- The turns of each call of the gateway, by what is handed to it and by how far the script is played. A log alone shows neither what was to be sent nor a look that succeeds; `Playing` says which turns fit by the log alone.
 use Rattle.std.specs.Prelude.{◌≡◌, ℕ, Bool, true, false, not, ◌==◌, if◌then◌else◌, List, [], ◌∷◌, ◌++◌, Option, Some, None, is_some}
-use Rattle.gw_base.specs.declared.setup.Setup.{Setup}
 use Rattle.gw_site.specs.Outside.{Outside, outside_after, outside_of}
 use Rattle.gw_site.specs.declared.turn.Turn.{Turn}
 use Rattle.gw_site.specs.declared.turn.Turn.TheVariants.{Start, OpenFailed, Polled, Linked, LinkFailed, SentTill, SentPt, CutTill, CutPt, Wrote, Synced, DiskFailed, Crash}

@@ -1,5 +1,5 @@
 -- Closed examples: the payments that the drill draws, their lines and messages, and what comes of played terminals.
-use Rattle.std.specs.Prelude.{◌≡◌, ℕ, pos, false, true, List, [], ◌∷◌, ◌++◌, Some, None, codes}
+use Rattle.std.specs.Prelude.{◌≡◌, ℕ, pos, false, true, List, [], ◌∷◌, Some, None, codes}
 use Rattle.gw_site.specs.declared.turn.Turn.TheVariants.{HeardPt, Linked, Lost, Polled, SentPt, Start, Stopped}
 use Rattle.gw_site.specs.Steps.{LinkCall, Made, OpenCall, Old, PollCall, SendPtCall}
 use Rattle.sale_frame.specs.Grammar.{frame}
@@ -11,7 +11,7 @@ use Rattle.gw_script.specs.site.CallExample.{plain}
 use Rattle.gw_script.specs.site.Drill.{DrillPayment, draw_at, drill_lines, drill_payment_frame, drill_payments, drill_plays, drill_status_frame, payment_drawn}
 use Rattle.gw_script.specs.site.Peers.{book_of_peer}
 use Rattle.gw_script.specs.site.Playing.{Play}
-use Rattle.gw_script.specs.site.ScriptLine.{Open, Close, FromTill, Tick, PlayedLine, At, Poll, Power, ForgetPower}
+use Rattle.gw_script.specs.site.ScriptLine.{Open, Close, FromTill, Tick, At, Poll, Power, ForgetPower}
 
 -- the draws after 1, and the payment that they give
 pub record DrawsOfOne : Type 0 where

@@ -1,4 +1,4 @@
--- Played terminals of a site: what a new link and bytes do to them, and what is still to come of them, which polls bring before the script goes on.
+-- Played terminals of a site: what a new link and bytes do to them, and the events that they bring before the script goes on.
 use Rattle.std.specs.Prelude.{ℕ, ◌==◌, nat_le, Bool, true, false, not, if◌then◌else◌, List, [], ◌∷◌, ◌++◌, length, filter, Option, Some, None, slice_get, slice_set, option_map}
 use Rattle.pt_core.specs.declared.book.BookEntry.{BookEntry}
 use Rattle.pt_core.specs.Serving.{Served, TerminalValue, heard_by_terminal, next_terminal}

@@ -1,6 +1,5 @@
 -- Proof of the contract of `status_frame`.
 use Rattle.std.proofs.Common.{◌≡◌, ◌∙◌, IfOk, ap, subst, codes}
-use Rattle.sale_frame.specs.Grammar.{frame}
 use Rattle.gw_script.specs.site.Drill.{drill_header, drill_status_request}
 use Rattle.sim_script.specs.Drawn.{payment_value}
 use Rattle.sim_script.proofs.DrillLemmas.{same_frame, same_most}
