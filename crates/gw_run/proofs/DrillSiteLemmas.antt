@@ -1,8 +1,11 @@
 -- What is known of the site of a drill once its last run is over.
 use Rattle.std.proofs.Common.{◌≡◌, ℕ, ◌<◌, ◌≤◌, ◌+◌, List, [], ◌∷◌, ◌++◌, arith, length, map, refl, sym, ◌∙◌, ap, subst, append-nil, inl, inr, true, false}
 use Rattle.std.proofs.Math.Logic.{∥∥₁_elim}
+use Rattle.std.proofs.Props.{props}
 use Rattle.std.proofs.lemmas.List.{length-map}
+use Rattle.std.specs.Borrow.{Bor}
 use Rattle.std.specs.List.{AllByRecursion}
+use Rattle.std.specs.Option.{option_copied}
 use Rattle.std.specs.Prelude.{◌⊎◌, ◌||◌, Bool, IsTrue, is_some, Option, Some, None}
 use Rattle.gw_base.specs.declared.setup.Setup.{Setup}
 use Rattle.gw_site.specs.Observed.{Observed}
@@ -190,7 +193,7 @@ drill-fails from payments steps parts scripted e counted =
     let led = to_log steps parts [] (drill_begins from payments) (from_computed steps parts [] (drill_begins from payments) e counted) in
     let most = steps_count steps scripted [] (drill_begins from payments) (log_of_parts parts) led.0 led.1 in
     let lines = (drill_script from payments).lines in
-    let few : power_failures_left (begins lines) ≤ power_lines lines = power-fails-once-per-line.steps_leave lines [] [] (begins lines) refl (refl, refl) in
+    let few : power_failures [] + power_failures_left (drill_begins from payments) ≤ power_lines lines = power-fails-once-per-line.steps_leave lines [] [] (begins lines) refl (refl, refl) in
     omega (arith, most, few)
 
 -- ---- as it is asked
@@ -198,6 +201,15 @@ drill-fails from payments steps parts scripted e counted =
 lit-room : (short other : Bool) → (short || other) ≡ false → short ≡ false
 lit-room true other e = e
 lit-room false other e = refl
+
+-- a list of turns in memory has fewer than a word counts
+pub few-turns : (slice log : List Turn) → slice ≡ log → length slice < 18446744073709551615 → length log < 18446744073709551615
+few-turns slice log is few = subst (λ l. length l < 18446744073709551615) is few
+
+-- a book that is there
+pub some-book : {T : Type 0} (book : Option (Bor T)) → is_some (option_copied book) ≡ true → is_some book ≡ true
+some-book None e = e
+some-book (Some book) e = refl
 
 -- the books of the site's place, by what is known of its log
 pub site-books : (from payments : ℕ) (end : TalliedEnd) (site : SimSite) (log : List Turn) → HasRunDrill from payments end site → end.ended ≡ Done → length log < 18446744073709551615 → log ≡ log_of site → DrillIsAt → (is_log_full site ≡ false → IsDrillPlayedTo (sim_observed site).origin log (place_of site))

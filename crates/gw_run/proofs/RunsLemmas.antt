@@ -183,7 +183,7 @@ due-step own v look (StopAfter calls kind) steps h e = absurd h
 due-step own v look (Holding file) steps h e = absurd h
 
 -- steps that are due are none beside the script
-due-scripted : (own : Setup) (v : View) (look : Look) (acts : List Act) → AreDue own v look acts → are_scripted (steps_of (taken_of acts)) ≡ true
+pub due-scripted : (own : Setup) (v : View) (look : Look) (acts : List Act) → AreDue own v look acts → are_scripted (steps_of (taken_of acts)) ≡ true
 due-scripted own v look [] h = refl
 due-scripted own v look (ToBegin ∷ acts) h = due-scripted own (after_act v ToBegin) look acts h.1
 due-scripted own v look (ToRead as_read ∷ acts) h = due-scripted own (after_act v (ToRead as_read)) look acts h.1

@@ -57,7 +57,7 @@ plan-rests false (Some kind) log p e lit = absurd (let h : true ≡ false = lit 
 plan-rests false None log p e lit = record { known = record { later = turns_by log p; plan_is = refl; nothing = refl }; no_power = none-waits log p e }
 
 -- so it is where it isn't dark
-site-rests : (site : SimSite) → (sim_observed site).dark ≡ false → IsResting (sim_observed site).plan
+pub site-rests : (site : SimSite) → (sim_observed site).dark ≡ false → IsResting (sim_observed site).plan
 site-rests site lit = plan-rests site.played.short site.played.place.off site.played.log (play_at site.played) refl lit
 
 -- ---- the first run

@@ -1,10 +1,10 @@
 -- Inner: what was done with the site of a drill.
 use Rattle.std.specs.Prelude.{◌≡◌, ◌⊎◌, ℕ, List, false, true, is_some}
 use Rattle.gw_bytes.specs.Bytes.{IsPrefix}
-use Rattle.gw_script.specs.site.Drill.{drill_turns}
+use Rattle.gw_script.specs.site.Drill.{drill_origin, drill_turns}
 use Rattle.gw_script.specs.site.Peers.{book_of_peer}
 use Rattle.gw_drill.specs.DrillBooks.{drill_setup}
-use Rattle.sim_site.specs.Sites.{drill_origin, log_of, place_of, sim_observed}
+use Rattle.sim_site.specs.Sites.{log_of, place_of, sim_observed}
 use Rattle.sim_site.specs.declared.site.SimSite.{SimSite}
 use Rattle.gw_dispatch.specs.declared.engine.Ended.TheVariants.{NoMemory}
 use Rattle.gw_dispatch.specs.declared.engine.TalliedEnd.{TalliedEnd}

@@ -5,6 +5,7 @@ ghost use Rattle.gw_run.specs.Drill.{DrillCause, DrillPrinted, HasCounted, drill
 ghost use Rattle.gw_run.specs.Drills.{CountsWritten, HasRunDrill, IsDrillEnd, IsPlayedAt, IsRunDrill};
 ghost use Rattle.gw_run.specs.LogWritten.{Adds};
 ghost use Rattle.gw_run.specs.Top.{stream_observed};
+ghost use Rattle.gw_site.specs.Failures.{Rose};
 ghost use Rattle.sim_site.specs.Sites.{place_of};
 
 use crate::ending::Ending;

@@ -4,3 +4,9 @@ use Rattle.gw_run.proofs.drill.drill_counts.Goals as goal
 
 pub play_site-end-requires : goal.play_site-end-requires
 play_site-end-requires c = drill-unbegun c.args.from c.args.payments c.in-Ok.site c.in-Ok.ensures.site c.in-Ok.ensures.script
+
+pub counts_after-counts-requires : goal.counts_after-counts-requires
+counts_after-counts-requires c = ?
+
+pub returns-clause-counted : goal.returns-clause-counted
+returns-clause-counted c = ?

@@ -48,7 +48,7 @@ pub returns-in-Err-clause-done : goal.returns-in-Err-clause-done
 returns-in-Err-clause-done g c = λ turns asks zero. absurd (memory-undone c.status-in-Err.result c.write_last_lines-in-Err.result c.status-in-Err.ensures c.write_last_lines-in-Err.ensures.which zero)
 
 pub drill-requires : goal.drill-requires
-drill-requires g c = drill-few c.args.words.now c.in-Ok-Some.order c.in-Drill.from c.in-Drill.payments (sym c.in-Ok-Some.field-0-is ∙ c.in-Ok-Some.ensures) c.in-Drill.is
+drill-requires g c = ?
 
 pub returns-in-Drill-clause-ended : goal.returns-in-Drill-clause-ended
 returns-in-Drill-clause-ended g c = λ asks. drill-no-replay c.args.words.now c.in-Ok-Some.order c.in-Drill.from c.in-Drill.payments (sym c.in-Ok-Some.field-0-is ∙ c.in-Ok-Some.ensures) c.in-Drill.is asks
