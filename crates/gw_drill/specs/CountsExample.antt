@@ -12,12 +12,12 @@ no_tally = record { accepted = 0; approved = 0; declined = 0; unresolved = 0; su
 abbrev pub one_tally : Tally
 one_tally = record { accepted = 1; approved = 1; declined = 0; unresolved = 0; sum = 69549 }
 
--- an approved payment in a book, and a declined one
+-- an approved payment in a book, and one that is not approved
 abbrev pub approved_entry : BookEntry
 approved_entry = record { number = 1; receipt = 1; amount = 69549; reversal = false; approved = true }
 
-abbrev pub declined_entry : BookEntry
-declined_entry = record { number = 2; receipt = 2; amount = 300; reversal = false; approved = false }
+abbrev pub unapproved_entry : BookEntry
+unapproved_entry = record { number = 2; receipt = 2; amount = 300; reversal = false; approved = false }
 
 -- with no payment each number is 0
 abbrev pub NothingIsCounted : Type 0
@@ -25,4 +25,4 @@ NothingIsCounted = counts_text (counts_of no_tally [] []) ≡ codes "accepted 0\
 
 -- one payment is approved; an entry that isn't approved counts for nothing
 abbrev pub OneIsCounted : Type 0
-OneIsCounted = counts_text (counts_of one_tally (declined_entry ∷ []) (approved_entry ∷ [])) ≡ codes "accepted 1\napproved 1\ndeclined 0\nopen 0\nentries 1\nsum 69549\n"
+OneIsCounted = counts_text (counts_of one_tally (unapproved_entry ∷ []) (approved_entry ∷ [])) ≡ codes "accepted 1\napproved 1\ndeclined 0\nopen 0\nentries 1\nsum 69549\n"

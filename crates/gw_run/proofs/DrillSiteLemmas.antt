@@ -48,7 +48,7 @@ use Rattle.gw_drill.specs.declared.counts.Counts.{Counts}
 use Rattle.gw_run.specs.Drill.{HasCounted, IsDrillLog}
 use Rattle.gw_run.specs.Drills.{HasRunDrill}
 use Rattle.gw_run.specs.RunEnds.{ending_of}
-use Rattle.gw_run.specs.Runs.{FailsAtMost, HasPlayed, HasTallied, HasTalliedFrom, IsUnbegun, view_of}
+use Rattle.gw_run.specs.PlayedRuns.{FailsAtMost, HasPlayed, HasTallied, HasTalliedFrom, IsUnbegun, view_of}
 use Rattle.gw_run.specs.ScriptLog.{AreOpenings, HasLastTurn, is_power_failure}
 use Rattle.gw_run.specs.Top.{ShowsEnd}
 use Rattle.gw_run.specs.declared.ending.Ending.{Ending}
@@ -198,7 +198,7 @@ drill-fails from payments steps parts scripted e counted =
 
 -- ---- as it is asked
 
-lit-room : (short other : Bool) → (short || other) ≡ false → short ≡ false
+lit-room : (full other : Bool) → (full || other) ≡ false → full ≡ false
 lit-room true other e = e
 lit-room false other e = refl
 

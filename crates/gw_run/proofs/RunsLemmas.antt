@@ -30,7 +30,7 @@ use Rattle.gw_dispatch.specs.declared.engine.Ended.{Ended}
 use Rattle.gw_dispatch.specs.declared.engine.TalliedEnd.{TalliedEnd}
 use Rattle.gw_dispatch.specs.declared.engine.Ended.TheVariants.{Done, NotOpened as RunNotOpened, NoMemory, Disk as RunDisk, TooLong, Cut, BadRecord}
 use Rattle.gw_run.specs.RunEnds.{ending_of}
-use Rattle.gw_run.specs.Runs.{FailsAtMost, HasPlayed, HasTallied, view_of}
+use Rattle.gw_run.specs.PlayedRuns.{FailsAtMost, HasPlayed, HasTallied, view_of}
 use Rattle.gw_run.specs.ScriptLog.{AreOpenings, HasLastTurn, HasDone}
 use Rattle.gw_run.specs.Top.{ShowsEnd}
 use Rattle.gw_run.specs.declared.ending.Ending.TheVariants.{Memory}

@@ -26,7 +26,7 @@ use Rattle.gw_dispatch.specs.declared.engine.Ended.TheVariants.{Done, NoMemory, 
 use Rattle.gw_dispatch.specs.declared.engine.TalliedEnd.{TalliedEnd}
 use Rattle.gw_run.specs.Replay.{HasEnd, IsFresh, IsPlayEnd, IsPlayOf, IsWrittenEnd}
 use Rattle.gw_run.specs.RunEnds.{ending_of}
-use Rattle.gw_run.specs.Runs.{FailsAtMost, HasPlayed, HasRun, HasRunAgain, HasTallied, HasTalliedFrom, IsUnbegun}
+use Rattle.gw_run.specs.PlayedRuns.{FailsAtMost, HasPlayed, HasRun, HasRunAgain, HasTallied, HasTalliedFrom, IsUnbegun}
 use Rattle.gw_run.specs.ScriptLog.{IsEnded, IsLogOf}
 use Rattle.gw_run.specs.Top.{ShowsEnd}
 use Rattle.gw_run.specs.declared.ending.Ending.{Ending}

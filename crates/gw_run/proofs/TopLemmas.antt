@@ -202,3 +202,9 @@ serves-status IsOwn status most turns ending before new s same serves = subst (�
 pub serve-status-complete : (status : ℕ) (ending : ServeEnding) → status ≡ serve_status ending → (ending ≡ Other Played) ⊎ (ending ≡ Other Memory) → (status ≡ 0) ⊎ (status ≡ 71)
 serve-status-complete status ending s (inl played) = inl (s ∙ ap serve_status played)
 serve-status-complete status ending s (inr memory) = inr (s ∙ ap serve_status memory)
+
+-- ---- the order
+
+-- the order that is taken out is that which was read
+pub order-there : (taken order : Order) (read asked : Option Order) → taken ≡ order → read ≡ Some order → read ≡ asked → Some taken ≡ asked
+order-there taken order read asked same some is = ap Some same ∙ sym some ∙ is

@@ -46,12 +46,12 @@ abbrev pub drill_text : Counts → List ℕ
 drill_text counts = counts_text counts ++ tail_of Played
 
 -- so it is of what the drill has counted
-abbrev pub IsCounted : ℕ → ℕ → List ℕ → Type 0
-IsCounted from payments text = (counts : Counts) × HasCounted from payments counts × (text ≡ drill_text counts)
+abbrev pub IsCountsText : ℕ → ℕ → List ℕ → Type 0
+IsCountsText from payments text = (counts : Counts) × HasCounted from payments counts × (text ≡ drill_text counts)
 
 -- the table of what is printed: what a drill that ends so prints, if no write fails; it has no other end
 abbrev pub DrillPrints : ℕ → ℕ → Ending → List ℕ → Type 0
-DrillPrints from payments Played text = IsCounted from payments text
+DrillPrints from payments Played text = IsCountsText from payments text
 DrillPrints from payments Words text = ⊥
 DrillPrints from payments Long text = ⊥
 DrillPrints from payments (AtLine line) text = ⊥

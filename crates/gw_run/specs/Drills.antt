@@ -10,7 +10,7 @@ use Rattle.gw_dispatch.specs.declared.engine.Ended.TheVariants.{NoMemory}
 use Rattle.gw_dispatch.specs.declared.engine.TalliedEnd.{TalliedEnd}
 use Rattle.gw_drill.specs.declared.counts.Counts.{Counts}
 use Rattle.gw_run.specs.Drill.{drill_text}
-use Rattle.gw_run.specs.Runs.{HasTallied}
+use Rattle.gw_run.specs.PlayedRuns.{HasTallied}
 use Rattle.gw_run.specs.Top.{tail_of}
 use Rattle.gw_run.specs.declared.ending.Ending.{Ending}
 use Rattle.gw_run.specs.declared.ending.Ending.TheVariants.{Played, Memory, OutputFailed}

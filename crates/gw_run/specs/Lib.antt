@@ -4,12 +4,12 @@ pub mod Drills
 pub mod Example
 pub mod Laws
 pub mod LogWritten
+pub mod PlayedRuns
 pub mod PowerExample
 pub mod ReadyExample
 pub mod Replay
 pub mod RunEnds
 pub mod ScriptLog
-pub mod Runs
 pub mod Serve
 pub mod Serving
 pub mod Top

@@ -3,7 +3,7 @@ ghost use Rattle.std.specs.Prelude.{◌≡◌, ◌⊎◌, ◌≤◌, List, ℕ, 
 ghost use Rattle.gw_site.specs.Failures.{Rose};
 ghost use Rattle.gw_run.specs.LogWritten.{Adds};
 ghost use Rattle.gw_run.specs.Replay.{HasEnd, IsFresh, IsPlayEnd, IsPlayOf, IsWrittenEnd, PlayPrinted};
-ghost use Rattle.gw_run.specs.Runs.{IsUnbegun};
+ghost use Rattle.gw_run.specs.PlayedRuns.{IsUnbegun};
 ghost use Rattle.gw_script.specs.site.Decode.{script_of};
 ghost use Rattle.gw_run.specs.Top.{ShowsEnd};
 ghost use Rattle.sim_site.specs.Sites.{played_script, sim_observed};

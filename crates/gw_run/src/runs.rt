@@ -3,7 +3,7 @@ ghost use Rattle.std.specs.Prelude.{◌≡◌, ◌≢◌, ◌⊎◌, ℕ, Some, 
 ghost use Rattle.gw_base.specs.Setup.{IsSetup};
 ghost use Rattle.gw_site.specs.Steps.{Plan};
 ghost use Rattle.gw_script.specs.site.ScriptLine.{setup_of};
-ghost use Rattle.gw_run.specs.Runs.{FailsAtMost, HasPlayed, HasRunAgain, HasTalliedFrom, IsUnbegun};
+ghost use Rattle.gw_run.specs.PlayedRuns.{FailsAtMost, HasPlayed, HasRunAgain, HasTalliedFrom, IsUnbegun};
 ghost use Rattle.sim_site.specs.Sites.{is_crashed, log_of, played_script, sim_observed};
 
 use gw_base::Setup;

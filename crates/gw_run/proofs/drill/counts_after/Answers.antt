@@ -1,5 +1,5 @@
 -- Proof of the contract of `counts_after`.
-use Rattle.std.proofs.Common.{ap, arith}
+use Rattle.std.proofs.Common.{◌∙◌, ap, arith}
 use Rattle.std.specs.Prelude.{is_some}
 use Rattle.gw_script.specs.site.Peers.{book_of_peer}
 use Rattle.sim_site.specs.Sites.{log_of, place_of}
@@ -35,4 +35,7 @@ returns-in-Done-clause-counted c = λ from payments ran.
     (book-is c.book_of.result.now _ (book_of_peer (place_of c.args.site.now).peers 0) c.book_of.ensures books.0) (book-is c.book_of-in-Done.result.now _ (book_of_peer (place_of c.args.site.now).peers 1) c.book_of-in-Done.ensures books.1) c.of.ensures
 
 pub returns-in_default : goal.returns-in_default
-returns-in_default c = ?
+returns-in_default c = record {
+  counted = λ from payments ran. tt;
+  refused = c.ending_of.ensures ∙ end-refused c.requires.0 c.requires.1 c.args.end c.args.site.now c.log.result.now c.requires.2 c.in_default.not-Done (few-turns c.as_slice-log.result.now c.log.result.now c.as_slice-log.ensures (let size = c.as_slice-log.type_inv.1 in omega (arith, size))) c.log.ensures.log;
+}

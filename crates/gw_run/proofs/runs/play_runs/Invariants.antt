@@ -2,7 +2,7 @@
 use Rattle.std.proofs.Common.{◌≡◌, ◌-◌}
 use Rattle.gw_script.specs.site.Powers.{power_failures, power_lines}
 use Rattle.sim_site.specs.Sites.{log_of, played_script, sim_observed}
-use Rattle.gw_run.specs.Runs.{HasTalliedFrom}
+use Rattle.gw_run.specs.PlayedRuns.{HasTalliedFrom}
 use Rattle.gw_run.proofs.runs.play_runs.Given as goal
 
 abbrev pub invariant-loop-end : goal.invariant-loop-end
