@@ -1,5 +1,5 @@
 -- Proof of the contract of `top`.
-use Rattle.std.proofs.Common.{ap, inl, refl, subst, sym}
+use Rattle.std.proofs.Common.{◌∙◌, inl, refl, subst, sym}
 use Rattle.gw_dispatch.specs.Growth.{AddsPolls, PollsToEnd}
 use Rattle.gw_dispatch.proofs.GrowthLemmas.{goes-nowhere, goes-without-poll}
 use Rattle.gw_run.specs.declared.ending.Ending.TheVariants.{Memory}
@@ -51,7 +51,7 @@ pub drill-requires : goal.drill-requires
 drill-requires g c = drill-few c.args.words.now _ c.in-Drill.from c.in-Drill.payments (order-there _ _ _ _ c.in-Ok-Some.order-is c.in-Ok-Some.field-0-is c.in-Ok-Some.ensures) c.in-Drill.is
 
 pub returns-in-Drill-clause-ended : goal.returns-in-Drill-clause-ended
-returns-in-Drill-clause-ended g c = λ asks. drill-no-replay c.args.words.now _ c.in-Drill.from c.in-Drill.payments (order-there _ _ _ _ (ap (λ v. v.0) c.in-Ok-Some.order-is) c.in-Ok-Some.field-0-is c.in-Ok-Some.ensures) c.in-Drill.is asks
+returns-in-Drill-clause-ended g c = λ asks. drill-no-replay c.args.words.now _ c.in-Drill.from c.in-Drill.payments (order-there _ _ _ _ c.in-Ok-Some.order-is c.in-Ok-Some.field-0-is c.in-Ok-Some.ensures) c.in-Drill.is asks
 
 pub returns-in-Drill-clause-complete : goal.returns-in-Drill-clause-complete
 returns-in-Drill-clause-complete g c = λ asks. drill-no-replay c.args.words.now _ c.in-Drill.from c.in-Drill.payments (order-there _ _ _ _ c.in-Ok-Some.order-is c.in-Ok-Some.field-0-is c.in-Ok-Some.ensures) c.in-Drill.is (inl asks)
