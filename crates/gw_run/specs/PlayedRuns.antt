@@ -1,4 +1,4 @@
--- The runs over a site in memory, one after each power failure: what they have done, how the last of them has ended, and its tally.
+-- Inner: the runs over a site in memory, one after each power failure: what they have done, how the last of them has ended, and its tally.
 use Rattle.std.specs.Prelude.{◌≡◌, ◌⊎◌, ℕ, ◌-◌, ◌<◌, ◌≤◌, List, [], true, false, Option, Some, length}
 use Rattle.gw_base.specs.declared.setup.Setup.{Setup}
 use Rattle.gw_site.specs.Observed.{Observed}
