@@ -36,10 +36,11 @@ use Rattle.gw_dispatch.specs.MidRound.{AllHear, AreHeard, AreLinked, AreReady, H
 use Rattle.gw_dispatch.specs.Round.{HoldsTills, IsIn, InRound, known_at}
 use Rattle.gw_dispatch.specs.Serving.{AfterFault, AfterTill, held_without, items_of}
 use Rattle.gw_dispatch.specs.RecordsOpening.{HasOpened, LacksMemory}
-use Rattle.gw_dispatch.specs.Rounds.{MatchesOutside, IsHeldRun, IsBetweenRounds, IsPolled, IsRunOpened, BeforeChunk, BeforeOpen, BeforePtBytes, BeforePtEnd, due_in, known_by}
-use Rattle.gw_dispatch.specs.RunEnd.{EndedBy}
+use Rattle.gw_dispatch.specs.Rounds.{HasStopped, MatchesOutside, IsHeldRun, IsBetweenRounds, IsPolled, IsRunOpened, BeforeChunk, BeforeOpen, BeforePtBytes, BeforePtEnd, due_in, known_by}
+use Rattle.gw_dispatch.specs.RunEnd.{EndedBy, KeptBy}
 use Rattle.gw_dispatch.specs.Tills.{AreBelow, OthersStillHold, AreWaiting, bytes_held, others, rank, reader_of, rested, till_of}
 use Rattle.gw_dispatch.specs.declared.engine.Dispatch.{Dispatch}
+use Rattle.gw_dispatch.specs.declared.engine.Ended.{Ended}
 use Rattle.gw_dispatch.specs.declared.engine.Ended.TheVariants.{Done}
 use Rattle.gw_dispatch.specs.declared.fault.TurnFault.{TurnFault}
 use Rattle.gw_dispatch.specs.declared.records.Records.{Records}
@@ -443,8 +444,8 @@ rest-pt-closed pt buf setup dispatch polls now scene k v q =
       ),
     )
 
-pub rest-stopped : (buf : List ℕ) (setup : Setup) (dispatch : Dispatch) (polls : ℕ) (now : ℤ) (scene : Scene) → IsHeldRun setup dispatch polls scene → (v : View) → AtEvent scene now StopEvent buf v → v.scene.stage ≡ Over
-rest-stopped buf setup dispatch polls now scene k v q = ap (λ (w : View). w.scene.stage) q.0
+pub rest-stopped : (buf : List ℕ) (setup : Setup) (dispatch : Dispatch) (polls : ℕ) (now : ℤ) (scene : Scene) → IsHeldRun setup dispatch polls scene → (v : View) → AtEvent scene now StopEvent buf v → HasStopped dispatch v
+rest-stopped buf setup dispatch polls now scene k v q = record { over = ap (λ (w : View). w.scene.stage) q.0; kept = ap (λ (w : View). w.scene.kept) q.0 ∙ k.kept_is }
 
 pub rest-opened : (number : ℕ) (buf : List ℕ) (setup : Setup) (dispatch : Dispatch) (polls : ℕ) (now : ℤ) (scene : Scene) → IsHeldRun setup dispatch polls scene → (v : View) → AtEvent scene now (TillOpened number) buf v →
     BeforeOpen setup dispatch (polls + 1) now number v
@@ -579,6 +580,16 @@ opened-rest setup dispatch none new v h = let (scene, is, f) = h.opened in (
   },
 )
 
-pub all-polled : (setup : Setup) (dispatch : Dispatch) (made most : ℕ) (v : View) → made ≡ most → IsBetweenRounds setup dispatch made v → EndedBy Done most v
-all-polled setup dispatch made most v e (scene, is, k) =
-    inr (record { running = rw is k.running; calls = ap (λ (w : View). w.calls) is; items = ap (λ (w : View). w.items) is; polls = ap (λ (w : View). w.scene.polls) is ∙ k.polls_are ∙ e })
+pub all-polled : (setup : Setup) (dispatch : Dispatch) (made most : ℕ) (v : View) → made ≡ most → IsBetweenRounds setup dispatch made v → KeptBy Done dispatch.state.records.ledger.records most v
+all-polled setup dispatch made most v e (scene, is, k) = record {
+  ended_by = inr (record { running = rw is k.running; calls = ap (λ (w : View). w.calls) is; items = ap (λ (w : View). w.items) is; polls = ap (λ (w : View). w.scene.polls) is ∙ k.polls_are ∙ e });
+  kept = λ done. ap (λ (w : View). w.scene.kept) is ∙ k.kept_is;
+}
+
+-- the stop was polled
+pub stop-kept : (dispatch : Dispatch) (most : ℕ) (v : View) → HasStopped dispatch v → KeptBy Done dispatch.state.records.ledger.records most v
+stop-kept dispatch most v stopped = record { ended_by = inl stopped.over; kept = λ done. stopped.kept }
+
+-- nothing is said of what is kept where the rounds aren't done
+pub undone-kept : (ended : Ended) (records : List Record) (most : ℕ) (v : View) → (ended ≡ Done → ⊥) → EndedBy ended most v → KeptBy ended records most v
+undone-kept ended records most v undone by = record { ended_by = by; kept = λ done. absurd (undone done) }

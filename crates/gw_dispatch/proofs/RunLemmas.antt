@@ -1,5 +1,5 @@
 -- How a run ends, by the opening of its site, that of its records, and its rounds.
-use Rattle.std.proofs.Common.{◌≡◌, ◌≤◌, ◌∙◌, ℕ, Bool, true, false, List, [], ◌∷◌, ◌++◌, Some, refl, ap, subst, inl, inr, append-nil, append_assoc, arith, length}
+use Rattle.std.proofs.Common.{◌≡◌, ◌≤◌, ◌∙◌, ℕ, Bool, true, false, List, [], ◌∷◌, ◌++◌, Some, refl, ap, subst, sym, inl, inr, append-nil, append_assoc, arith, length}
 use Rattle.std.specs.Prelude.{Result, Ok, Err}
 use Rattle.gw_base.specs.declared.setup.Setup.{Setup}
 use Rattle.gw_site.specs.Observed.{AddedWhole, GrowsBy, GrowsWhole, IfObserved, Observed}
@@ -8,15 +8,19 @@ use Rattle.gw_site.specs.Turns.{OpenTurns}
 use Rattle.gw_site.specs.declared.turn.Turn.{Turn}
 use Rattle.gw_site.specs.declared.turn.Turn.TheVariants.{OpenFailed, Start, Crash}
 use Rattle.gw_site.proofs.OutsideLemmas.{outside_of-append}
+use Rattle.jrn_record.specs.declared.records.Record.{Record}
+use Rattle.gw_ledger.specs.Sums.{tally_of}
+use Rattle.gw_ledger.specs.declared.totals.Tally.{Tally}
 use Rattle.gw_rules.specs.Acts.{Unmeasured, Looked}
-use Rattle.gw_rules.specs.Triple.{IsOwedBy, JustBegun, Triple, TripleBy}
+use Rattle.gw_rules.specs.Triple.{IsOwedBy, JustBegun, RunTriple, Triple, TripleBy}
 use Rattle.gw_rules.specs.View.{View}
 use Rattle.gw_rules.proofs.ActLemmas.{join-due, owed-due}
 use Rattle.gw_rules.proofs.TripleLemmas.{triple-after, triple-due, triples-then}
 use Rattle.gw_dispatch.specs.RecordsOpening.{HasOpened, HoldsFile, IsExactlyBad, IsExactlyCut, IsExactlyRefused, OpenedBy, OpensBy, UnopenedBy}
 use Rattle.gw_dispatch.specs.Growth.{AddsPolls, EndsForMemory, EndsForMemorySince, GoesOnByCalls, PollsToEnd, polls_in}
-use Rattle.gw_dispatch.specs.RunEnd.{EndedBy, EndsByFound, HasBegun, EndsRounds, IsDueFrom, IsEndByFile, NoneBegan, end_by}
+use Rattle.gw_dispatch.specs.RunEnd.{EndedBy, EndsByFound, HasBegun, EndsRounds, IsDueFrom, IsEndByFile, KeptBy, NoneBegan, TalliedBy, end_by}
 use Rattle.gw_dispatch.specs.declared.engine.Ended.{Ended}
+use Rattle.gw_dispatch.specs.declared.engine.TalliedEnd.{TalliedEnd}
 use Rattle.gw_dispatch.specs.declared.engine.Ended.TheVariants.{Done, NotOpened, Disk, TooLong, Cut, BadRecord, NoMemory}
 use Rattle.gw_dispatch.specs.declared.records.Records.{Records}
 use Rattle.gw_dispatch.specs.declared.records.Unopened.{Unopened}
@@ -79,6 +83,24 @@ cause-by-file slots file MemoryCause refused cut bad = tt
 
 -- ---- the records and the rounds
 
+-- nothing is said of the tally where a run isn't done
+pub undone-tallied : (end : TalliedEnd) (most : ℕ) (v : View) → (end.ended ≡ Done → ⊥) → EndedBy end.ended most v → TalliedBy end most v
+undone-tallied end most v undone by = record { ended_by = by; tally = λ done. absurd (undone done) }
+
+-- the tally is that of the ledger, whose records are kept
+pub kept-tallied : (ended : Ended) (tally : Tally) (records : List Record) (most : ℕ) (v : View) → tally ≡ tally_of records → KeptBy ended records most v → TalliedBy (record { ended = ended; tally = tally }) most v
+kept-tallied ended tally records most v is k = record { ended_by = k.ended_by; tally = λ done. is ∙ ap tally_of (sym (k.kept done)) }
+
+-- after one run at most something weaker is so
+pub run-weaker : (own : Setup) (old new : Observed) (Shape : List Turn → Type 0) (Q R : View → Type 0) → ((v : View) → Q v → R v) → RunTriple own old new Shape Q → RunTriple own old new Shape R
+run-weaker own old new Shape Q R weaker runs = record {
+  observed = λ before v e s clear.
+      let r = runs.observed before v e s clear in
+      record { moves = r.moves; log_is = r.log_is; lawful = r.lawful; shape = r.shape; done = r.done; none = r.none; owed = λ lit. weaker _ (r.owed lit) };
+  unobserved = runs.unobserved;
+  origin = runs.origin;
+}
+
 -- what is left where no records were opened is how the run ends
 unopened-ends : (cause : Unopened) (most : ℕ) (v : View) → UnopenedBy cause v → EndedBy (end_by cause) most v
 unopened-ends DiskCause most v h = h
@@ -87,18 +109,18 @@ unopened-ends (CutCause slot) most v h = h
 unopened-ends (BadRecordCause slot) most v h = h
 unopened-ends MemoryCause most v h = h
 
-pub unopened-run : (own : Setup) (old new : Observed) (cause : Unopened) (most : ℕ) → TripleBy (OpensBy {T = Records} own (Err cause)) old new (JustBegun own) (OpenedBy own (Err cause)) → TripleBy (IsDueFrom own Unmeasured) old new (JustBegun own) (EndedBy (end_by cause) most)
-unopened-run own old new cause most x = triple-after _ _ _ _ _ x (λ v q. unopened-ends cause most v q)
+pub unopened-run : (own : Setup) (old new : Observed) (cause : Unopened) (end : TalliedEnd) (most : ℕ) → end.ended ≡ end_by cause → TripleBy (OpensBy {T = Records} own (Err cause)) old new (JustBegun own) (OpenedBy own (Err cause)) → TripleBy (IsDueFrom own Unmeasured) old new (JustBegun own) (TalliedBy end most)
+unopened-run own old new cause end most e x = triple-after _ _ _ _ _ x (λ v q. undone-tallied end most v (λ done. cause-undone cause (sym e ∙ done)) (subst (λ ended. EndedBy ended most v) (sym e) (unopened-ends cause most v q)))
 
 -- what is owed is due where no more need be looked at
 owed-from : (own : Setup) (mid new : Observed) (P Q : View → Type 0) → Triple mid new P Q → TripleBy (IsDueFrom own Looked) mid new P Q
 owed-from own mid new P Q k = triple-due IsOwedBy (IsDueFrom own Looked) mid new P Q (λ dark v acts h. owed-due own v acts h) k
 
 -- the records are opened, and then come the rounds
-pub opened-run : (own : Setup) (old mid new : Observed) (records : Records) (most : ℕ) (ended : Ended) → TripleBy (OpensBy {E = Unopened} own (Ok records)) old mid (JustBegun own) (OpenedBy own (Ok records)) → Triple mid new (HasOpened own records) (EndedBy ended most)
-    → TripleBy (IsDueFrom own Unmeasured) old new (JustBegun own) (EndedBy ended most)
-opened-run own old mid new records most ended x k =
-    triples-then old mid new (JustBegun own) (HasOpened own records) (EndedBy ended most) (join-due own Unmeasured Looked) x (owed-from own mid new (HasOpened own records) (EndedBy ended most) k)
+pub opened-run : (own : Setup) (old mid new : Observed) (records : Records) (most : ℕ) (end : TalliedEnd) → TripleBy (OpensBy {E = Unopened} own (Ok records)) old mid (JustBegun own) (OpenedBy own (Ok records)) → Triple mid new (HasOpened own records) (TalliedBy end most)
+    → TripleBy (IsDueFrom own Unmeasured) old new (JustBegun own) (TalliedBy end most)
+opened-run own old mid new records most end x k =
+    triples-then old mid new (JustBegun own) (HasOpened own records) (TalliedBy end most) (join-due own Unmeasured Looked) x (owed-from own mid new (HasOpened own records) (TalliedBy end most) k)
 
 -- ---- the site
 

@@ -131,10 +131,15 @@ IsOfTill (PtBytes pt count) = ⊥
 IsOfTill (PtClosed pt) = ⊥
 IsOfTill Nothing = ⊥
 
+-- the stop was polled, and what is kept is what the ledger has
+pub record HasStopped (dispatch : Dispatch) (v : View) : Type 0 where
+  pub over : v.scene.stage ≡ Over
+  pub kept : v.scene.kept ≡ dispatch.state.records.ledger.records
+
 -- Inner: after what an event has brought
 abbrev pub AfterEvent : Result RoundEnd TurnFault → Setup → Dispatch → ℕ → ℤ → View → Type 0
 AfterEvent (Ok Went) setup dispatch polls now v = IsHandled setup dispatch polls now v
-AfterEvent (Ok Stopped) setup dispatch polls now v = v.scene.stage ≡ Over
+AfterEvent (Ok Stopped) setup dispatch polls now v = HasStopped dispatch v
 AfterEvent (Err fault) setup dispatch polls now v = AfterFault fault v
 
 -- a round that has ended so has made one poll, and nothing after it where that has brought the stop; or the site is dark
@@ -145,5 +150,5 @@ HasPolledOnce Stopped before new = (new.dark ≡ true) ⊎ ((now : ℤ) × (new.
 -- after a round
 abbrev pub AfterRound : Result RoundEnd TurnFault → Setup → Dispatch → ℕ → View → Type 0
 AfterRound (Ok Went) setup dispatch polls v = IsBetweenRounds setup dispatch polls v
-AfterRound (Ok Stopped) setup dispatch polls v = v.scene.stage ≡ Over
+AfterRound (Ok Stopped) setup dispatch polls v = HasStopped dispatch v
 AfterRound (Err fault) setup dispatch polls v = AfterFault fault v

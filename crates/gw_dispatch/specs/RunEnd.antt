@@ -8,11 +8,13 @@ use Rattle.gw_site.specs.declared.turn.Turn.{Turn}
 use Rattle.gw_site.specs.declared.turn.Turn.TheVariants.{OpenFailed, Crash}
 use Rattle.jrn_record.specs.declared.records.Record.{Record}
 use Rattle.jrn_log.specs.Slots.{IsFileTooLong, IsTruncatedSlot}
+use Rattle.gw_ledger.specs.Sums.{tally_of}
 use Rattle.gw_rules.specs.Acts.{Act, AreDue, Look}
 use Rattle.gw_rules.specs.Stage.{Resting, Looking, Over, Broken, is_running}
 use Rattle.gw_rules.specs.View.{View}
 use Rattle.gw_dispatch.specs.RecordsOpening.{HasRecords, IsBadSlot, IsFileRefused, LacksMemory}
 use Rattle.gw_dispatch.specs.declared.engine.Ended.{Ended}
+use Rattle.gw_dispatch.specs.declared.engine.TalliedEnd.{TalliedEnd}
 use Rattle.gw_dispatch.specs.declared.engine.Ended.TheVariants.{Done, NotOpened, Disk, TooLong, Cut, BadRecord, NoMemory}
 use Rattle.gw_dispatch.specs.declared.records.Unopened.{Unopened}
 use Rattle.gw_dispatch.specs.declared.records.Unopened.TheVariants.{Disk as DiskCause, TooLong as TooLongCause, Cut as CutCause, BadRecord as BadRecordCause, Memory as MemoryCause}
@@ -33,6 +35,11 @@ EndedBy (TooLong count) most v = (v.scene.stage ≡ Looking true) × (length v.s
 EndedBy (Cut slot) most v = ⊥
 EndedBy (BadRecord slot) most v = ⊥
 EndedBy NoMemory most v = LacksMemory v
+
+-- a run has ended so, and where it is done the tally is that of the records that are kept
+pub record TalliedBy (end : TalliedEnd) (most : ℕ) (v : View) : Type 0 where
+  pub ended_by : EndedBy end.ended most v
+  pub tally : end.ended ≡ Done → end.tally ≡ tally_of v.scene.kept
 
 -- no run was begun after this log: that the site could not be opened was added, or nothing where the site is dark
 abbrev pub NoneBegan : List Turn → Observed → Type 0
@@ -96,6 +103,11 @@ pub record EndsByFound (slots : ℕ) (before : List Turn) (new : Observed) (ende
 -- Inner: each step is due from this look on
 abbrev pub IsDueFrom : Setup → Look → Bool → View → List Act → Type 0
 IsDueFrom own look dark v acts = AreDue own v look acts
+
+-- Inner: the rounds of a run have ended so, and where they are done these records are kept
+pub record KeptBy (ended : Ended) (records : List Record) (most : ℕ) (v : View) : Type 0 where
+  pub ended_by : EndedBy ended most v
+  pub kept : ended ≡ Done → v.scene.kept ≡ records
 
 -- Inner: how a run ends whose records were not opened
 abbrev pub end_by : Unopened → Ended

@@ -18,7 +18,7 @@ ghost use Rattle.gw_dispatch.specs.Serving.{held_without};
 ghost use Rattle.gw_dispatch.specs.Tills.{others};
 ghost use Rattle.gw_dispatch.specs.declared.fault.TurnFault.{TurnFault as TheFault};
 ghost use Rattle.gw_dispatch.specs.RecordsOpening.{HasOpened};
-ghost use Rattle.gw_dispatch.specs.RunEnd.{EndedBy, EndsByFound, HasBegun, EndsRounds, IsDueFrom, IsEndByFile, MayLackMemory, NoneBegan, end_by};
+ghost use Rattle.gw_dispatch.specs.RunEnd.{EndedBy, EndsByFound, HasBegun, EndsRounds, IsDueFrom, IsEndByFile, KeptBy, MayLackMemory, NoneBegan, TalliedBy, end_by};
 
 use crate::fault::TurnFault;
 use crate::pts::{new_readers, on_bytes, on_closed, on_due};
@@ -30,6 +30,7 @@ use crate::tills::{Tills, drop_till, index_of, open_till};
 use gw_base::Setup;
 use gw_bytes::{LONGEST_CHUNK, MOST_TILLS};
 use gw_core::{Core, Gateway};
+use gw_ledger::Tally;
 use gw_owes::{law_records, law_waits};
 use gw_site::{Failed, Polled, Site, What};
 use sale_reply::Out;
@@ -62,6 +63,34 @@ pub enum Ended {
     BadRecord { slot: u32 },
     /// Memory was refused.
     NoMemory,
+}
+
+/// How a run ended, and the tally of its ledger then. It is that of no records where none were opened.
+#[derive(Clone, Copy, PartialEq, Eq)]
+pub struct TalliedEnd {
+    pub ended: Ended,
+    pub tally: Tally,
+}
+
+/// The tally of no records.
+const NO_TALLY: Tally = Tally {
+    accepted: 0,
+    approved: 0,
+    declined: 0,
+    unresolved: 0,
+    sum: 0,
+};
+
+impl TalliedEnd {
+    /// How a run ended, with the tally of no records.
+    pub fn untallied(ended: Ended) -> TalliedEnd
+        ensures { result.ended ≡ ended }
+    {
+        TalliedEnd {
+            ended,
+            tally: NO_TALLY,
+        }
+    }
 }
 
 /// What the gateway holds in a run.
@@ -326,7 +355,7 @@ impl Dispatch {
         ensures failed { result ≡ Ended.Disk → HasBroken (S.observed site.old) (S.observed site.new) }
         ensures triple { (setup : TheSetup) → gateway_of setup ≡ self.old.state.gateway → Triple (S.observed site.old) (S.observed site.new)
             (IsBetweenRounds setup self.old 0)
-            (EndedBy result most) }
+            (KeptBy result self.new.state.records.ledger.records most) }
         ensures ran { EndsRounds result }
         ensures done { result ≡ Ended.Done → IfObserved (S.observed site.old) (λ before. PollsToEnd most before (S.observed site.new)) }
         ensures memory { MayLackMemory result → IfObserved (S.observed site.old) (λ before. EndsForMemory (S.observed site.new)) }
@@ -353,20 +382,26 @@ pub(crate) fn opened_rounds<S: Site>(
     site: &mut S,
     records: Records,
     most: u64,
-) -> Ended
+) -> TalliedEnd
     requires setup { IsSetup setup.now }
     requires records { LeavesRoom setup.now.slots records }
     requires stands { StandsFor records.journal (S.observed site.old) }
-    ensures failed { result ≡ Ended.Disk → HasBroken (S.observed site.old) (S.observed site.new) }
-    ensures triple { Triple (S.observed site.old) (S.observed site.new) (HasOpened setup.now records) (EndedBy result most) }
-    ensures ran { EndsRounds result }
-    ensures done { result ≡ Ended.Done → IfObserved (S.observed site.old) (λ before. PollsToEnd most before (S.observed site.new)) }
-    ensures memory { MayLackMemory result → IfObserved (S.observed site.old) (λ before. EndsForMemorySince before (S.observed site.new)) }
+    ensures failed { result.ended ≡ Ended.Disk → HasBroken (S.observed site.old) (S.observed site.new) }
+    ensures triple { Triple (S.observed site.old) (S.observed site.new) (HasOpened setup.now records) (TalliedBy result most) }
+    ensures ran { EndsRounds result.ended }
+    ensures done { result.ended ≡ Ended.Done → IfObserved (S.observed site.old) (λ before. PollsToEnd most before (S.observed site.new)) }
+    ensures memory { MayLackMemory result.ended → IfObserved (S.observed site.old) (λ before. EndsForMemorySince before (S.observed site.new)) }
     ensures goes_on { GoesOnByPolls most (S.observed site.old) (S.observed site.new) }
 {
     match Dispatch::open(alloc, setup, records) {
-        Ok(mut dispatch) => dispatch.rounds(site, most),
-        Err(AllocError) => Ended::NoMemory,
+        Ok(mut dispatch) => {
+            let ended = dispatch.rounds(site, most);
+            TalliedEnd {
+                ended,
+                tally: dispatch.state.records.ledger.tally(),
+            }
+        }
+        Err(AllocError) => TalliedEnd::untallied(Ended::NoMemory),
     }
 }
 
@@ -384,21 +419,43 @@ fn ended_by(cause: Unopened) -> Ended
 }
 
 /// A run with this setup once its site is open: its records are opened, and then come its rounds, at most so many.
-fn journaled<S: Site>(alloc: Global, setup: &Setup, site: &mut S, most: u64) -> Ended
+fn journaled<S: Site>(alloc: Global, setup: &Setup, site: &mut S, most: u64) -> TalliedEnd
     requires { IsSetup setup.now }
-    ensures triple { TripleBy (IsDueFrom setup.now Unmeasured) (S.observed site.old) (S.observed site.new) (JustBegun setup.now) (EndedBy result most) }
-    ensures begun { HasBegun result }
-    ensures disk { result ≡ Ended.Disk → Rose (S.observed site.old).faults (S.observed site.new).faults }
-    ensures file { IfObserved (S.observed site.old) (λ before. IsEndByFile setup.now.slots (outside_of before).file result) }
-    ensures failed { result ≡ Ended.Disk → IfObserved (S.observed site.old) (λ before. EndsInFailure (S.observed site.new)) }
-    ensures memory { MayLackMemory result → IfObserved (S.observed site.old) (λ before. EndsForMemorySince before (S.observed site.new)) }
+    ensures triple { TripleBy (IsDueFrom setup.now Unmeasured) (S.observed site.old) (S.observed site.new) (JustBegun setup.now) (TalliedBy result most) }
+    ensures begun { HasBegun result.ended }
+    ensures disk { result.ended ≡ Ended.Disk → Rose (S.observed site.old).faults (S.observed site.new).faults }
+    ensures file { IfObserved (S.observed site.old) (λ before. IsEndByFile setup.now.slots (outside_of before).file result.ended) }
+    ensures failed { result.ended ≡ Ended.Disk → IfObserved (S.observed site.old) (λ before. EndsInFailure (S.observed site.new)) }
+    ensures memory { MayLackMemory result.ended → IfObserved (S.observed site.old) (λ before. EndsForMemorySince before (S.observed site.new)) }
     ensures polls { IfObserved (S.observed site.old) (λ before. AddsPolls most before (S.observed site.new)) }
-    ensures done { result ≡ Ended.Done → IfObserved (S.observed site.old) (λ before. PollsToEnd most before (S.observed site.new)) }
+    ensures done { result.ended ≡ Ended.Done → IfObserved (S.observed site.old) (λ before. PollsToEnd most before (S.observed site.new)) }
     ensures later { (S.observed site.old).faults ≤ (S.observed site.new).faults }
 {
     match Records::open(alloc, site, setup.slots) {
         Ok(records) => opened_rounds(alloc, setup, site, records, most),
-        Err(cause) => ended_by(cause),
+        Err(cause) => TalliedEnd::untallied(ended_by(cause)),
+    }
+}
+
+/// One run over a site, as [`run`] makes it, and the tally of its ledger.
+///
+/// Where it is done and the site isn't dark, the tally is that of the records that are kept.
+pub fn run_tallied<S: Site>(alloc: Global, setup: &Setup, site: &mut S, most: u64) -> TalliedEnd
+    requires { IsSetup setup.now }
+    ensures lawful { RunTriple setup.now (S.observed site.old) (S.observed site.new) (IsRun setup.now) (TalliedBy result most) }
+    ensures opened { result.ended ≡ Ended.NotOpened → Rose (S.observed site.old).faults (S.observed site.new).faults }
+    ensures none { result.ended ≡ Ended.NotOpened → IfObserved (S.observed site.old) (λ before. NoneBegan before (S.observed site.new)) }
+    ensures disk { result.ended ≡ Ended.Disk → Rose (S.observed site.old).faults (S.observed site.new).faults }
+    ensures file { IfObserved (S.observed site.old) (λ before. EndsByFound setup.now.slots before (S.observed site.new) result.ended) }
+    ensures failed { result.ended ≡ Ended.Disk → IfObserved (S.observed site.old) (λ before. EndsInFailure (S.observed site.new)) }
+    ensures memory { MayLackMemory result.ended → IfObserved (S.observed site.old) (λ before. EndsForMemory (S.observed site.new)) }
+    ensures polls { IfObserved (S.observed site.old) (λ before. AddsPolls most before (S.observed site.new)) }
+    ensures done { result.ended ≡ Ended.Done → IfObserved (S.observed site.old) (λ before. PollsToEnd most before (S.observed site.new)) }
+    ensures later { (S.observed site.old).faults ≤ (S.observed site.new).faults }
+{
+    match site.open(setup) {
+        Ok(()) => journaled(alloc, setup, site, most),
+        Err(Failed) => TalliedEnd::untallied(Ended::NotOpened),
     }
 }
 
@@ -423,8 +480,5 @@ pub fn run<S: Site>(alloc: Global, setup: &Setup, site: &mut S, most: u64) -> En
     ensures done { result ≡ Ended.Done → IfObserved (S.observed site.old) (λ before. PollsToEnd most before (S.observed site.new)) }
     ensures later { (S.observed site.old).faults ≤ (S.observed site.new).faults }
 {
-    match site.open(setup) {
-        Ok(()) => journaled(alloc, setup, site, most),
-        Err(Failed) => Ended::NotOpened,
-    }
+    run_tallied(alloc, setup, site, most).ended
 }

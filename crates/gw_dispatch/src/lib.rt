@@ -14,6 +14,6 @@ mod run_state;
 mod serving;
 mod tills;
 
-pub use engine::{Dispatch, Ended, RoundEnd, run};
+pub use engine::{Dispatch, Ended, RoundEnd, TalliedEnd, run, run_tallied};
 pub use fault::TurnFault;
 pub use records::{Records, Unopened};

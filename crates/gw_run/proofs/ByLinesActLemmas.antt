@@ -13,7 +13,7 @@ use Rattle.gw_script.specs.site.Calls.{CallFits, call_turns, place_after, polled
 use Rattle.gw_script.specs.site.Hazards.{Hazard, no_hazard}
 use Rattle.gw_script.specs.site.Playing as playing
 use Rattle.gw_script.specs.site.Playing.{DiskCall, DiskFails, Fits, Leads, Play, PlaysLines, after_poll, applies, begins, brings, brought, early_hazard, early_lines, met, play_after, rests}
-use Rattle.gw_script.specs.site.ScriptLine.{Event, Open, Close, FromTill, FromPt, Lose, Tick, PlayedLine, At, Poll, Fail, Power}
+use Rattle.gw_script.specs.site.ScriptLine.{Event, Open, Close, FromTill, FromPt, Lose, Tick, PlayedLine, At, Poll, Fail, Power, ForgetPower}
 use Rattle.gw_script.specs.site.StepTurns.{turns_by}
 use Rattle.gw_script.proofs.site.ByLinesLemmas.{none_due, only_due}
 use Rattle.gw_script.proofs.site.StepTurnLemmas.{first-has-its-turns}
@@ -179,6 +179,7 @@ is-met o all moment (Poll event ∷ lines) plain = by_test (applies o event) (is
     by_test false later = later
 is-met o all moment (Fail failing ∷ lines) plain = absurd plain
 is-met o all moment (Power calls kind ∷ lines) plain = absurd plain
+is-met o all moment (ForgetPower ∷ lines) plain = absurd plain
 
 none-stops : (prefix : List Turn) → [] ≡ prefix ++ Stopped ∷ [] → ⊥
 none-stops [] e = cc
@@ -325,6 +326,7 @@ plain-lines (At now ∷ lines) plain = ap (λ ls. At now ∷ ls) (plain-lines li
 plain-lines (Poll event ∷ lines) plain = refl
 plain-lines (Fail failing ∷ lines) plain = absurd plain
 plain-lines (Power calls kind ∷ lines) plain = absurd plain
+plain-lines (ForgetPower ∷ lines) plain = absurd plain
 
 plain-hazard : (h : Hazard) (lines : List PlayedLine) → HasNoFailures lines → early_hazard h lines ≡ h
 plain-hazard h [] plain = refl
@@ -332,6 +334,7 @@ plain-hazard h (At now ∷ lines) plain = plain-hazard h lines plain
 plain-hazard h (Poll event ∷ lines) plain = refl
 plain-hazard h (Fail failing ∷ lines) plain = absurd plain
 plain-hazard h (Power calls kind ∷ lines) plain = absurd plain
+plain-hazard h (ForgetPower ∷ lines) plain = absurd plain
 
 pub begins-calm : (lines : List PlayedLine) → HasNoFailures lines → begins lines ≡ calm lines (pos 0)
 begins-calm lines plain = ap (λ ls. rests ls (pos 0) (early_hazard no_hazard lines)) (plain-lines lines plain) ∙ ap (rests lines (pos 0)) (plain-hazard no_hazard lines plain)

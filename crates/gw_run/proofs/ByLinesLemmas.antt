@@ -9,7 +9,7 @@ use Rattle.gw_site.specs.declared.turn.Turn.TheVariants.{Start, Polled}
 use Rattle.gw_script.specs.site.ByLines.{GoesBy, GoesByLines, HasNoFailures, IsRunToStop}
 use Rattle.gw_script.specs.site.Events.{HasEventsOf}
 use Rattle.gw_script.specs.site.Playing.{PlaysLines, brings}
-use Rattle.gw_script.specs.site.ScriptLine.{PlayedLine, At, Poll, Fail, Power, Script, setup_of}
+use Rattle.gw_script.specs.site.ScriptLine.{PlayedLine, At, Poll, Fail, Power, ForgetPower, Script, setup_of}
 use Rattle.gw_script.proofs.site.ByLinesLemmas.{going-by-lines-plays, plain-lines-go-on}
 use Rattle.gw_script.proofs.site.EventLemmas.{run-has-events}
 use Rattle.gw_rules.specs.Lawful.{IsLawful, turns_of}
@@ -56,6 +56,7 @@ lines-end (Poll event ∷ lines) o moment turns (inr x) =
     subst IsStopped (sym x.turns_are) (stops-after (Polled moment ∷ []) (brings event ++ (x.calls ++ x.later)) (stops-after (brings event) (x.calls ++ x.later) (stops-after x.calls x.later later)))
 lines-end (Fail failing ∷ lines) o moment turns goes = absurd goes
 lines-end (Power calls kind ∷ lines) o moment turns goes = absurd goes
+lines-end (ForgetPower ∷ lines) o moment turns goes = absurd goes
 
 log-ends : (lines : List PlayedLine) (log : List Turn) → GoesByLines lines log → IsStopped log
 log-ends lines log g = subst IsStopped (sym g.log_is) (stops-after (Start g.setup ∷ []) (g.calls ++ g.later) (stops-after g.calls g.later (lines-end lines _ (pos 0) g.later g.goes_on)))

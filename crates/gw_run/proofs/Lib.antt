@@ -1,6 +1,8 @@
 -- The lemmas of the top call: scripts read and played, the text of a log, and its end.
 pub mod ByLinesActLemmas
 pub mod ByLinesLemmas
+pub mod DrillLemmas
+pub mod DrillSiteLemmas
 pub mod EndLemmas
 pub mod ExampleActLemmas
 pub mod ExampleLemmas

@@ -9,8 +9,8 @@ use Rattle.gw_site.specs.declared.turn.Turn.TheVariants.{Polled, Linked, LinkFai
 use Rattle.gw_script.specs.site.Calls.{call_turns, place_after, play_from, polled_place, polled_turns}
 use Rattle.gw_script.specs.site.Hazards.{Armed, armed, is_failing, is_reached, sends_without, links_without, sent_of, takes_most}
 use Rattle.gw_script.specs.site.Playing as playing
-use Rattle.gw_script.specs.site.Playing.{Play, after_poll, applies, brings, counted, fails_next, is_off, met, one_call_less, powered, send_failed_pt, send_failed_till}
-use Rattle.gw_script.specs.site.ScriptLine.{Event, Open, Close, FromTill, FromPt, Lose, Tick, PlayedLine, At, Poll, Fail, Power}
+use Rattle.gw_script.specs.site.Playing.{Play, after_poll, applies, brings, counted, fails_next, is_off, linked_to_pt, met, met_coming, one_call_less, power_forgotten, powered, send_failed_pt, send_failed_till, sent_to_pt, then_coming}
+use Rattle.gw_script.specs.site.ScriptLine.{Event, Open, Close, FromTill, FromPt, Lose, Tick, PlayedLine, At, Poll, Fail, Power, ForgetPower}
 use Rattle.gw_script.proofs.site.QuietLemmas.{on_or_off}
 use Rattle.gw_owes.specs.Calls as owed
 use Rattle.gw_owes.specs.Calls.{OwedCall, SendTill, SendPt, LinkPt, WriteBody, WriteGate, WriteFirstGate, Sync, site_call, sending_bytes}
@@ -137,14 +137,15 @@ till-leads : (v : View) (p : Play) (till : ℕ) (bytes : List ℕ) (ok : Bool) �
 till-leads v p till bytes true o = busy-leads v p _ (counted p) o refl refl (counted-read p)
 till-leads v p till bytes false o = busy-leads v p _ (counted (record p { hazard = record p.hazard { fail_tills = sends_without p.hazard.fail_tills till } })) o refl refl (counted-read (record p { hazard = record p.hazard { fail_tills = sends_without p.hazard.fail_tills till } }))
 
-pt-leads : (v : View) (p : Play) (pt : ℕ) (bytes : List ℕ) (ok : Bool) → is_opening v.scene.stage ≡ false → Leads v p (after_turn v (SentPt pt bytes ok)) (send_failed_pt pt ok p)
-pt-leads v p pt bytes true o = busy-leads v p _ (counted p) o refl refl (counted-read p)
-pt-leads v p pt bytes false o = busy-leads v p _ (counted (record p { hazard = record p.hazard { fail_pts = sends_without p.hazard.fail_pts pt } })) o refl refl (counted-read (record p { hazard = record p.hazard { fail_pts = sends_without p.hazard.fail_pts pt } }))
+pt-leads : (v : View) (p : Play) (pt : ℕ) (bytes : List ℕ) (ok : Bool) → is_opening v.scene.stage ≡ false → Leads v p (after_turn v (SentPt pt bytes ok)) (send_failed_pt pt ok (sent_to_pt pt bytes p))
+pt-leads v p pt bytes true o = busy-leads v p _ (counted (sent_to_pt pt bytes p)) o refl refl (counted-read (sent_to_pt pt bytes p))
+pt-leads v p pt bytes false o =
+    busy-leads v p _ (counted (record (sent_to_pt pt bytes p) { hazard = record p.hazard { fail_pts = sends_without p.hazard.fail_pts pt } })) o refl refl (counted-read (record (sent_to_pt pt bytes p) { hazard = record p.hazard { fail_pts = sends_without p.hazard.fail_pts pt } }))
 
 link-leads : (v : View) (o : Outside) (p : Play) (pt : ℕ) (fails : Bool) → is_opening v.scene.stage ≡ false →
     Leads v p (view_from v (map Make (if fails then LinkFailed pt ∷ [] else Linked pt ∷ []))) (play_from o playing.Sync p (if fails then LinkFailed pt ∷ [] else Linked pt ∷ []))
 link-leads v o p pt true e = busy-leads v p _ (counted (record p { hazard = record p.hazard { fail_links = links_without p.hazard.fail_links pt } })) e refl refl (counted-read (record p { hazard = record p.hazard { fail_links = links_without p.hazard.fail_links pt } }))
-link-leads v o p pt false e = busy-leads v p _ (counted p) e refl refl (counted-read p)
+link-leads v o p pt false e = busy-leads v p _ (counted (linked_to_pt pt p)) e refl refl (counted-read (linked_to_pt pt p))
 
 write-leads : (v : View) (o : Outside) (p : Play) (offset : ℕ) (bytes : List ℕ) (fails : Bool) → is_opening v.scene.stage ≡ false →
     Leads v p (view_from v (map Make (if fails then Wrote offset bytes ∷ DiskFailed ∷ [] else Wrote offset bytes ∷ []))) (play_from o playing.Write p (if fails then Wrote offset bytes ∷ DiskFailed ∷ [] else Wrote offset bytes ∷ []))
@@ -204,9 +205,18 @@ met-away o p (Power calls kind ∷ lines) away = by_test (calls == 0) (met-away 
     by_test : (test : Bool) → KeepAway (met o (powered calls kind p) lines).due → KeepAway (if test then is_off kind (record p { lines = lines }) else met o (powered calls kind p) lines).due
     by_test true later = away
     by_test false later = later
+met-away o p (ForgetPower ∷ lines) away = met-away o (power_forgotten p) lines away
+
+coming-away : (o : Outside) (p : Play) (events : List Event) → KeepAway p.due → KeepAway (met_coming o events p).due
+coming-away o p [] away = met-away o (then_coming [] p) p.lines away
+coming-away o p (event ∷ events) away = by_test (applies o event) (coming-away o p events away)
+  where
+    by_test : (test : Bool) → KeepAway (met_coming o events p).due → KeepAway (if test then record (then_coming events p) { due = brings event } else met_coming o events p).due
+    by_test true later = event-away event
+    by_test false later = later
 
 poll-leads : (v : View) (o : Outside) (p : Play) → p.due ≡ [] → is_opening v.scene.stage ≡ false → Leads v p (view_from v (map Make (call_turns o p PollCall))) (place_after o p PollCall)
-poll-leads v o p none e = by_off (after_poll o p) (met-away o p p.lines (subst KeepAway (sym none) (λ w o l. (o, l)))) (after_poll o p).off refl
+poll-leads v o p none e = by_off (after_poll o p) (coming-away o p p.peers.coming (subst KeepAway (sym none) (λ w o l. (o, l)))) (after_poll o p).off refl
   where
     by_off : (m : Play) → KeepAway m.due → (off : Option ImageKind) → m.off ≡ off → Leads v p (view_from v (map Make (polled_turns m off))) (polled_place m off)
     by_off m away None at =

@@ -7,6 +7,7 @@ use Rattle.gw_site.specs.Steps.{ImageKind, SiteCall, ReadCall, SiteStep, Made, P
 use Rattle.gw_site.specs.declared.turn.Turn.{Turn}
 use Rattle.gw_site.specs.declared.turn.Turn.TheVariants.{DiskFailed, Crash}
 use Rattle.gw_script.specs.site.Calls.{call_turns, play_from}
+use Rattle.gw_script.specs.site.Drill.{drill_begins}
 use Rattle.gw_script.specs.site.Hazards.{crash_file}
 use Rattle.gw_script.specs.site.Playing as playing
 use Rattle.gw_script.specs.site.Playing.{Play, begins, restarted}
@@ -17,6 +18,7 @@ use Rattle.gw_owes.specs.Calls.{site_call}
 use Rattle.gw_owes.specs.Items.{RoundItem}
 use Rattle.gw_owes.specs.ReadAs.{ReadAs, IsReadAs}
 use Rattle.gw_owes.proofs.ReadLemmas.{reads-one}
+use Rattle.gw_drill.specs.DrillBooks.{drill_setup}
 use Rattle.gw_rules.specs.Acts.{Act, ToBegin, ToRead, ToTake, Look, Unopened, Unmeasured, Measured, Looked, IsDueCall, IsMeasuring, IsOwedCall, IsReading, look_after_step, moves_of}
 use Rattle.gw_rules.specs.Lawful.{Begins, IsIdle, IsRead, first_message, may_begin, turns_of}
 use Rattle.gw_rules.specs.Scene.{Scene}
@@ -24,7 +26,8 @@ use Rattle.gw_rules.specs.Stage.{is_looking}
 use Rattle.gw_rules.specs.View.{View, Begin, Read, Make, after, after_turn, at_first, begin, crashed, idle, view_from}
 use Rattle.gw_rules.proofs.CourseLemmas.{begin-stage}
 use Rattle.gw_rules.proofs.StageLemmas.{looking-not-round, no-call, no-true, round-busy}
-use Rattle.gw_run.specs.Laws.{OneLog, LogHasScript}
+use Rattle.gw_run.specs.Drill.{IsDrillLog}
+use Rattle.gw_run.specs.Laws.{OneDrillLog, OneLog, LogHasScript}
 use Rattle.gw_run.specs.ScriptLog.{IsEnded, IsLogOf}
 use Rattle.gw_script.specs.site.Decode.{script_of}
 use Rattle.gw_run.proofs.OneLogKeptLemmas.{Kept, kept-after, kept-round, kept-unopened}
@@ -303,32 +306,44 @@ same-log (suc n) own v look past p xs ys size kept g h = by-power n (same-log n)
 pub one-script : (text : List ℕ) (script other : Script) → script_of text ≡ Ok script → script_of text ≡ Ok other → script ≡ other
 one-script text script other e f = let h : Ok script ≡ Ok other = sym e ∙ f in cc
 
--- the acts of the log of a script, from the beginning
-record IsWhole (script : Script) (log : List Turn) : Type 0 where
+-- the acts of a whole log, with this setup and from this place on
+record IsWhole (own : Setup) (first : Play) (log : List Turn) : Type 0 where
   acts : List Act
-  goes : GoesOn (setup_of script.given) at_first Unopened [] (begins script.lines) acts
+  goes : GoesOn own at_first Unopened [] first acts
   log_is : turns_of (moves_of acts) ≡ log
 
-whole : (text : List ℕ) (log : List Turn) (x : IsLogOf text log) → IsWhole x.script log
+whole-same : (own : Setup) (first : Play) (log other : List Turn) → IsWhole own first log → IsWhole own first other → log ≡ other
+whole-same own first log other x y =
+    sym x.log_is
+    ∙ same-log (length x.acts + length y.acts) own at_first Unopened [] first x.acts y.acts (omega arith) (kept-unopened own at_first first refl) x.goes y.goes
+    ∙ y.log_is
+
+whole : (text : List ℕ) (log : List Turn) (x : IsLogOf text log) → IsWhole (setup_of x.script.given) (begins x.script.lines) log
 whole text log x =
-    let goes : Goes (setup_of x.script.given) at_first Unopened [] (begins x.script.lines) x.acts = record { lawful = x.done.lawful; due = x.done.due; turns = x.power } in
+    let own = setup_of x.script.given in
+    let goes : Goes own at_first Unopened [] (begins x.script.lines) x.acts = record { lawful = x.done.lawful; due = x.done.due; turns = x.power } in
     record {
       acts = x.acts;
-      goes = record { goes = goes; ends = ends-at (setup_of x.script.given) x.acts at_first Unopened [] (begins x.script.lines) goes (subst IsEnded (sym x.done.log_is) x.ends) };
+      goes = record { goes = goes; ends = ends-at own x.acts at_first Unopened [] (begins x.script.lines) goes (subst IsEnded (sym x.done.log_is) x.ends) };
       log_is = x.done.log_is;
     }
-
-whole-same : (script : Script) (log other : List Turn) → IsWhole script log → IsWhole script other → log ≡ other
-whole-same script log other x y =
-    let own = setup_of script.given in
-    sym x.log_is
-    ∙ same-log (length x.acts + length y.acts) own at_first Unopened [] (begins script.lines) x.acts y.acts (omega arith) (kept-unopened own at_first (begins script.lines) refl) x.goes y.goes
-    ∙ y.log_is
 
 pub one-log : OneLog
 one-log text log other x y =
     let same = one-script text y.script x.script y.script_is x.script_is in
-    whole-same x.script log other (whole text log x) (subst (λ script. IsWhole script other) same (whole text other y))
+    whole-same (setup_of x.script.given) (begins x.script.lines) log other (whole text log x) (subst (λ (script : Script). IsWhole (setup_of script.given) (begins script.lines) other) same (whole text other y))
+
+drill-whole : (from payments : ℕ) (log : List Turn) → IsDrillLog from payments log → IsWhole drill_setup (drill_begins from payments) log
+drill-whole from payments log x =
+    let goes : Goes drill_setup at_first Unopened [] (drill_begins from payments) x.acts = record { lawful = x.done.lawful; due = x.done.due; turns = x.power } in
+    record {
+      acts = x.acts;
+      goes = record { goes = goes; ends = ends-at drill_setup x.acts at_first Unopened [] (drill_begins from payments) goes (subst IsEnded (sym x.done.log_is) (inl x.ends)) };
+      log_is = x.done.log_is;
+    }
+
+pub one-drill-log : OneDrillLog
+one-drill-log from payments log other x y = whole-same drill_setup (drill_begins from payments) log other (drill-whole from payments log x) (drill-whole from payments other y)
 
 pub log-has-script : LogHasScript
 log-has-script text log x = (x.script, x.script_is)

@@ -9,8 +9,8 @@ use Rattle.gw_site.specs.declared.turn.Turn.{Turn}
 use Rattle.gw_site.specs.declared.turn.Turn.TheVariants.{Start, OpenFailed, Polled, Opened, HeardTill, Closed, HeardPt, Lost, Stopped, Linked, LinkFailed, SentTill, SentPt, CutTill, CutPt, Wrote, Synced, DiskFailed, Crash}
 use Rattle.gw_script.specs.site.ByLines.{HasNoFailures}
 use Rattle.gw_script.specs.site.Hazards.{Hazard, links_without, sends_without}
-use Rattle.gw_script.specs.site.Playing.{Play, DiskCall, Write, Sync, Length, Read, DiskFails, Falls, Fits, Leads, PlaysLines, after_poll, applies, begins, brings, counted, fallen, met, one_call_less, play_after, send_failed_pt, send_failed_till}
-use Rattle.gw_script.specs.site.ScriptLine.{Event, PlayedLine, At, Poll, Fail, Power}
+use Rattle.gw_script.specs.site.Playing.{Play, DiskCall, Write, Sync, Length, Read, DiskFails, Falls, Fits, Leads, PlaysLines, after_poll, applies, begins, brings, counted, fallen, linked_to_pt, met, met_coming, one_call_less, play_after, send_failed_pt, send_failed_till, sent_to_pt, then_coming}
+use Rattle.gw_script.specs.site.ScriptLine.{Event, PlayedLine, At, Poll, Fail, Power, ForgetPower}
 use Rattle.gw_run.specs.ScriptLog.{AreRuns, IsEnded, IsRunWith, IsStopped, is_opening, is_power_failure}
 use Rattle.gw_run.proofs.ByLinesActLemmas.{begins-calm}
 
@@ -61,9 +61,18 @@ met-calm o p (At now ∷ lines) e rest = met-calm o (record p { moment = now }) 
 met-calm o p (Poll event ∷ lines) e rest = met-event (applies o event) p (met o p lines) event lines e rest (met-calm o p lines e rest)
 met-calm o p (Fail failing ∷ lines) e rest = absurd e
 met-calm o p (Power calls kind ∷ lines) e rest = absurd e
+met-calm o p (ForgetPower ∷ lines) e rest = absurd e
+
+coming-calm : (o : Outside) (p : Play) (events : List Event) → HasNoFailures p.lines → IsAtRest p → IsCalm (met_coming o events p)
+coming-calm o p [] e rest = met-calm o (then_coming [] p) p.lines e rest
+coming-calm o p (event ∷ events) e rest = by_test (applies o event) (coming-calm o p events e rest)
+  where
+    by_test : (test : Bool) → IsCalm (met_coming o events p) → IsCalm (if test then record (then_coming events p) { due = brings event } else met_coming o events p)
+    by_test true calm = (e, rest.0, rest.1, rest.2)
+    by_test false calm = calm
 
 poll-calm : (o : Outside) (p : Play) → IsCalm p → IsCalm (after_poll o p)
-poll-calm o p calm = met-calm o p p.lines calm.0 (calm.1, calm.2, calm.3)
+poll-calm o p calm = coming-calm o p p.peers.coming calm.0 (calm.1, calm.2, calm.3)
 
 -- ---- turns
 
@@ -121,10 +130,10 @@ calm-after o call p (Closed till) calm served = calm
 calm-after o call p (HeardPt pt bytes) calm served = calm
 calm-after o call p (Lost pt) calm served = calm
 calm-after o call p Stopped calm served = calm
-calm-after o call p (Linked pt) calm served = counted-calm p calm
+calm-after o call p (Linked pt) calm served = counted-calm (linked_to_pt pt p) calm
 calm-after o call p (LinkFailed pt) calm served = counted-calm (record p { hazard = record p.hazard { fail_links = links_without p.hazard.fail_links pt } }) calm
 calm-after o call p (SentTill till bytes ok) calm served = sent-till-calm till ok p calm
-calm-after o call p (SentPt pt bytes ok) calm served = sent-pt-calm pt ok p calm
+calm-after o call p (SentPt pt bytes ok) calm served = sent-pt-calm pt ok (sent_to_pt pt bytes p) calm
 calm-after o call p (CutTill till) calm served = counted-calm p calm
 calm-after o call p (CutPt pt) calm served = counted-calm p calm
 calm-after o call p (Wrote offset bytes) calm served =

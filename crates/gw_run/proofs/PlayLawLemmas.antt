@@ -10,8 +10,8 @@ use Rattle.gw_site.specs.declared.turn.Turn.{Turn}
 use Rattle.gw_site.specs.declared.turn.Turn.TheVariants.{Start, OpenFailed, Linked, LinkFailed, Wrote, Synced, DiskFailed, Crash}
 use Rattle.gw_script.specs.site.Calls.{CallFits, are_scripted, call_turns, polled_turns}
 use Rattle.gw_script.specs.site.Hazards.{armed, crash_file, is_failing, is_reached}
-use Rattle.gw_script.specs.site.Playing.{Play, after_poll, applies, begins, brings, fails_next, is_off, met, powered, PlaysLines}
-use Rattle.gw_script.specs.site.ScriptLine.{Event, Open, Close, FromTill, FromPt, Lose, Tick, PlayedLine, At, Poll, Fail, Power, Script, setup_of}
+use Rattle.gw_script.specs.site.Playing.{Play, after_poll, applies, begins, brings, fails_next, is_off, met, met_coming, power_forgotten, powered, then_coming, PlaysLines}
+use Rattle.gw_script.specs.site.ScriptLine.{Event, Open, Close, FromTill, FromPt, Lose, Tick, PlayedLine, At, Poll, Fail, Power, ForgetPower, Script, setup_of}
 use Rattle.gw_script.specs.site.StepTurns.{place_after_step}
 use Rattle.gw_script.proofs.site.CallLemmas.{calls-play}
 use Rattle.gw_script.proofs.site.QuietLemmas.{on_or_off}
@@ -87,6 +87,15 @@ met-plain o p (Power calls kind ∷ lines) plain = by_test (calls == 0) (met-pla
     by_test : (test : Bool) → ArePlain (met o (powered calls kind p) lines).due → ArePlain (if test then is_off kind (record p { lines = lines }) else met o (powered calls kind p) lines).due
     by_test true later = plain
     by_test false later = later
+met-plain o p (ForgetPower ∷ lines) plain = met-plain o (power_forgotten p) lines plain
+
+coming-plain : (o : Outside) (p : Play) (events : List Event) → ArePlain p.due → ArePlain (met_coming o events p).due
+coming-plain o p [] plain = met-plain o (then_coming [] p) p.lines plain
+coming-plain o p (event ∷ events) plain = by_test (applies o event) (coming-plain o p events plain)
+  where
+    by_test : (test : Bool) → ArePlain (met_coming o events p).due → ArePlain (if test then record (then_coming events p) { due = brings event } else met_coming o events p).due
+    by_test true later = event-plain event
+    by_test false later = later
 
 polled-plain : (m : Play) (off : Option ImageKind) → ArePlain m.due → ArePlain (polled_turns m off)
 polled-plain m None plain = ((refl, refl), plain)
@@ -99,7 +108,7 @@ if-plain false turns others a b = b
 -- the turns of a call that opens no site are plain
 turns-plain : (o : Outside) (p : Play) (call : SiteCall) → p.due ≡ [] → ((setup : Setup) → call ≡ OpenCall setup → ⊥) → ArePlain (call_turns o p call)
 turns-plain o p (OpenCall setup) none other = absurd (other setup refl)
-turns-plain o p PollCall none other = polled-plain (after_poll o p) (after_poll o p).off (met-plain o p p.lines (subst ArePlain (sym none) tt))
+turns-plain o p PollCall none other = polled-plain (after_poll o p) (after_poll o p).off (coming-plain o p p.peers.coming (subst ArePlain (sym none) tt))
 turns-plain o p (SendTillCall till bytes) none other = ((refl, refl), tt)
 turns-plain o p (SendPtCall pt bytes) none other = ((refl, refl), tt)
 turns-plain o p (LinkCall pt) none other = if-plain (is_failing p.hazard.fail_links pt) (LinkFailed pt ∷ []) (Linked pt ∷ []) ((refl, refl), tt) ((refl, refl), tt)

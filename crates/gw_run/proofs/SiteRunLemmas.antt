@@ -1,6 +1,7 @@
 -- Runs over the site in memory, and what its plan says once no run more begins.
 use Rattle.std.proofs.Common.{◌≡◌, ℕ, ◌<◌, List, [], ◌∷◌, ◌++◌, length, refl, sym, ◌∙◌, ap, subst, append-nil, inl, inr, true, false}
 use Rattle.std.specs.Prelude.{Bool, ◌⊎◌, ◌||◌, Option, Some, None, Ok, is_some, option_map}
+use Rattle.gw_base.specs.declared.setup.Setup.{Setup}
 use Rattle.gw_site.specs.Observed.{IfObserved, Observed}
 use Rattle.gw_site.specs.Outside.{outside_of}
 use Rattle.gw_site.specs.Steps.{Plan, PowerBack, turns_of_steps}
@@ -9,8 +10,9 @@ use Rattle.gw_site.specs.declared.turn.Turn.TheVariants.{Crash}
 use Rattle.gw_script.specs.site.Decode.{script_of}
 use Rattle.gw_script.specs.site.Hazards.{crash_file}
 use Rattle.gw_script.specs.site.Playing.{Play, PlaysLines}
-use Rattle.gw_script.specs.site.ScriptLine.{Script, setup_of}
-use Rattle.gw_script.specs.site.StepTurns.{place_after_step, power_turns, turns_by, with_those_after}
+use Rattle.gw_script.specs.site.Powers.{power_lines}
+use Rattle.gw_script.specs.site.ScriptLine.{PlayedLine, Script, setup_of}
+use Rattle.gw_script.specs.site.StepTurns.{site_turns, place_after_step, power_turns, turns_by, with_those_after}
 use Rattle.sim_script.specs.Values.{image_value}
 use Rattle.sim_script.specs.declared.line.ImageKind.{ImageKind}
 use Rattle.sim_site.specs.Made.{play_at}
@@ -19,14 +21,17 @@ use Rattle.sim_site.specs.declared.site.SimSite.{SimSite}
 use Rattle.gw_rules.specs.LedgerRules.{LawfulRefusedOnlyWithFewerSlots}
 use Rattle.gw_rules.specs.Acts.{taken_of}
 use Rattle.gw_rules.specs.Triple.{IsRun, RunTriple}
-use Rattle.gw_dispatch.specs.RunEnd.{NoneBegan}
-use Rattle.gw_run.specs.Replay.{HasEnd, HasPlayed, HasRun, HasRunAgain, IsFresh, IsPlayEnd, IsPlayOf, IsUnbegun, IsWrittenEnd}
-use Rattle.gw_run.specs.RunEnds.{EndsRun}
+use Rattle.gw_dispatch.specs.RunEnd.{NoneBegan, TalliedBy}
+use Rattle.gw_dispatch.specs.declared.engine.Ended.TheVariants.{Done, NoMemory, NotOpened as RunNotOpened}
+use Rattle.gw_dispatch.specs.declared.engine.TalliedEnd.{TalliedEnd}
+use Rattle.gw_run.specs.Replay.{HasEnd, IsFresh, IsPlayEnd, IsPlayOf, IsWrittenEnd}
+use Rattle.gw_run.specs.RunEnds.{ending_of}
+use Rattle.gw_run.specs.PlayedRuns.{FailsAtMost, HasPlayed, HasRun, HasRunAgain, HasTallied, HasTalliedFrom, IsUnbegun}
 use Rattle.gw_run.specs.ScriptLog.{IsEnded, IsLogOf}
 use Rattle.gw_run.specs.Top.{ShowsEnd}
 use Rattle.gw_run.specs.declared.ending.Ending.{Ending}
 use Rattle.gw_run.specs.declared.ending.Ending.TheVariants.{Played, Words, Long, Line as AtLine, Input, NotOpened, Memory, OutputFailed, Disk, LongJournal, CutJournal, BadSlot}
-use Rattle.gw_run.proofs.RunsLemmas.{IsKnown, MayRun, done-stands, failures-more, fewer-left, has-run, log-plays, may-run-again, nothing-played, some-log, steps-played, with-more}
+use Rattle.gw_run.proofs.RunsLemmas.{IsKnown, MayRun, done-stands, failures-few, failures-more, fewer-left, has-run, may-run-again, nothing-played, some-log, some-plan, steps-played, with-more}
 
 -- ---- what is known of further steps
 
@@ -52,49 +57,64 @@ plan-rests false (Some kind) log p e lit = absurd (let h : true ≡ false = lit 
 plan-rests false None log p e lit = record { known = record { later = turns_by log p; plan_is = refl; nothing = refl }; no_power = none-waits log p e }
 
 -- so it is where it isn't dark
-site-rests : (site : SimSite) → (sim_observed site).dark ≡ false → IsResting (sim_observed site).plan
+pub site-rests : (site : SimSite) → (sim_observed site).dark ≡ false → IsResting (sim_observed site).plan
 site-rests site lit = plan-rests site.played.short site.played.place.off site.played.log (play_at site.played) refl lit
 
 -- ---- the first run
 
 -- nothing was played without memory for the setup
-pub nothing-run : (script : Script) (observed : Observed) (log : List Turn) → IsUnbegun script observed → observed.log ≡ Some log → HasRun script Memory observed log
-nothing-run script observed log fresh e = record {
-  played = subst (HasPlayed script observed.plan) (some-log (sym fresh.log_is ∙ e)) (nothing-played script observed.plan fresh.plan_is);
-  end = λ lit few. inl refl;
+pub nothing-run : (own : Setup) (old : Observed) (end : TalliedEnd) (log : List Turn) → old.log ≡ Some [] → end.ended ≡ NoMemory → old.log ≡ Some log → HasTalliedFrom old own end old log
+nothing-run own old end log fresh refused e = λ whole is. record {
+  run = record {
+    played = subst (HasPlayed own whole old.plan) (some-log (sym fresh ∙ e)) (nothing-played own whole old.plan is);
+    end = λ lit few. inl (ap ending_of refused);
+  };
+  tally = λ lit done. absurd (let h : NoMemory ≡ Done = sym refused ∙ done in cc);
 }
 
 -- ---- one run more
 
-pub ran-again : LawfulRefusedOnlyWithFewerSlots → (script : Script) (ending : Ending) (old back new : SimSite) → HasPlayed script (sim_observed old).plan (log_of old) → IsRestarted old back
-    → (ending ≡ NotOpened → IfObserved (sim_observed back) (λ before. NoneBegan before (sim_observed new)))
-    → RunTriple (setup_of script.given) (sim_observed back) (sim_observed new) (IsRun (setup_of script.given)) (EndsRun ending 18446744073709551615)
-    → HasRunAgain script ending (log_of old) (sim_observed new) (log_of new)
-ran-again rules script ending old back new p x none runs =
+pub ran-again : LawfulRefusedOnlyWithFewerSlots → (own : Setup) (whole : Plan) (most : ℕ) (end : TalliedEnd) (old back new : SimSite) → FailsAtMost most whole → HasPlayed own whole (sim_observed old).plan (log_of old) → IsRestarted old back
+    → (end.ended ≡ RunNotOpened → IfObserved (sim_observed back) (λ before. NoneBegan before (sim_observed new)))
+    → RunTriple own (sim_observed back) (sim_observed new) (IsRun own) (TalliedBy end 18446744073709551615)
+    → HasRunAgain own whole most end (log_of old) (sim_observed new) (log_of new)
+ran-again rules own whole most end old back new least p x none runs =
     let file = crash_file x.kind (outside_there old) in
     let before = log_of old ++ Crash file ∷ [] in
     let old_is : (sim_observed back).log ≡ Some before = ap Some x.log in
-    let m : MayRun script (sim_observed back).plan before = may-run-again script (sim_observed old).plan (sim_observed back).plan (log_of old) file p x.image x.bytes x.taken in
-    let none_is = λ (e : ending ≡ NotOpened). none e before old_is in
-    let more = failures-more rules script ending (sim_observed back) (sim_observed new) before (log_of new) m old_is refl none_is runs in
+    let m : MayRun own whole (sim_observed back).plan before = may-run-again own whole (sim_observed old).plan (sim_observed back).plan (log_of old) file p x.image x.bytes x.taken in
+    let none_is = λ (e : end.ended ≡ RunNotOpened). none e before old_is in
+    let more = failures-more rules own whole end (sim_observed back) (sim_observed new) before (log_of new) m old_is refl none_is runs in
     record {
-      run = has-run rules script ending (sim_observed back) (sim_observed new) before (log_of new) m old_is refl none_is runs;
-      fewer = fewer-left script.lines (log_of old) more.0 (log_of new) file (log-plays script (sim_observed back).plan before m.played (site-known back x.short)) more.1;
+      run = has-run rules own whole end (sim_observed back) (sim_observed new) before (log_of new) m old_is refl none_is runs;
+      fewer = fewer-left most (log_of old) more.0 (log_of new) file (failures-few own whole (sim_observed back).plan most before least m.played (site-known back x.short)) more.1;
     }
 
+-- so it is after whatever was to be played
+pub run-again-from : (own : Setup) (lines : List PlayedLine) (first old new : Observed) (end last : TalliedEnd) (before after : List Turn) → IsUnbegun lines first → HasTalliedFrom first own end old before
+    → ((whole : Plan) (most : ℕ) → FailsAtMost most whole → HasPlayed own whole old.plan before → HasRunAgain own whole most last before new after) → HasTalliedFrom first own last new after
+run-again-from own lines first old new end last before after unbegun ran again = λ whole is.
+    let few : FailsAtMost (power_lines lines) whole = subst (FailsAtMost (power_lines lines)) (some-plan (sym unbegun.plan_is ∙ is)) unbegun.few in
+    (again whole (power_lines lines) few (ran whole is).run.played).run
+
 -- without memory to restart the site nothing more is played
-pub run-refused : (script : Script) (ending : Ending) (old new : SimSite) → sim_observed new ≡ sim_observed old → HasRun script ending (sim_observed old) (log_of old) → HasRun script Memory (sim_observed new) (log_of new)
-run-refused script ending old new same run = record {
-  played = subst (λ plan. HasPlayed script plan (log_of new)) (sym (ap (λ (o : Observed). o.plan) same)) (subst (HasPlayed script (sim_observed old).plan) (sym (some-log (ap (λ (o : Observed). o.log) same))) run.played);
-  end = λ lit few. inl refl;
-}
+pub run-refused : (own : Setup) (first : Observed) (end last : TalliedEnd) (old new : SimSite) → last.ended ≡ NoMemory → sim_observed new ≡ sim_observed old → HasTalliedFrom first own end (sim_observed old) (log_of old) → HasTalliedFrom first own last (sim_observed new) (log_of new)
+run-refused own first end last old new refused same ran = λ whole is.
+    let run = (ran whole is).run in
+    record {
+      run = record {
+        played = subst (λ plan. HasPlayed own whole plan (log_of new)) (sym (ap (λ (o : Observed). o.plan) same)) (subst (HasPlayed own whole (sim_observed old).plan) (sym (some-log (ap (λ (o : Observed). o.log) same))) run.played);
+        end = λ lit few. inl (ap ending_of refused);
+      };
+      tally = λ lit done. absurd (let h : NoMemory ≡ Done = sym refused ∙ done in cc);
+    }
 
 -- ---- the end
 
 -- what is reported after the last run: its end, or that memory was refused
-pub run-given : (script : Script) (ending result : Ending) (site : SimSite) → (result ≡ Memory) ⊎ ((result ≡ ending) × ((sim_observed site).dark ≡ false)) → HasRun script ending (sim_observed site) (log_of site) → HasRun script result (sim_observed site) (log_of site)
-run-given script ending result site (inl memory) run = record { played = run.played; end = λ lit few. inl memory }
-run-given script ending result site (inr (same, lit)) run = subst (λ one. HasRun script one (sim_observed site) (log_of site)) (sym same) run
+pub run-given : (own : Setup) (first : Observed) (end last : TalliedEnd) (site : SimSite) → (last.ended ≡ NoMemory) ⊎ ((last ≡ end) × ((sim_observed site).dark ≡ false)) → HasTalliedFrom first own end (sim_observed site) (log_of site) → HasTalliedFrom first own last (sim_observed site) (log_of site)
+run-given own first end last site (inl memory) ran = run-refused own first end last site site memory refl ran
+run-given own first end last site (inr (same, lit)) ran = subst (λ one. HasTalliedFrom first own one (sim_observed site) (log_of site)) (sym same) ran
 
 memory-or : (ending : Ending) → (ending ≡ Memory) ⊎ (ending ≡ Memory → ⊥)
 memory-or Played = inr (λ e. cc)
@@ -111,8 +131,8 @@ memory-or (CutJournal slot) = inr (λ e. cc)
 memory-or (BadSlot slot) = inr (λ e. cc)
 
 -- unless memory was refused the site isn't dark, and the log ends as the end says
-ends-so : (script : Script) (ending : Ending) (observed : Observed) (log : List Turn) → HasRun script ending observed log → ((ending ≡ Memory → ⊥) → observed.dark ≡ false) → length log < 18446744073709551615 → (ending ≡ Memory) ⊎ ((observed.dark ≡ false) × ShowsEnd ending log)
-ends-so script ending observed log run lit few = by_memory (memory-or ending)
+ends-so : (own : Setup) (whole : Plan) (ending : Ending) (observed : Observed) (log : List Turn) → HasRun own whole ending observed log → ((ending ≡ Memory → ⊥) → observed.dark ≡ false) → length log < 18446744073709551615 → (ending ≡ Memory) ⊎ ((observed.dark ≡ false) × ShowsEnd ending log)
+ends-so own whole ending observed log run lit few = by_memory (memory-or ending)
   where
     by_memory : (ending ≡ Memory) ⊎ (ending ≡ Memory → ⊥) → (ending ≡ Memory) ⊎ ((observed.dark ≡ false) × ShowsEnd ending log)
     by_memory (inl e) = inl e
@@ -137,22 +157,22 @@ end-ended (CutJournal slot) log end = absurd end
 end-ended (BadSlot slot) log end = absurd end
 
 -- what was played is the log of the script, where the site rests and no run more begins
-is-log : (text : List ℕ) (script : Script) (plan : Option Plan) (log : List Turn) → script_of text ≡ Ok script → HasPlayed script plan log → IsResting plan → IsEnded log → IsLogOf text log
+is-log : (text : List ℕ) (script : Script) (plan : Option Plan) (log : List Turn) → script_of text ≡ Ok script → HasPlayed (setup_of script.given) (site_turns script.lines) plan log → IsResting plan → IsEnded log → IsLogOf text log
 is-log text script plan log served p rests ended = record {
   script = script;
   script_is = served;
   acts = p.acts;
   done = p.done;
-  turns = steps-played script plan log p rests.known;
+  turns = steps-played (setup_of script.given) (site_turns script.lines) plan log p rests.known;
   ends = ended;
   power =
-      with-more script plan log rests.known.later p rests.known.plan_is (PowerBack ∷ [])
+      with-more (setup_of script.given) (site_turns script.lines) plan log rests.known.later p rests.known.plan_is (PowerBack ∷ [])
       ∙ ap (λ l. turns_of_steps (taken_of p.acts) ++ l) rests.no_power
       ∙ append-nil (turns_of_steps (taken_of p.acts));
 }
 
 -- so a play has this log
-play-of : (text : List ℕ) (script : Script) (ending : Ending) (site : SimSite) → script_of text ≡ Ok script → HasRun script ending (sim_observed site) (log_of site)
+play-of : (text : List ℕ) (script : Script) (ending : Ending) (site : SimSite) → script_of text ≡ Ok script → HasRun (setup_of script.given) (site_turns script.lines) ending (sim_observed site) (log_of site)
     → (ending ≡ Memory) ⊎ (((sim_observed site).dark ≡ false) × ShowsEnd ending (log_of site)) → ∥ PlaysLines script.lines (log_of site) ∥₁ → IsPlayOf text ending (log_of site)
 play-of text script ending site served run ends plays = record {
   script = script;
@@ -165,19 +185,29 @@ play-of text script ending site served run ends plays = record {
 
 -- ---- the log that is written
 
--- the log of the site, as it is given: whether it is that of all runs, and how it ends
-module _ (script : Script) (ending : Ending) (site : SimSite) (log : List Turn) (log_is : log ≡ log_of site) (few : length log < 18446744073709551615)
-    (run : HasRun script ending (sim_observed site) (log_of site)) (lit : (ending ≡ Memory → ⊥) → (sim_observed site).dark ≡ false) where
-  given-ends : (ending ≡ Memory) ⊎ (((sim_observed site).dark ≡ false) × ShowsEnd ending (log_of site))
-  given-ends = ends-so script ending (sim_observed site) (log_of site) run lit (subst (λ l. length l < 18446744073709551615) log_is few)
+-- the end of the runs, as it is reported
+pub as-ending : (own : Setup) (whole : Plan) (end : TalliedEnd) (ending : Ending) (observed : Observed) (log : List Turn) → ending ≡ ending_of end.ended → HasTallied own whole end observed log → HasRun own whole ending observed log
+as-ending own whole end ending observed log e ran = subst (λ one. HasRun own whole one observed log) (sym e) ran.run
 
-  pub given-end : (ending ≡ Memory) ⊎ ShowsEnd ending log
-  given-end = subst (λ l. (ending ≡ Memory) ⊎ ShowsEnd ending l) (sym log_is) (end-of-log ending (sim_observed site).dark (log_of site) given-ends)
+pub lit-unless : (end : TalliedEnd) (ending : Ending) (observed : Observed) → ending ≡ ending_of end.ended → ((end.ended ≡ NoMemory → ⊥) → observed.dark ≡ false) → (ending ≡ Memory → ⊥) → observed.dark ≡ false
+lit-unless end ending observed e lit other = lit (λ refused. other (e ∙ ap ending_of refused))
 
-  pub given-play : (text : List ℕ) (old : Observed) → script_of text ≡ Ok script → IsFresh old text script → (sim_observed site).origin ≡ old.origin → PlaysOrigin (sim_observed site).origin log → IsPlayOf text ending log
-  given-play text old served fresh origin plays =
-      let read : script_of (sim_observed site).origin ≡ Ok script = ap script_of (origin ∙ ap (λ (o : Observed). o.origin) fresh) ∙ served in
-      subst (IsPlayOf text ending) (sym log_is) (play-of text script ending site served run given-ends (subst (λ l. ∥ PlaysLines script.lines l ∥₁) log_is (plays script read)))
+-- the log of the site, as it is given: how it ends
+pub given-ends : (own : Setup) (whole : Plan) (ending : Ending) (site : SimSite) (log : List Turn) → log ≡ log_of site → length log < 18446744073709551615 → HasRun own whole ending (sim_observed site) (log_of site) → ((ending ≡ Memory → ⊥) → (sim_observed site).dark ≡ false)
+    → (ending ≡ Memory) ⊎ (((sim_observed site).dark ≡ false) × ShowsEnd ending (log_of site))
+given-ends own whole ending site log log_is few run lit = ends-so own whole ending (sim_observed site) (log_of site) run lit (subst (λ l. length l < 18446744073709551615) log_is few)
+
+pub given-end : (own : Setup) (whole : Plan) (ending : Ending) (site : SimSite) (log : List Turn) → log ≡ log_of site → length log < 18446744073709551615 → HasRun own whole ending (sim_observed site) (log_of site) → ((ending ≡ Memory → ⊥) → (sim_observed site).dark ≡ false)
+    → (ending ≡ Memory) ⊎ ShowsEnd ending log
+given-end own whole ending site log log_is few run lit = subst (λ l. (ending ≡ Memory) ⊎ ShowsEnd ending l) (sym log_is) (end-of-log ending (sim_observed site).dark (log_of site) (given-ends own whole ending site log log_is few run lit))
+
+-- and that it is the log of the script of a text, of which nothing had been played
+pub given-play : (text : List ℕ) (script : Script) (ending : Ending) (old : Observed) (site : SimSite) (log : List Turn) → script_of text ≡ Ok script → IsFresh old text script → log ≡ log_of site → length log < 18446744073709551615
+    → HasRun (setup_of script.given) (site_turns script.lines) ending (sim_observed site) (log_of site) → ((ending ≡ Memory → ⊥) → (sim_observed site).dark ≡ false) → (sim_observed site).origin ≡ old.origin → PlaysOrigin (sim_observed site).origin log → IsPlayOf text ending log
+given-play text script ending old site log served fresh log_is few run lit origin plays =
+    let read : script_of (sim_observed site).origin ≡ Ok script = ap script_of (origin ∙ ap (λ (o : Observed). o.origin) fresh) ∙ served in
+    let ends = given-ends (setup_of script.given) (site_turns script.lines) ending site log log_is few run lit in
+    subst (IsPlayOf text ending) (sym log_is) (play-of text script ending site served run ends (subst (λ l. ∥ PlaysLines script.lines l ∥₁) log_is (plays script read)))
 
 -- and its end
 pub play-has-end : (text : List ℕ) (ending result : Ending) (log : List Turn) → IsPlayOf text ending log → IsWrittenEnd ending result → HasEnd text result

@@ -12,12 +12,12 @@ use Rattle.gw_run.specs.LogWritten.{Adds}
 use Rattle.gw_run.specs.Replay.{IsReportedEnd, ReplayCause, ReplayPrinted, WritesTail}
 use Rattle.gw_run.specs.Serve.{HasServed, IsUntouched, ServeCause, ServePrinted, Serves, SiteCalls, serve_status}
 use Rattle.gw_run.specs.Top.{Cause, HasRisen, IsEnded, Stream, status_of, tail_of}
-use Rattle.gw_run.specs.Words.{AreRefused, AskForReplay, AskNotToServe, AskToServe, order_of}
+use Rattle.gw_run.specs.Words.{AreRefused, AskForDrill, AskForReplay, AskForReplayOrNothing, AskNotToServe, AskToReadNothing, AskToServe, order_of}
 use Rattle.gw_run.specs.declared.ending.Ending.{Ending}
 use Rattle.gw_run.specs.declared.ending.Ending.TheVariants.{Played, Memory, OutputFailed}
 use Rattle.gw_run.specs.declared.serving.ServeEnding.{ServeEnding}
 use Rattle.gw_run.specs.declared.serving.ServeEnding.TheVariants.{Config, Other}
-use Rattle.gw_run.specs.declared.words.Mode.TheVariants.{Serve, Replay}
+use Rattle.gw_run.specs.declared.words.Mode.TheVariants.{Serve, Replay, Drill}
 use Rattle.gw_run.specs.declared.words.Order.{Order}
 use Rattle.gw_run.proofs.ReplayLemmas.{IsFault, fault-printed, observed-cause}
 use Rattle.gw_run.proofs.RunEndLemmas.{zero-played}
@@ -37,10 +37,21 @@ none-or-some order e = absurd (let h : ◌≡◌ {A = Option Order} None (Some o
 asked : (words : List (List ℕ)) (order other : Order) → Some order ≡ order_of words → order_of words ≡ Some other → order ≡ other
 asked words order other is e = same-order order other (is ∙ e)
 
+-- words ask for one mode
+pub one-mode : {A : Type 0} (words : List (List ℕ)) (order other : Order) → Some order ≡ order_of words → order_of words ≡ Some other → (order.mode ≡ other.mode → ⊥) → A
+one-mode words order other is e differ = absurd (differ (ap (λ (o : Order). o.mode) (asked words order other is e)))
+
+serve-or-drill : (from payments : ℕ) → Serve ≡ Drill from payments → ⊥
+serve-or-drill from payments e = cc
+
+replay-or-drill : (from payments : ℕ) → Replay ≡ Drill from payments → ⊥
+replay-or-drill from payments e = cc
+
 -- words that ask to serve ask for nothing else
 pub serve-alone : {A : Type 0} (words : List (List ℕ)) (order : Order) → Some order ≡ order_of words → order.mode ≡ Serve → AskNotToServe words → A
 serve-alone words order is serve (inl (turns, e)) = modes-differ (sym serve ∙ ap (λ (o : Order). o.mode) (asked words order _ is e))
-serve-alone words order is serve (inr none) = none-or-some order (sym none ∙ sym is)
+serve-alone words order is serve (inr (inl none)) = none-or-some order (sym none ∙ sym is)
+serve-alone words order is serve (inr (inr (from, payments, (turns, e)))) = one-mode words order _ is e (λ same. serve-or-drill from payments (sym serve ∙ same))
 
 pub serve-no-replay : {A : Type 0} (words : List (List ℕ)) (order : Order) → Some order ≡ order_of words → order.mode ≡ Serve → AskForReplay words → A
 serve-no-replay words order is serve replay = serve-alone words order is serve (inl replay)
@@ -63,6 +74,43 @@ replay-alone words order turns is replay e = modes-differ (sym (ap (λ (o : Orde
 -- nor do words that are refused
 pub refused-alone : {A : Type 0} (words : List (List ℕ)) (order : Order) → None ≡ order_of words → order_of words ≡ Some order → A
 refused-alone words order none e = none-or-some order (none ∙ e)
+
+-- words that ask for a drill
+pub drill-alone : {A : Type 0} (words : List (List ℕ)) (order : Order) (from payments turns : ℕ) → Some order ≡ order_of words → order.mode ≡ Drill from payments → AskToServe words turns → A
+drill-alone words order from payments turns is drill e = one-mode words order _ is e (λ same. serve-or-drill from payments (sym same ∙ drill))
+
+pub drill-no-replay : {A : Type 0} (words : List (List ℕ)) (order : Order) (from payments : ℕ) → Some order ≡ order_of words → order.mode ≡ Drill from payments → AskForReplayOrNothing words → A
+drill-no-replay words order from payments is drill (inl (turns, e)) = one-mode words order _ is e (λ same. replay-or-drill from payments (sym same ∙ drill))
+drill-no-replay words order from payments is drill (inr none) = none-or-some order (sym none ∙ sym is)
+
+-- nor do words that ask to serve, or for a replay, ask for one
+pub serve-no-drill : {A : Type 0} (words : List (List ℕ)) (order : Order) (from payments : ℕ) → Some order ≡ order_of words → order.mode ≡ Serve → AskForDrill words from payments → A
+serve-no-drill words order from payments is serve (turns, e) = one-mode words order _ is e (λ same. serve-or-drill from payments (sym serve ∙ same))
+
+pub replay-no-drill : {A : Type 0} (words : List (List ℕ)) (order : Order) (from payments : ℕ) → Some order ≡ order_of words → order.mode ≡ Replay → AskForDrill words from payments → A
+replay-no-drill words order from payments is replay (turns, e) = one-mode words order _ is e (λ same. replay-or-drill from payments (sym replay ∙ same))
+
+pub refused-no-drill : {A : Type 0} (words : List (List ℕ)) (from payments : ℕ) → None ≡ order_of words → AskForDrill words from payments → A
+refused-no-drill words from payments none (turns, e) = none-or-some _ (none ∙ e)
+
+-- a replay reads its script
+pub replay-reads : {A : Type 0} (words : List (List ℕ)) (order : Order) → Some order ≡ order_of words → order.mode ≡ Replay → AskToReadNothing words → A
+replay-reads words order is replay (inl none) = none-or-some order (sym none ∙ sym is)
+replay-reads words order is replay (inr (from, payments, asks)) = replay-no-drill words order from payments is replay asks
+
+-- what serves is no replay, nor refused
+pub serve-ends-none : {A : Type 0} (words : List (List ℕ)) (order : Order) → Some order ≡ order_of words → order.mode ≡ Serve → AskForReplayOrNothing words → A
+serve-ends-none words order is serve (inl replay) = serve-no-replay words order is serve replay
+serve-ends-none words order is serve (inr none) = none-or-some order (sym none ∙ sym is)
+
+pub serve-reads : {A : Type 0} (words : List (List ℕ)) (order : Order) → Some order ≡ order_of words → order.mode ≡ Serve → AskToReadNothing words → A
+serve-reads words order is serve nothing = serve-alone words order is serve (inr nothing)
+
+same-drill : (from payments other more : ℕ) → Drill from payments ≡ Drill other more → (from ≡ other) × (payments ≡ more)
+same-drill from payments other more e = (cc, cc)
+
+pub drill-numbers : (words : List (List ℕ)) (order : Order) (from payments other more : ℕ) → Some order ≡ order_of words → order.mode ≡ Drill from payments → AskForDrill words other more → (from ≡ other) × (payments ≡ more)
+drill-numbers words order from payments other more is drill (turns, e) = same-drill from payments other more (sym drill ∙ ap (λ (o : Order). o.mode) (asked words order _ is e))
 
 -- ---- a replay, and words that are refused
 
@@ -154,3 +202,9 @@ serves-status IsOwn status most turns ending before new s same serves = subst (�
 pub serve-status-complete : (status : ℕ) (ending : ServeEnding) → status ≡ serve_status ending → (ending ≡ Other Played) ⊎ (ending ≡ Other Memory) → (status ≡ 0) ⊎ (status ≡ 71)
 serve-status-complete status ending s (inl played) = inl (s ∙ ap serve_status played)
 serve-status-complete status ending s (inr memory) = inr (s ∙ ap serve_status memory)
+
+-- ---- the order
+
+-- the order that is taken out is that which was read
+pub order-there : (taken order : Order) (read asked : Option Order) → taken ≡ order → read ≡ Some order → read ≡ asked → Some taken ≡ asked
+order-there taken order read asked same some is = ap Some same ∙ sym some ∙ is

@@ -7,11 +7,16 @@ use Rattle.gw_script.specs.site.Events.{HasEventsOf}
 use Rattle.gw_script.specs.site.Playing.{PlaysLines}
 use Rattle.gw_script.specs.site.ScriptLine.{Script, setup_of}
 use Rattle.gw_rules.specs.Lawful.{IsLawful}
+use Rattle.gw_run.specs.Drill.{IsDrillLog}
 use Rattle.gw_run.specs.ScriptLog.{AreRuns, IsLogOf, IsRunWith, IsStopped}
 
 -- a script has one log at most
 abbrev pub OneLog : Type 0
 OneLog = (text : List ℕ) (log other : List Turn) → IsLogOf text log → IsLogOf text other → log ≡ other
+
+-- a drill has one log at most, by its two numbers
+abbrev pub OneDrillLog : Type 0
+OneDrillLog = (from payments : ℕ) (log other : List Turn) → IsDrillLog from payments log → IsDrillLog from payments other → log ≡ other
 
 -- where no line makes a call fail, a log is the script's where it is lawful, one run with the script's setup, and goes by the script's lines, and only there
 abbrev pub LogGoesByLines : Type 0

@@ -87,28 +87,6 @@ TextPrinted script ending text = (input : Option (List ℕ)) → IsInput input s
 abbrev pub IsFresh : Observed → List ℕ → Script → Type 0
 IsFresh observed text script = observed ≡ record { log = Some []; faults = 0; dark = false; origin = text; plan = Some (site_turns script.lines) }
 
--- nothing was played of the script
-pub record IsUnbegun (script : Script) (observed : Observed) : Type 0 where
-  pub log_is : observed.log ≡ Some []
-  pub plan_is : observed.plan ≡ Some (site_turns script.lines)
-
--- what was done with the site of a script so far, from its beginning: its log is that, each run in it is opened with the script's setup, and where the site could keep all of its log, its steps have the turns that the script gives them
-pub record HasPlayed (script : Script) (plan : Option Plan) (log : List Turn) : Type 0 where
-  pub acts : List Act
-  pub done : HasDone (setup_of script.given) acts log
-  pub openings : AreOpenings (setup_of script.given) true log
-  pub taken : Takes (Some (site_turns script.lines)) plan (taken_of acts)
-
--- what all runs of a script so far have done, the last of which gives this end: unless the site is dark or memory was refused, or the log has as many turns as polls may be made, it ends as is said of that end
-pub record HasRun (script : Script) (ending : Ending) (observed : Observed) (log : List Turn) : Type 0 where
-  pub played : HasPlayed script observed.plan log
-  pub end : observed.dark ≡ false → length log < 18446744073709551615 → (ending ≡ Memory) ⊎ ShowsEnd ending log
-
--- one run more has done this after a log, from a power failure on: fewer power lines are left beyond the failures
-pub record HasRunAgain (script : Script) (ending : Ending) (before : List Turn) (observed : Observed) (log : List Turn) : Type 0 where
-  pub run : HasRun script ending observed log
-  pub fewer : power_lines script.lines - power_failures log < power_lines script.lines - power_failures before
-
 -- a play of the script of a text that ends so has this log: a lawful one that plays the script's lines, each of whose runs is opened with the script's setup; and where memory wasn't refused, the log of the script, after which it ends so
 pub record IsPlayOf (text : List ℕ) (ending : Ending) (log : List Turn) : Type 0 where
   pub script : Script

@@ -2,7 +2,7 @@
 use Rattle.std.specs.Prelude.{◌≡◌, ℕ, List, [], ◌∷◌, Some, codes}
 use Rattle.gw_run.specs.Words.{AreRefused, order_of}
 use Rattle.gw_run.specs.declared.words.Mode.{Mode}
-use Rattle.gw_run.specs.declared.words.Mode.TheVariants.{Serve, Replay}
+use Rattle.gw_run.specs.declared.words.Mode.TheVariants.{Serve, Replay, Drill}
 
 -- the words ask for this mode, and for so many polls
 abbrev pub AskFor : List (List ℕ) → Mode → ℕ → Type 0
@@ -16,6 +16,8 @@ pub record AcceptedExamples : Type 0 where
   pub before : AskFor (codes "--turns=0" ∷ codes "serve" ∷ []) Serve 0
   pub plus : AskFor (codes "serve" ∷ codes "--turns" ∷ codes "+5" ∷ []) Serve 5
   pub zeros : AskFor (codes "serve" ∷ codes "--turns" ∷ codes "007" ∷ []) Serve 7
+  pub drill : AskFor (codes "drill" ∷ []) (Drill 1 100) 18446744073709551615
+  pub numbers : AskFor (codes "drill" ∷ codes "--from" ∷ codes "7" ∷ codes "--payments" ∷ codes "0" ∷ []) (Drill 7 0) 18446744073709551615
   pub others : AskFor (codes "replay" ∷ codes "--from" ∷ codes "9" ∷ codes "--payments" ∷ codes "10000" ∷ []) Replay 18446744073709551615
 
 -- words that are refused
@@ -23,7 +25,7 @@ pub record RefusedExamples : Type 0 where
   pub none : AreRefused []
   pub two : AreRefused (codes "replay" ∷ codes "replay" ∷ [])
   pub other : AreRefused (codes "Serve" ∷ [])
-  pub unbuilt : AreRefused (codes "drill" ∷ [])
+  pub more : AreRefused (codes "drill" ∷ codes "--payments" ∷ codes "10001" ∷ [])
   pub twice : AreRefused (codes "serve" ∷ codes "--turns" ∷ codes "5" ∷ codes "--turns" ∷ codes "6" ∷ [])
   pub negative : AreRefused (codes "serve" ∷ codes "--turns=-5" ∷ [])
   pub large : AreRefused (codes "serve" ∷ codes "--turns" ∷ codes "18446744073709551616" ∷ [])

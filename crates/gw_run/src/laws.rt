@@ -1,6 +1,6 @@
 //! Laws of the logs of scripts.
 ghost use Rattle.gw_run.specs.Example.{LinksHasText, LinksIsOfScript, StatusHasText, StatusIsOfScript};
-ghost use Rattle.gw_run.specs.Laws.{LogGoesByLines, LogHasEvents, LogHasScript, LogIsPlayed, OneLog};
+ghost use Rattle.gw_run.specs.Laws.{LogGoesByLines, LogHasEvents, LogHasScript, LogIsPlayed, OneDrillLog, OneLog};
 ghost use Rattle.gw_run.specs.PowerExample.{LaterIsOfScript, PowerHasText, PowerIsOfScript, UnmeasuredIsOfScript, UnopenedIsOfScript};
 ghost use Rattle.gw_run.specs.ReadyExample.{FailedIsNotOfScript, ReadyHasText, ReadyIsOfScript};
 ghost use Rattle.gw_run.specs.WordsExample.{AcceptedExamples, RefusedExamples};
@@ -8,8 +8,10 @@ ghost use Rattle.gw_run.specs.WordsExample.{AcceptedExamples, RefusedExamples};
 /// A script has one log at most, whatever calls on the disk and power failures its lines make fail: while the power is there one call is
 /// due, but that the journal's file may be read once more, which leaves no turn; the script says what the turns of each step are;
 /// and the log goes on until the script was read to its end, the site can't be opened, or a call on the disk has failed.
+/// So a drill has one log at most, by its two numbers.
 pub fn law_one_log()
     ensures one { OneLog }
+    ensures drill { OneDrillLog }
 {}
 
 /// The log of a script is lawful, plays the script's lines, and has the outcome of an opening with the script's setup at first and

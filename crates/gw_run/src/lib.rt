@@ -1,6 +1,7 @@
 //! The gateway's top call.
 #![tactic(auto)]
 
+mod drill;
 mod ending;
 mod input;
 mod last_lines;
@@ -8,6 +9,7 @@ mod laws;
 mod one_run;
 mod program;
 mod replay;
+mod runs;
 mod serving;
 mod text;
 mod words;

@@ -20,7 +20,7 @@ use gw_site::Site;
 use std::alloc::Global;
 
 /// The end after a run that has ended so.
-fn ending_of(ended: Ended) -> Ending
+pub(crate) fn ending_of(ended: Ended) -> Ending
     ensures { result ≡ ending_of ended }
 {
     match ended {

@@ -8,13 +8,15 @@ ghost use Rattle.gw_site.specs.Observed.{IfObserved};
 ghost use Rattle.gw_dispatch.specs.Growth.{AddsPolls, PollsToEnd};
 ghost use Rattle.gw_rules.specs.Lawful.{IsClear, Stands};
 ghost use Rattle.gw_rules.specs.View.{View};
+ghost use Rattle.gw_run.specs.Drill.{HasDrilled};
 ghost use Rattle.gw_run.specs.LogWritten.{Adds};
 ghost use Rattle.gw_run.specs.Replay.{IsEndAfter, IsFresh, IsPlayEnd, IsTextEnd, IsTextFault, ReplayCause, ReplayPrinted, TextPrinted};
 ghost use Rattle.gw_run.specs.Serve.{HasServed, IsServable, IsSetupOfInput, Serves, site_calls};
 ghost use Rattle.gw_run.specs.Top.{IsEnded, IsLogWithin, IsPlayStatus, IsScriptLeft, IsStatusAfter, stream_observed};
-ghost use Rattle.gw_run.specs.Words.{AreRefused, AskForReplay, AskNotToServe, AskToServe};
+ghost use Rattle.gw_run.specs.Words.{AskForDrill, AskForReplay, AskForReplayOrNothing, AskNotToServe, AskToReadNothing, AskToServe};
 ghost use Rattle.sim_site.specs.Sites.{played_script, sim_observed};
 
+use crate::drill::drill;
 use crate::ending::Ending;
 use crate::input::read_input;
 use crate::last_lines::write_last_lines;
@@ -97,15 +99,18 @@ fn replay<I: Source, O: Sink>(alloc: Global, input: &mut I, out: &mut O) -> Endi
 
 /// Runs the gateway in the mode that the words name, and gives its exit status.
 ///
-/// The words are those of one command: `MODE`, and the options `--turns N`, `--from N` and `--payments N`. The modes are `serve` and `replay`.
+/// The words are those of one command: `MODE`, and the options `--turns N`, `--from N` and `--payments N`. The modes are `serve`, `replay`
+/// and `drill`.
 ///
 /// - `serve` reads a configuration from the input, and runs the engine over the site that is handed in, for at most `--turns` polls,
 ///   however it ends.
 /// - `replay` reads a script from the input, plays it, and writes the text of its log. The engine runs over the script's site, and is
 ///   started again, with the same setup, after each power failure. The site that is handed in gets no call.
+/// - `drill` makes so many payments out of a number, plays them and two terminals, and writes what it counts: six lines, each with a number.
+///   It reads nothing, and the site that is handed in gets no call.
 ///
 /// The last line that it writes is `status N`, and before that is a line with the fault where there is one. The statuses are:
-/// - 0: the script was played to its end; in `serve` all polls were made, or the site has stopped;
+/// - 0: the script or the drill was played to its end; in `serve` all polls were made, or the site has stopped;
 /// - 64: the words are refused (`words`);
 /// - 65: the input is no script (`script N` with the number of its first wrong line, or `script long`), or no configuration (a line that
 ///   begins with `config`);
@@ -118,7 +123,7 @@ fn replay<I: Source, O: Sink>(alloc: Global, input: &mut I, out: &mut O) -> Endi
 /// - 76: the journal is refused (`journal long N`, `journal cut N` or `journal slot N`); that of a script never is, as all its runs have
 ///   the same slots.
 ///
-/// Of the log of the site that it has served the headline holds, and of each log whose text it writes, and of each prefix of these: each book
+/// Of the log of the site that it has served the headline holds, of each log whose text it writes, of that of a drill, and of each prefix of these: each book
 /// of the terminals that is honest agrees with what was done and what tills were sent.
 pub fn top<S: Site, I: Source, O: Sink>(
     alloc: Global,
@@ -128,7 +133,7 @@ pub fn top<S: Site, I: Source, O: Sink>(
     out: &mut O,
 ) -> u8
     // With words that ask for a replay, or are refused.
-    ensures ended { AskNotToServe words.now → IsEnded result words.now
+    ensures ended { AskForReplayOrNothing words.now → IsEnded result words.now
         (stream_observed I.left I.faults input.old input.new)
         (stream_observed O.written O.faults out.old out.new) }
 
@@ -138,8 +143,12 @@ pub fn top<S: Site, I: Source, O: Sink>(
     // And nothing but what the log of the script says, or 71.
     ensures log { AskForReplay words.now → (text : List ℕ) (log : List Turn) → I.left input.old ≡ Some text → IsLogWithin text log → ¬ Rose (I.faults input.old) (I.faults input.new) → ¬ Rose (O.faults out.old) (O.faults out.new) → IsStatusAfter log result }
 
-    // With words that are refused nothing is read, and the site that is handed in gets a call only where it is to be served.
-    ensures unread { AreRefused words.now → input.new ≡ input.old }
+    // With words that ask for a drill: 0, 71 or 73; and 0 or 71 where the output doesn't fail.
+    ensures drilled { (from payments : ℕ) → AskForDrill words.now from payments → HasDrilled result from payments (stream_observed O.written O.faults out.old out.new) }
+    ensures drill_complete { (from payments : ℕ) → AskForDrill words.now from payments → ¬ Rose (O.faults out.old) (O.faults out.new) → (result ≡ 0) ⊎ (result ≡ 71) }
+
+    // With words that are refused, or ask for a drill, nothing is read, and the site that is handed in gets a call only where it is to be served.
+    ensures unread { AskToReadNothing words.now → input.new ≡ input.old }
     ensures site { AskNotToServe words.now → site.new ≡ site.old }
 
     // With words that ask to serve.
@@ -168,6 +177,7 @@ pub fn top<S: Site, I: Source, O: Sink>(
         Ok(Some(order)) => match order.mode {
             Mode::Serve => serve(alloc, order.polls, site, input, out).status(),
             Mode::Replay => replay(alloc, input, out).status(),
+            Mode::Drill { from, payments } => drill(alloc, from, payments, out).status(),
         },
         Ok(None) => write_last_lines(alloc, Ending::Words, out).status(),
         Err(AllocError) => write_last_lines(alloc, Ending::Memory, out).status(),

@@ -4,7 +4,7 @@ ghost use Rattle.clap.specs.Matches.{found_of};
 ghost use Rattle.clap.specs.Simple.{app_of, with_rule};
 ghost use Rattle.clap.specs.Values.{kind_of};
 ghost use Rattle.clap.specs.Walk.{rows_of, rule_of};
-ghost use Rattle.gw_run.specs.Words.{bare_command, gateway_command, mode_in, mode_of, mode_rule, number_in, number_rule, order_below, order_in, order_of};
+ghost use Rattle.gw_run.specs.Words.{bare_command, gateway_command, mode_in, mode_of, mode_rule, number_in, number_rule, order_in, order_of, payments_within};
 
 use clap::error::ErrorKind;
 use clap::{Arg, ArgMatches, Command, Error, value_parser};
@@ -19,6 +19,8 @@ pub enum Mode {
     Serve,
     /// Play a script and write its log.
     Replay,
+    /// Play the drill that this number gives, with so many payments, and write what it counts.
+    Drill { from: u64, payments: u32 },
 }
 
 /// What the words ask for.
@@ -88,25 +90,27 @@ fn gateway_command<'a>(alloc: Global) -> Result<Command<'a>, AllocError>
     with_drill_options(alloc, command)
 }
 
-/// The mode with this name.
-fn mode_of(name: &str) -> Option<Mode>
-    ensures { result ≡ mode_of name.now }
+/// The mode with this name, for a drill with these numbers.
+fn mode_of(name: &str, from: u64, payments: u32) -> Option<Mode>
+    ensures { result ≡ mode_of from payments name.now }
 {
     if name == "serve" {
         Some(Mode::Serve)
     } else if name == "replay" {
         Some(Mode::Replay)
+    } else if name == "drill" {
+        Some(Mode::Drill { from, payments })
     } else {
         None
     }
 }
 
-/// The mode that is named.
-fn mode_in(matches: &ArgMatches) -> Option<Mode>
-    ensures { result ≡ mode_in (rows_of (found_of matches.now)) }
+/// The mode that is named, for a drill with these numbers.
+fn mode_in(matches: &ArgMatches, from: u64, payments: u32) -> Option<Mode>
+    ensures { result ≡ mode_in from payments (rows_of (found_of matches.now)) }
 {
     match matches.get_str("mode") {
-        Some(name) => mode_of(name),
+        Some(name) => mode_of(name, from, payments),
         None => None,
     }
 }
@@ -118,14 +122,14 @@ fn number_in(matches: &ArgMatches, name: &str) -> Option<u64>
     matches.get_one::<u64>(name)
 }
 
-/// What is asked for, where no more payments are than may be.
-fn order_below(payments: u64, mode: Mode, polls: u64) -> Option<Order>
-    ensures { result ≡ order_below payments mode polls }
+/// So many payments, where no more are than may be.
+fn payments_within(payments: u64) -> Option<u32>
+    ensures { result ≡ payments_within payments }
 {
     if payments > u64::from(MOST_DRILL_PAYMENTS) {
         None
     } else {
-        Some(Order { mode, polls })
+        Some(payments as u32)
     }
 }
 
@@ -133,10 +137,11 @@ fn order_below(payments: u64, mode: Mode, polls: u64) -> Option<Order>
 fn order_in(matches: &ArgMatches) -> Option<Order>
     ensures { result ≡ order_in (rows_of (found_of matches.now)) }
 {
-    let mode = mode_in(matches)?;
     let polls = number_in(matches, "turns")?;
-    let payments = number_in(matches, "payments")?;
-    order_below(payments, mode, polls)
+    let from = number_in(matches, "from")?;
+    let payments = payments_within(number_in(matches, "payments")?)?;
+    let mode = mode_in(matches, from, payments)?;
+    Some(Order { mode, polls })
 }
 
 /// The words as slices.

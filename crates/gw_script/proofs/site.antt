@@ -7,6 +7,7 @@ pub mod ExactLemmas
 pub mod FormLemmas
 pub mod LeadsLemmas
 pub mod LinesLemmas
+pub mod NoFailureLemmas
 pub mod PowerLemmas
 pub mod QuietLemmas
 pub mod ScriptLemmas

@@ -4,11 +4,15 @@ pub mod CallExample
 pub mod Callers
 pub mod Calls
 pub mod Decode
+pub mod Drill
+pub mod DrillExample
 pub mod Events
 pub mod Example
 pub mod Grammar
 pub mod Hazards
 pub mod Laws
+pub mod NoFailures
+pub mod Peers
 pub mod Playing
 pub mod PowerExample
 pub mod Powers

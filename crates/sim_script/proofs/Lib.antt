@@ -1,4 +1,6 @@
 -- The lemmas of the reader of scripts.
+pub mod DrillLemmas
+pub mod DrillSizeLemmas
 pub mod LineLemmas
 pub mod NumberLemmas
 pub mod ScriptLemmas

@@ -1,13 +1,13 @@
 -- The lines of a script, as the grammar sees them.
 use Rattle.std.specs.Prelude.{List, map}
 use Rattle.gw_site.specs.Steps.{ImageKind, Old, New, Junk}
-use Rattle.gw_script.specs.site.ScriptLine.{SetupLine, Name, Queue, Wait, Slots, Terminal, Event, Open, Close, FromTill, FromPt, Lose, Tick, Failing, FailOpen, FailLink, FailSendTill, FailSendPt, FailWrite, FailSync, FailLength, FailRead, PlayedLine, At, Poll, Fail, Power, Given, Script}
+use Rattle.gw_script.specs.site.ScriptLine.{SetupLine, Name, Queue, Wait, Slots, Terminal, Event, Open, Close, FromTill, FromPt, Lose, Tick, Failing, FailOpen, FailLink, FailSendTill, FailSendPt, FailWrite, FailSync, FailLength, FailRead, PlayedLine, At, Poll, Fail, Power, ForgetPower, Given, Script}
 use Rattle.sim_script.specs.declared.line.Script.{Script as ReadScript}
 use Rattle.sim_script.specs.declared.line.Given.{Given as ReadGiven}
 use Rattle.sim_script.specs.declared.line.SetupLine.{SetupLine as ReadSetupLine}
 use Rattle.sim_script.specs.declared.line.SetupLine.TheVariants.{Name as ReadName, Queue as ReadQueue, Wait as ReadWait, Slots as ReadSlots, Terminal as ReadTerminal}
 use Rattle.sim_script.specs.declared.line.ScriptLine.{ScriptLine}
-use Rattle.sim_script.specs.declared.line.ScriptLine.TheVariants.{At as ReadAt, Poll as ReadPoll, Fail as ReadFail, Power as ReadPower}
+use Rattle.sim_script.specs.declared.line.ScriptLine.TheVariants.{At as ReadAt, Poll as ReadPoll, Fail as ReadFail, Power as ReadPower, ForgetPower as ReadForgetPower}
 use Rattle.sim_script.specs.declared.line.ScriptEvent.{ScriptEvent}
 use Rattle.sim_script.specs.declared.line.ScriptEvent.TheVariants.{Open as ReadOpen, Close as ReadClose, FromTill as ReadFromTill, FromPt as ReadFromPt, Lose as ReadLose, Tick as ReadTick}
 use Rattle.sim_script.specs.declared.line.FailingCall.{FailingCall}
@@ -55,6 +55,7 @@ script_line_value (ReadAt moment) = At moment
 script_line_value (ReadPoll event) = Poll (script_event_value event)
 script_line_value (ReadFail failing) = Fail (failing_value failing)
 script_line_value (ReadPower calls kind) = Power calls (image_value kind)
+script_line_value ReadForgetPower = ForgetPower
 
 -- what the setup lines give, as the grammar sees it
 abbrev pub given_value : ReadGiven → Given

@@ -48,6 +48,8 @@ pub enum ScriptLine {
     Fail(FailingCall),
     /// The power fails after so many more calls, and leaves this.
     Power(u64, ImageKind),
+    /// A power failure that was set and has no effect yet is forgotten. No text has this line.
+    ForgetPower,
 }
 
 /// What a poll brings.
@@ -104,7 +106,7 @@ impl Chunk {
     ghost use Rattle.std.specs.Prelude.{◌≡◌, IfOk};
 
     /// A chunk of these bytes.
-    pub(crate) fn new(alloc: Global, bytes: Bytes) -> Result<Chunk, AllocError>
+    pub fn new(alloc: Global, bytes: Bytes) -> Result<Chunk, AllocError>
         requires { IsCount (length bytes) }
         ensures { IfOk result (λ chunk. chunk.bytes ≡ bytes) }
     {

@@ -7,7 +7,7 @@ use Rattle.gw_script.specs.site.Playing.{early_lines, is_early}
 use Rattle.gw_script.specs.site.ScriptLine.{Failing, PlayedLine, Fail}
 use Rattle.sim_script.specs.Values.{failing_value, lines_value, script_line_value}
 use Rattle.sim_script.specs.declared.line.ScriptLine.{ScriptLine}
-use Rattle.sim_script.specs.declared.line.ScriptLine.TheVariants.{At as ReadAt, Poll as ReadPoll, Fail as ReadFail, Power as ReadPower}
+use Rattle.sim_script.specs.declared.line.ScriptLine.TheVariants.{At as ReadAt, Poll as ReadPoll, Fail as ReadFail, Power as ReadPower, ForgetPower as ReadForgetPower}
 use Rattle.sim_site.specs.Early.{is_early_line}
 
 by_test : (test rest : Bool) (failing : Failing) (lines : List PlayedLine) → rest ≡ is_empty lines → (test && rest) ≡ is_empty (if test then lines else Fail failing ∷ lines)
@@ -21,6 +21,7 @@ early_all (ReadAt moment ∷ lines) = refl
 early_all (ReadPoll event ∷ lines) = refl
 early_all (ReadFail failing ∷ lines) = by_test (is_early (failing_value failing)) (list_all (λ line. is_early_line (script_line_value line)) lines) (failing_value failing) (early_lines (lines_value lines)) (early_all lines)
 early_all (ReadPower calls kind ∷ lines) = refl
+early_all (ReadForgetPower ∷ lines) = refl
 
 -- before the end some line is left
 pub some_left : (lines : List ScriptLine) (n : ℕ) → n < length lines → is_empty (lines_value (drop n lines)) ≡ false

@@ -5,8 +5,10 @@ use Rattle.gw_base.specs.declared.setup.Setup.{Setup}
 use Rattle.gw_site.specs.Outside.{Outside}
 use Rattle.gw_site.specs.declared.turn.Turn.TheVariants.{Start, OpenFailed, Linked, LinkFailed, Wrote, Synced, DiskFailed}
 use Rattle.gw_site.specs.Steps.{LengthCall, LinkCall, OpenCall, ReadCall, SendPtCall, SendTillCall, SyncCall, WriteCall}
-use Rattle.gw_script.specs.site.Hazards.{Armed, Hazard, is_failing, links_without, sends_without, takes_most}
-use Rattle.gw_script.specs.site.Playing.{Length, Play, Read, Sync, Write, counted, is_off, one_call_less, powered, send_failed_pt, send_failed_till}
+use Rattle.gw_script.specs.site.Hazards.{Armed, Hazard, is_failing, links_without, sends_without, sent_of, takes_most}
+use Rattle.gw_script.specs.site.Peers.{peers_after_bytes, peers_after_link}
+use Rattle.sim_site.specs.Peering.{peers_by_link}
+use Rattle.gw_script.specs.site.Playing.{Length, Play, Read, Sync, Write, counted, is_off, one_call_less, powered, send_failed_pt, send_failed_till, sent_to_pt}
 use Rattle.gw_script.specs.site.Calls.{place_after, play_from}
 use Rattle.sim_site.proofs.HazardLemmas.{none_failing, none_without}
 
@@ -24,19 +26,25 @@ till_moves o p till bytes = by_most (takes_most p.hazard.fail_tills till) refl
     by_most (Some most) e = refl
     by_most None e = ap (λ s. counted (record p { hazard = record p.hazard { fail_tills = s } })) (none_without p.hazard.fail_tills till e)
 
-pub pt_moves : (o : Outside) (p : Play) (pt : ℕ) (bytes : List ℕ) → counted (record p { hazard = record p.hazard { fail_pts = sends_without p.hazard.fail_pts pt } }) ≡ place_after o p (SendPtCall pt bytes)
+-- those that the send takes are heard
+pub pt_moves : (o : Outside) (p : Play) (pt : ℕ) (bytes : List ℕ) →
+    counted (record p { hazard = record p.hazard { fail_pts = sends_without p.hazard.fail_pts pt }; peers = peers_after_bytes pt (sent_of (takes_most p.hazard.fail_pts pt) bytes) p.peers }) ≡ place_after o p (SendPtCall pt bytes)
 pt_moves o p pt bytes = by_most (takes_most p.hazard.fail_pts pt) refl
   where
-    by_most : (most : Option ℕ) → takes_most p.hazard.fail_pts pt ≡ most → counted (record p { hazard = record p.hazard { fail_pts = sends_without p.hazard.fail_pts pt } }) ≡ send_failed_pt pt (not (is_some most)) p
-    by_most (Some most) e = refl
-    by_most None e = ap (λ s. counted (record p { hazard = record p.hazard { fail_pts = s } })) (none_without p.hazard.fail_pts pt e)
+    q : Play
+    q = sent_to_pt pt (sent_of (takes_most p.hazard.fail_pts pt) bytes) p
 
-pub link_moves : (o : Outside) (p : Play) (pt : ℕ) → counted (record p { hazard = record p.hazard { fail_links = links_without p.hazard.fail_links pt } }) ≡ place_after o p (LinkCall pt)
+    by_most : (most : Option ℕ) → takes_most p.hazard.fail_pts pt ≡ most → counted (record q { hazard = record p.hazard { fail_pts = sends_without p.hazard.fail_pts pt } }) ≡ send_failed_pt pt (not (is_some most)) q
+    by_most (Some most) e = refl
+    by_most None e = ap (λ s. counted (record q { hazard = record p.hazard { fail_pts = s } })) (none_without p.hazard.fail_pts pt e)
+
+pub link_moves : (o : Outside) (p : Play) (pt : ℕ) → counted (record p { hazard = record p.hazard { fail_links = links_without p.hazard.fail_links pt }; peers = peers_by_link (is_failing p.hazard.fail_links pt) pt p.peers }) ≡ place_after o p (LinkCall pt)
 link_moves o p pt = by_test (is_failing p.hazard.fail_links pt) refl
   where
-    by_test : (test : Bool) → is_failing p.hazard.fail_links pt ≡ test → counted (record p { hazard = record p.hazard { fail_links = links_without p.hazard.fail_links pt } }) ≡ play_from o Sync p (if test then LinkFailed pt ∷ [] else Linked pt ∷ [])
+    by_test : (test : Bool) → is_failing p.hazard.fail_links pt ≡ test →
+        counted (record p { hazard = record p.hazard { fail_links = links_without p.hazard.fail_links pt }; peers = peers_by_link test pt p.peers }) ≡ play_from o Sync p (if test then LinkFailed pt ∷ [] else Linked pt ∷ [])
     by_test true e = refl
-    by_test false e = ap (λ l. counted (record p { hazard = record p.hazard { fail_links = l } })) (none_failing p.hazard.fail_links pt e)
+    by_test false e = ap (λ l. counted (record p { hazard = record p.hazard { fail_links = l }; peers = peers_after_link pt p.peers })) (none_failing p.hazard.fail_links pt e)
 
 pub length_moves : (o : Outside) (p : Play) → record p { hazard = record p.hazard { fail_length = false } } ≡ place_after o p LengthCall
 length_moves o p = by_test p.hazard.fail_length refl

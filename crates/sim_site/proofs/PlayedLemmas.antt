@@ -13,11 +13,12 @@ use Rattle.gw_site.specs.declared.turn.Turn.{Turn}
 use Rattle.gw_site.specs.declared.turn.Turn.TheVariants.{OpenFailed, Start, Crash, Linked, LinkFailed, Polled, SentTill, SentPt, Wrote, Synced, DiskFailed}
 use Rattle.gw_site.proofs.OutsideLemmas.{outside_of-append}
 use Rattle.gw_site.specs.Steps.{Holding, Made, PollCall, PowerBack, SiteCall, SiteStep, StopAfter, ImageKind}
-use Rattle.gw_script.specs.site.Calls.{IsReached, Reaches, are_scripted, call_turns, place_after, polled_place, polled_turns, set_to_fail}
+use Rattle.pt_core.specs.Serving.{TerminalValue}
+use Rattle.gw_script.specs.site.Calls.{IsPlayedTo, IsReachedWith, ReachesWith, are_scripted, call_turns, place_after, polled_place, polled_turns, set_to_fail}
 use Rattle.gw_script.specs.site.Hazards.{armed, crash_file, is_reached, sent_of}
-use Rattle.gw_script.specs.site.Playing.{Idle, Play, PlaysLines, after_poll, applies, begins, brings, fails_next, is_off, met, powered, restarted}
-use Rattle.gw_script.specs.site.ScriptLine.{Failing, PlayedLine, At, Poll, Fail, Power}
-use Rattle.gw_script.proofs.site.CallLemmas.{calls-go-on, calls-play, goes-on-beside, power-goes-on, scripted_append}
+use Rattle.gw_script.specs.site.Playing.{Idle, Play, PlaysLines, after_poll, applies, begins_with, brings, fails_next, is_off, met, met_coming, power_forgotten, powered, restarted, then_coming}
+use Rattle.gw_script.specs.site.ScriptLine.{Failing, PlayedLine, At, Poll, Fail, Power, ForgetPower}
+use Rattle.gw_script.proofs.site.CallLemmas.{calls-play, calls_on, file_on, power_on, scripted_append, stop_on}
 use Rattle.gw_script.proofs.site.LeadsLemmas.{prefixes-play}
 use Rattle.sim_script.specs.Values.{image_value, lines_value}
 use Rattle.sim_script.specs.declared.line.ImageKind.{ImageKind as ReadImageKind}
@@ -38,96 +39,103 @@ never e = absurd (let h : true ≡ false = e in cc)
 
 -- ---- which steps have led here
 
-pub part_same : (scripted : Bool) (lines : List PlayedLine) (old new : List Turn) → new ≡ old → ∥ HasPart scripted lines old ∥₁ → ∥ HasPart scripted lines new ∥₁
-part_same scripted lines old new e p = subst (λ log. ∥ HasPart scripted lines log ∥₁) (sym e) p
+pub part_same : (scripted : Bool) (terminals : List TerminalValue) (lines : List PlayedLine) (old new : List Turn) → new ≡ old → ∥ HasPart scripted terminals lines old ∥₁ → ∥ HasPart scripted terminals lines new ∥₁
+part_same scripted terminals lines old new e p = subst (λ log. ∥ HasPart scripted terminals lines log ∥₁) (sym e) p
 
-whole_part : (scripted : Bool) (lines : List PlayedLine) (log : List Turn) (place : Play) → HasSteps scripted lines log place → HasPart scripted lines log
-whole_part scripted lines log place stood = ([], place, subst (λ l. HasSteps scripted lines l place) (sym (append-nil log)) stood)
+whole_part : (scripted : Bool) (terminals : List TerminalValue) (lines : List PlayedLine) (log : List Turn) (place : Play) → HasSteps scripted terminals lines log place → HasPart scripted terminals lines log
+whole_part scripted terminals lines log place stood = ([], place, subst (λ l. HasSteps scripted terminals lines l place) (sym (append-nil log)) stood)
 
-pub part_stood : (scripted : Bool) (lines : List PlayedLine) (log : List Turn) (place : Play) → ∥ HasSteps scripted lines log place ∥₁ → ∥ HasPart scripted lines log ∥₁
-part_stood scripted lines log place p = ∥∥₁_map p (λ stood. whole_part scripted lines log place stood)
+pub part_stood : (scripted : Bool) (terminals : List TerminalValue) (lines : List PlayedLine) (log : List Turn) (place : Play) → ∥ HasSteps scripted terminals lines log place ∥₁ → ∥ HasPart scripted terminals lines log ∥₁
+part_stood scripted terminals lines log place p = ∥∥₁_map p (λ stood. whole_part scripted terminals lines log place stood)
 
--- a prefix of a log of the script alone plays it
-pub part_plays : (lines : List PlayedLine) (log : List Turn) → HasPart true lines log → PlaysLines lines log
-part_plays lines log (later, place, (steps, own, leads)) = prefixes-play lines log later (calls-play lines steps (log ++ later) own (place, leads))
+-- a prefix of a log of the script alone plays it, where no terminal is played
+pub part_plays : (terminals : List TerminalValue) (lines : List PlayedLine) (log : List Turn) → terminals ≡ [] → HasPart true terminals lines log → PlaysLines lines log
+part_plays terminals lines log alone (later, place, (steps, own, leads)) =
+    prefixes-play lines log later (calls-play lines steps (log ++ later) own (place, subst (λ these. ReachesWith these lines steps (log ++ later) place) alone leads))
+
+-- it leads to its place
+pub played_alone : (terminals : List TerminalValue) (lines : List PlayedLine) (log : List Turn) (place : Play) → terminals ≡ [] → HasSteps true terminals lines log place → IsPlayedTo lines log place
+played_alone terminals lines log place alone (steps, own, leads) = (steps, own, subst (λ these. ReachesWith these lines steps log place) alone leads)
 
 -- what the script alone leads to is led to
-loosened : (scripted : Bool) (lines : List PlayedLine) (log : List Turn) (place : Play) → HasSteps scripted lines log place → IsReached lines log place
-loosened true lines log place (steps, own, leads) = (steps, leads)
-loosened false lines log place reached = reached
+loosened : (scripted : Bool) (terminals : List TerminalValue) (lines : List PlayedLine) (log : List Turn) (place : Play) → HasSteps scripted terminals lines log place → IsReachedWith terminals lines log place
+loosened true terminals lines log place (steps, own, leads) = (steps, leads)
+loosened false terminals lines log place reached = reached
 
-pub part_loosened : (scripted : Bool) (lines : List PlayedLine) (log : List Turn) → ∥ HasPart scripted lines log ∥₁ → ∥ HasPart false lines log ∥₁
-part_loosened scripted lines log p = ∥∥₁_map p (λ part. (part.0, part.1, loosened scripted lines (log ++ part.0) part.1 part.2))
+pub part_loosened : (scripted : Bool) (terminals : List TerminalValue) (lines : List PlayedLine) (log : List Turn) → ∥ HasPart scripted terminals lines log ∥₁ → ∥ HasPart false terminals lines log ∥₁
+part_loosened scripted terminals lines log p = ∥∥₁_map p (λ part. (part.0, part.1, loosened scripted terminals lines (log ++ part.0) part.1 part.2))
 
-pub stands_loosened : (scripted : Bool) (lines : List PlayedLine) (log : List Turn) (place : Play) → ∥ HasSteps scripted lines log place ∥₁ → ∥ IsReached lines log place ∥₁
-stands_loosened scripted lines log place p = ∥∥₁_map p (λ stood. loosened scripted lines log place stood)
+pub stands_loosened : (scripted : Bool) (terminals : List TerminalValue) (lines : List PlayedLine) (log : List Turn) (place : Play) → ∥ HasSteps scripted terminals lines log place ∥₁ → ∥ IsReachedWith terminals lines log place ∥₁
+stands_loosened scripted terminals lines log place p = ∥∥₁_map p (λ stood. loosened scripted terminals lines log place stood)
 
 -- one step of the script more
-steps_on : (scripted : Bool) (lines : List PlayedLine) (old new : List Turn) (place next : Play) (step : SiteStep) → are_scripted (step ∷ []) ≡ true → ((steps : List SiteStep) → Reaches lines steps old place → Reaches lines (steps ++ step ∷ []) new next) →
-    HasSteps scripted lines old place → HasSteps scripted lines new next
-steps_on true lines old new place next step own goes (steps, mine, leads) = (steps ++ step ∷ [], scripted_append steps (step ∷ []) mine own, goes steps leads)
-steps_on false lines old new place next step own goes (steps, leads) = (steps ++ step ∷ [], goes steps leads)
+steps_on : (scripted : Bool) (terminals : List TerminalValue) (lines : List PlayedLine) (old new : List Turn) (place next : Play) (step : SiteStep) → are_scripted (step ∷ []) ≡ true →
+    ((steps : List SiteStep) → ReachesWith terminals lines steps old place → ReachesWith terminals lines (steps ++ step ∷ []) new next) → HasSteps scripted terminals lines old place → HasSteps scripted terminals lines new next
+steps_on true terminals lines old new place next step own goes (steps, mine, leads) = (steps ++ step ∷ [], scripted_append steps (step ∷ []) mine own, goes steps leads)
+steps_on false terminals lines old new place next step own goes (steps, leads) = (steps ++ step ∷ [], goes steps leads)
 
 pub idle_there : (lines : List ScriptLine) (place : Place) → place.off ≡ None → Idle (place_value lines place)
 idle_there lines place off = record { no_event = refl; no_failure = refl; power = ap (option_map image_value) off }
 
 -- the call goes on from the place
-call_on : (scripted : Bool) (lines : List ScriptLine) (old : List Turn) (place : Place) (call : SiteCall) → place.off ≡ None → HasSteps scripted (lines_value lines) old (place_value lines place) →
-    HasSteps scripted (lines_value lines) (old ++ call_turns (outside_of old) (place_value lines place) call) (place_after (outside_of old) (place_value lines place) call)
-call_on scripted lines old place call off stood =
+call_on : (scripted : Bool) (terminals : List TerminalValue) (lines : List ScriptLine) (old : List Turn) (place : Place) (call : SiteCall) → place.off ≡ None → HasSteps scripted terminals (lines_value lines) old (place_value lines place) →
+    HasSteps scripted terminals (lines_value lines) (old ++ call_turns (outside_of old) (place_value lines place) call) (place_after (outside_of old) (place_value lines place) call)
+call_on scripted terminals lines old place call off stood =
     let turns = call_turns (outside_of old) (place_value lines place) call in
-    steps_on scripted (lines_value lines) old (old ++ turns) (place_value lines place) (place_after (outside_of old) (place_value lines place) call) (Made call) refl
-    (λ steps leads. calls-go-on (lines_value lines) steps old (place_value lines place) call turns leads (idle_there lines place off, refl)) stood
+    steps_on scripted terminals (lines_value lines) old (old ++ turns) (place_value lines place) (place_after (outside_of old) (place_value lines place) call) (Made call) refl
+    (λ steps leads. calls_on (begins_with terminals (lines_value lines)) steps old (place_value lines place) call turns leads (idle_there lines place off, refl)) stood
 
 -- a call was made
-pub stands_made : (scripted : Bool) (lines : List ScriptLine) (old new : List Turn) (place next : Place) (call : SiteCall) → place.off ≡ None → new ≡ old ++ call_turns (outside_of old) (place_value lines place) call →
-    place_value lines next ≡ place_after (outside_of old) (place_value lines place) call → ∥ HasSteps scripted (lines_value lines) old (place_value lines place) ∥₁ → ∥ HasSteps scripted (lines_value lines) new (place_value lines next) ∥₁
-stands_made scripted lines old new place next call off is moves p = ∥∥₁_map p (λ stood.
-    subst (λ log. HasSteps scripted (lines_value lines) log (place_value lines next)) (sym is) (subst (HasSteps scripted (lines_value lines) (old ++ call_turns (outside_of old) (place_value lines place) call)) (sym moves) (call_on scripted lines old place call off stood)))
+pub stands_made : (scripted : Bool) (terminals : List TerminalValue) (lines : List ScriptLine) (old new : List Turn) (place next : Place) (call : SiteCall) → place.off ≡ None → new ≡ old ++ call_turns (outside_of old) (place_value lines place) call →
+    place_value lines next ≡ place_after (outside_of old) (place_value lines place) call → ∥ HasSteps scripted terminals (lines_value lines) old (place_value lines place) ∥₁ → ∥ HasSteps scripted terminals (lines_value lines) new (place_value lines next) ∥₁
+stands_made scripted terminals lines old new place next call off is moves p = ∥∥₁_map p (λ stood.
+    subst (λ log. HasSteps scripted terminals (lines_value lines) log (place_value lines next)) (sym is) (subst (HasSteps scripted terminals (lines_value lines) (old ++ call_turns (outside_of old) (place_value lines place) call)) (sym moves) (call_on scripted terminals lines old place call off stood)))
 
 -- memory was refused, and the log has only some of the call's turns
-pub part_refused : (scripted : Bool) (lines : List ScriptLine) (old new : List Turn) (place : Place) (call : SiteCall) (added rest : List Turn) → place.off ≡ None → call_turns (outside_of old) (place_value lines place) call ≡ added ++ rest → new ≡ old ++ added →
-    ∥ HasSteps scripted (lines_value lines) old (place_value lines place) ∥₁ → ∥ HasPart scripted (lines_value lines) new ∥₁
-part_refused scripted lines old new place call added rest off turns e p = ∥∥₁_map p (λ stood. (
+pub part_refused : (scripted : Bool) (terminals : List TerminalValue) (lines : List ScriptLine) (old new : List Turn) (place : Place) (call : SiteCall) (added rest : List Turn) → place.off ≡ None → call_turns (outside_of old) (place_value lines place) call ≡ added ++ rest → new ≡ old ++ added →
+    ∥ HasSteps scripted terminals (lines_value lines) old (place_value lines place) ∥₁ → ∥ HasPart scripted terminals (lines_value lines) new ∥₁
+part_refused scripted terminals lines old new place call added rest off turns e p = ∥∥₁_map p (λ stood. (
   rest,
   place_after (outside_of old) (place_value lines place) call,
-  subst (λ log. HasSteps scripted (lines_value lines) log (place_after (outside_of old) (place_value lines place) call)) (ap (λ t. old ++ t) turns ∙ sym (append_assoc old added rest) ∙ ap (λ l. l ++ rest) (sym e)) (call_on scripted lines old place call off stood),
+  subst (λ log. HasSteps scripted terminals (lines_value lines) log (place_after (outside_of old) (place_value lines place) call)) (ap (λ t. old ++ t) turns ∙ sym (append_assoc old added rest) ∙ ap (λ l. l ++ rest) (sym e)) (call_on scripted terminals lines old place call off stood),
 ))
 
 -- nothing is played yet
-pub stands_first : (lines : List PlayedLine) (log : List Turn) (place : Play) → log ≡ [] → place ≡ begins lines → ∥ HasSteps true lines log place ∥₁
-stands_first lines log place e first = ∣ ([], refl, (e, sym first)) ∣₁
+pub stands_first : (terminals : List TerminalValue) (lines : List PlayedLine) (log : List Turn) (place : Play) → log ≡ [] → place ≡ begins_with terminals lines → ∥ HasSteps true terminals lines log place ∥₁
+stands_first terminals lines log place e first = ∣ ([], refl, (e, sym first)) ∣₁
 
 -- the power is there again
-pub stands_restarted : (scripted : Bool) (lines : List ScriptLine) (old new : List Turn) (place next : Place) (kind : ReadImageKind) → place.off ≡ Some kind → new ≡ old ++ Crash (crash_file (image_value kind) (outside_of old)) ∷ [] →
-    place_value lines next ≡ restarted (place_value lines place) → ∥ HasSteps scripted (lines_value lines) old (place_value lines place) ∥₁ → ∥ HasSteps scripted (lines_value lines) new (place_value lines next) ∥₁
-stands_restarted scripted lines old new place next kind off is moves p = ∥∥₁_map p (λ stood.
+pub stands_restarted : (scripted : Bool) (terminals : List TerminalValue) (lines : List ScriptLine) (old new : List Turn) (place next : Place) (kind : ReadImageKind) → place.off ≡ Some kind → new ≡ old ++ Crash (crash_file (image_value kind) (outside_of old)) ∷ [] →
+    place_value lines next ≡ restarted (place_value lines place) → ∥ HasSteps scripted terminals (lines_value lines) old (place_value lines place) ∥₁ → ∥ HasSteps scripted terminals (lines_value lines) new (place_value lines next) ∥₁
+stands_restarted scripted terminals lines old new place next kind off is moves p = ∥∥₁_map p (λ stood.
     let turns = Crash (crash_file (image_value kind) (outside_of old)) ∷ [] in
-    let more = steps_on scripted (lines_value lines) old (old ++ turns) (place_value lines place) (restarted (place_value lines place)) PowerBack refl
-    (λ steps leads. power-goes-on (lines_value lines) steps old (place_value lines place) (image_value kind) leads (ap (option_map image_value) off)) stood in
-    subst (λ log. HasSteps scripted (lines_value lines) log (place_value lines next)) (sym is) (subst (HasSteps scripted (lines_value lines) (old ++ turns)) (sym moves) more))
+    let more = steps_on scripted terminals (lines_value lines) old (old ++ turns) (place_value lines place) (restarted (place_value lines place)) PowerBack refl
+    (λ steps leads. power_on (begins_with terminals (lines_value lines)) steps old (place_value lines place) (image_value kind) leads (ap (option_map image_value) off)) stood in
+    subst (λ log. HasSteps scripted terminals (lines_value lines) log (place_value lines next)) (sym is) (subst (HasSteps scripted terminals (lines_value lines) (old ++ turns)) (sym moves) more))
 
-pub stands_same : (scripted : Bool) (lines : List ScriptLine) (old new : List Turn) (place : Place) → new ≡ old → ∥ HasSteps scripted (lines_value lines) old (place_value lines place) ∥₁ → ∥ HasSteps scripted (lines_value lines) new (place_value lines place) ∥₁
-stands_same scripted lines old new place e p = subst (λ log. ∥ HasSteps scripted (lines_value lines) log (place_value lines place) ∥₁) (sym e) p
+pub stands_same : (scripted : Bool) (terminals : List TerminalValue) (lines : List ScriptLine) (old new : List Turn) (place : Place) → new ≡ old → ∥ HasSteps scripted terminals (lines_value lines) old (place_value lines place) ∥₁ → ∥ HasSteps scripted terminals (lines_value lines) new (place_value lines place) ∥₁
+stands_same scripted terminals lines old new place e p = subst (λ log. ∥ HasSteps scripted terminals (lines_value lines) log (place_value lines place) ∥₁) (sym e) p
 
 -- the power was set to fail beside the script
-pub stands_stopped : (scripted : Bool) (lines : List ScriptLine) (log : List Turn) (place next : Place) (calls : ℕ) (kind : ImageKind) → place_value lines next ≡ set_to_fail calls kind (place_value lines place) →
-    ∥ HasSteps scripted (lines_value lines) log (place_value lines place) ∥₁ → ∥ HasSteps false (lines_value lines) log (place_value lines next) ∥₁
-stands_stopped scripted lines log place next calls kind moves p = ∥∥₁_map p (λ stood.
-    let (steps, leads) = loosened scripted (lines_value lines) log (place_value lines place) stood in
-    subst (HasSteps false (lines_value lines) log) (sym moves) (steps ++ StopAfter calls kind ∷ [], goes-on-beside.stop (lines_value lines) steps log (place_value lines place) calls kind leads))
+pub stands_stopped : (scripted : Bool) (terminals : List TerminalValue) (lines : List ScriptLine) (log : List Turn) (place next : Place) (calls : ℕ) (kind : ImageKind) → place_value lines next ≡ set_to_fail calls kind (place_value lines place) →
+    ∥ HasSteps scripted terminals (lines_value lines) log (place_value lines place) ∥₁ → ∥ HasSteps false terminals (lines_value lines) log (place_value lines next) ∥₁
+stands_stopped scripted terminals lines log place next calls kind moves p = ∥∥₁_map p (λ stood.
+    let (steps, leads) = loosened scripted terminals (lines_value lines) log (place_value lines place) stood in
+    subst (HasSteps false terminals (lines_value lines) log) (sym moves) (steps ++ StopAfter calls kind ∷ [], stop_on (begins_with terminals (lines_value lines)) steps log (place_value lines place) calls kind leads))
 
 -- before the first turn a file was put on the disk beside the script
-pub stands_held : (scripted : Bool) (lines : List ScriptLine) (old new : List Turn) (place : Place) (file : List ℕ) → old ≡ [] → new ≡ Crash file ∷ [] → ∥ HasSteps scripted (lines_value lines) old (place_value lines place) ∥₁ →
-    ∥ HasSteps false (lines_value lines) new (place_value lines place) ∥₁
-stands_held scripted lines old new place file none is p = ∥∥₁_map p (λ stood.
-    let (steps, leads) = loosened scripted (lines_value lines) old (place_value lines place) stood in
-    let first : Reaches (lines_value lines) steps [] (place_value lines place) = subst (λ log. Reaches (lines_value lines) steps log (place_value lines place)) none leads in
-    subst (λ log. HasSteps false (lines_value lines) log (place_value lines place)) (sym is) (steps ++ Holding file ∷ [], goes-on-beside.file (lines_value lines) steps (place_value lines place) file first))
+pub stands_held : (scripted : Bool) (terminals : List TerminalValue) (lines : List ScriptLine) (old new : List Turn) (place : Place) (file : List ℕ) → old ≡ [] → new ≡ Crash file ∷ [] → ∥ HasSteps scripted terminals (lines_value lines) old (place_value lines place) ∥₁ →
+    ∥ HasSteps false terminals (lines_value lines) new (place_value lines place) ∥₁
+stands_held scripted terminals lines old new place file none is p = ∥∥₁_map p (λ stood.
+    let (steps, leads) = loosened scripted terminals (lines_value lines) old (place_value lines place) stood in
+    let first : ReachesWith terminals (lines_value lines) steps [] (place_value lines place) = subst (λ log. ReachesWith terminals (lines_value lines) steps log (place_value lines place)) none leads in
+    subst (λ log. HasSteps false terminals (lines_value lines) log (place_value lines place)) (sym is) (steps ++ Holding file ∷ [], file_on (begins_with terminals (lines_value lines)) steps (place_value lines place) file first))
 
 -- so it was, wherever the site is
-pub part_held : (lines : List PlayedLine) (new : List Turn) (file : List ℕ) → new ≡ Crash file ∷ [] → ∥ HasPart false lines new ∥₁
-part_held lines new file is = ∣ whole_part false lines new (begins lines) (subst (λ log. HasSteps false lines log (begins lines)) (sym is) (Holding file ∷ [], ([], refl, refl, (refl, refl)))) ∣₁
+pub part_held : (terminals : List TerminalValue) (lines : List PlayedLine) (new : List Turn) (file : List ℕ) → new ≡ Crash file ∷ [] → ∥ HasPart false terminals lines new ∥₁
+part_held terminals lines new file is =
+    let first = begins_with terminals lines in
+    ∣ whole_part false terminals lines new first (subst (λ log. HasSteps false terminals lines log first) (sym is) (Holding file ∷ [], ([], refl, refl, (refl, refl)))) ∣₁
 
 -- ---- disk and connections
 
@@ -287,6 +295,7 @@ fell_due o p (Power calls image ∷ lines) kind due off fell = by_test (calls ==
         (if test then is_off image (record p { lines = lines }) else met o (powered calls image p) lines).due ≡ []
     by_test true here later = due
     by_test false here later = later here
+fell_due o p (ForgetPower ∷ lines) kind due off fell = fell_due o (power_forgotten p) lines kind due off fell
 
 -- the kind of image of a power failure
 pub some_image : (off : Option ReadImageKind) → IsSome off → (kind : ImageKind) × (option_map image_value off ≡ Some kind)
@@ -298,9 +307,13 @@ pub none_off : (off : Option ReadImageKind) → is_some off ≡ false → off �
 none_off None is = refl
 none_off (Some kind) is = never is
 
+-- where nothing is to come of played terminals, a poll goes on in the lines
+pub plain_after : (o : Outside) (p : Play) → p.peers.coming ≡ [] → after_poll o p ≡ met o p p.lines
+plain_after o p none = ap (λ events. met_coming o events p) none ∙ ap (λ events. met o (then_coming events p) p.lines) (sym none)
+
 -- the place after a poll that has reached a power failure
-pub fell_there : (o : Outside) (lines : List ScriptLine) (place next : Place) (due : List Turn) → place.off ≡ None → IsSome next.off → after_poll o (place_value lines place) ≡ record (place_value lines next) { due = due } →
-    after_poll o (place_value lines place) ≡ place_value lines next
+pub fell_there : (o : Outside) (lines : List ScriptLine) (place next : Place) (due : List Turn) → place.off ≡ None → IsSome next.off → met o (place_value lines place) (place_value lines place).lines ≡ record (place_value lines next) { due = due } →
+    met o (place_value lines place) (place_value lines place).lines ≡ place_value lines next
 fell_there o lines place next due on is e =
     let p : Play = place_value lines place in
     let (kind, off) = some_image next.off is in

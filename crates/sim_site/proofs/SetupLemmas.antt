@@ -1,17 +1,22 @@
 -- The setup that a script gives lies within the limits.
-use Rattle.std.proofs.Common.{◌≡◌, ℕ, ◌≤◌, List, [], ◌∷◌, ◌++◌, Option, Some, None, sym, subst, arith}
+use Rattle.std.proofs.Common.{◌≡◌, ℕ, ◌≤◌, List, [], ◌∷◌, ◌++◌, Option, Some, None, Bool, true, false, get_or, refl, sym, ap, subst, arith}
 use Rattle.std.proofs.lemmas.List.Elements.{All-from_recursion}
 use Rattle.std.specs.List.{AllByRecursion, flat_map}
 use Rattle.std.specs.Option.{option_to_list}
-use Rattle.std.specs.Prelude.{Result, Ok, Err, IfOk, codes, unwrap_or}
+use Rattle.std.specs.Prelude.{◌≢◌, ◌==◌, if◌then◌else◌, Result, Ok, Err, IfOk, codes, unwrap_or}
+use Rattle.gw_base.specs.Bcd.{IsBcdByte}
 use Rattle.gw_base.specs.Ident.{IsIdent, IsPrintable}
+use Rattle.gw_base.specs.declared.setup.Pt.{Pt}
+use Rattle.gw_script.specs.site.Drill.{drill_given, drill_pt, drill_script}
 use Rattle.gw_base.specs.Setup.{IsPt, IsSetup}
 use Rattle.gw_base.specs.declared.setup.Setup.{Setup}
 use Rattle.gw_script.specs.site.Decode.{script_of}
 use Rattle.gw_script.specs.site.Grammar.{AreEntries, AreScript, SpellsSetting, given_name, given_queue, given_slots, given_terminal, given_wait, settings}
-use Rattle.gw_script.specs.site.ScriptLine.{SetupLine, Name, Queue, Wait, Slots, Terminal, Entry, Blank, Setting, Playing, Script, setup_of}
+use Rattle.gw_script.specs.site.ScriptLine.{SetupLine, Name, Queue, Wait, Slots, Terminal, Entry, Blank, Setting, Playing, Given, Script, setup_of}
 use Rattle.gw_script.proofs.site.ScriptLemmas.{reads-scripts}
 use Rattle.sim_script.specs.Values.{whole_script_value}
+use Rattle.sim_site.specs.Sources.{source_script}
+use Rattle.sim_site.specs.declared.drill.Drill.{Drill}
 use Rattle.sim_site.specs.declared.played.Played.{Played}
 
 -- what the line gives lies within the limits
@@ -118,7 +123,47 @@ lines_within texts script are =
 pub script_within : (text : List ℕ) (script : Script) → script_of text ≡ Ok script → IsSetup (setup_of script.given)
 script_within text script e = let spells = (reads-scripts.script text script).0 e in lines_within spells.0 script spells.2
 
+-- ---- the drill's setup
+
+poi_within : (test : Bool) → IsIdent 40 (if test then codes "T0" else codes "T1")
+poi_within true = (omega arith, omega arith, All-from_recursion IsPrintable (codes "T0") ((omega arith, omega arith), ((omega arith, omega arith), tt)))
+poi_within false = (omega arith, omega arith, All-from_recursion IsPrintable (codes "T1") ((omega arith, omega arith), ((omega arith, omega arith), tt)))
+
+pt_within : (pt : ℕ) → IsPt (drill_pt pt)
+pt_within pt = record {
+  poi = poi_within (pt == 0);
+  password = (refl, All-from_recursion IsBcdByte (0 ∷ 0 ∷ 0 ∷ []) ((omega arith, omega arith), ((omega arith, omega arith), ((omega arith, omega arith), tt))));
+  config = omega arith;
+  none = omega arith;
+  answer = (omega arith, omega arith);
+  command = (omega arith, omega arith);
+}
+
+pois_differ : codes "T0" ≢ codes "T1"
+pois_differ e = absurd (omega (arith, ap (λ (text : List ℕ). get_or text 1 0) e))
+
+-- the setup of a drill lies within the limits
+pub drill_within : IsSetup (setup_of drill_given)
+drill_within = record {
+  name = default_name;
+  line = omega arith;
+  wait = (omega arith, omega arith);
+  slots = (omega arith, omega arith);
+  count = omega arith;
+  each = All-from_recursion IsPt (drill_pt 0 ∷ drill_pt 1 ∷ []) (pt_within 0, (pt_within 1, tt));
+  distinct = (All-from_recursion (λ (other : Pt). (drill_pt 0).poi ≢ other.poi) (drill_pt 1 ∷ []) (pois_differ, tt), (All-from_recursion (λ (other : Pt). (drill_pt 1).poi ≢ other.poi) [] tt, tt));
+}
+
+-- ---- what is played
+
+ok_same : (a b : Script) → ◌≡◌ {A = Result Script ℕ} (Ok a) (Ok b) → a ≡ b
+ok_same a b e = cc
+
+source_within : (drill : Option Drill) (text : List ℕ) (script : Script) → source_script drill text ≡ Ok script → IsSetup (setup_of script.given)
+source_within None text script source = script_within text script source
+source_within (Some drill) text script source = subst (λ (given : Given). IsSetup (setup_of given)) (ap (λ (one : Script). one.given) (ok_same (drill_script drill.from drill.payments) script source)) drill_within
+
 -- the setup with which the runs of what is played start
 pub setup_limits : {E : Type 0} (played : Played) (result : Result Setup E) → IfOk result (λ setup. setup ≡ setup_of (whole_script_value played.script).given) → IfOk result IsSetup
-setup_limits played (Ok setup) is = subst IsSetup (sym is) (script_within played.text.value (whole_script_value played.script) played.read_is)
+setup_limits played (Ok setup) is = subst IsSetup (sym is) (source_within played.drill played.text.value (whole_script_value played.script) played.source)
 setup_limits played (Err error) is = tt

@@ -1,5 +1,5 @@
 -- How the calls on a site make its log grow.
-use Rattle.std.proofs.Common.{◌≡◌, ℕ, List, [], ◌∷◌, ◌++◌, refl, sym, ◌∙◌, ap, subst, true, false, append-nil, inl, inr, take, drop, take-append-drop}
+use Rattle.std.proofs.Common.{◌≡◌, ℕ, List, [], ◌∷◌, ◌++◌, get_or, refl, sym, ◌∙◌, ap, subst, arith, true, false, append-nil, inl, inr, take, drop, take-append-drop}
 use Rattle.std.specs.Prelude.{Bool, Option, not, option_and_then, ◌||◌, if◌then◌else◌, Some, None, Result, Ok, Err, IsErr, IfOk, OnOk, OnErr, is_some}
 use Rattle.std.specs.Str.{is_utf8}
 use Rattle.std.proofs.lemmas.List.{append_cancel_left}
@@ -16,14 +16,19 @@ use Rattle.gw_site.specs.declared.turn.Turn.TheVariants.{DiskFailed, Polled, Sen
 use Rattle.gw_site.proofs.GrowsLemmas.{all_grows}
 use Rattle.gw_site.specs.Steps.{Plan, PollCall, SiteCall, WriteCall}
 use Rattle.gw_script.specs.site.Calls.{call_turns}
-use Rattle.gw_script.specs.site.Decode.{no_lines, script_goes_on, script_of, spelled, with_entry}
+use Rattle.gw_script.specs.Decode.{split_lines}
+use Rattle.gw_script.specs.site.Decode.{no_lines, script_from, script_goes_on, script_of, spelled, with_entry}
+use Rattle.gw_script.specs.site.Drill.{drill_begins, drill_lines, drill_origin, drill_payments, drill_script, drill_terminals, drill_turns}
 use Rattle.gw_script.specs.site.Hazards.{sent_of}
 use Rattle.gw_script.specs.site.ScriptLine.{Script, setup_of}
-use Rattle.gw_script.specs.site.StepTurns.{site_turns, turns_by}
+use Rattle.gw_script.specs.site.StepTurns.{site_turns_with, turns_by}
+use Rattle.gw_script.specs.site.Playing.{begins_with}
 use Rattle.sim_script.specs.Values.{lines_value, whole_script_value}
 use Rattle.sim_site.specs.Dark.{is_dark}
 use Rattle.sim_site.specs.Made.{IsLit, IsCallMade, IsPollMade, IsPollRefused, IsRefused, IsCallReported, IsSameScript, IsUnchanged, IsUnplayed, IsWriteRefused, outside_at, play_at}
-use Rattle.sim_site.specs.Sites.{GoesOn, IsOriginSetup, IsReturned, observed_with, origin_beside, origin_of, plan_from, plan_of}
+use Rattle.sim_site.specs.Sources.{source_origin, source_script, source_terminals}
+use Rattle.sim_site.specs.declared.drill.Drill.{Drill}
+use Rattle.sim_site.specs.Sites.{GoesOn, IsDrillSetup, IsOriginSetup, IsReturned, observed_with, origin_beside, origin_of, plan_from, plan_of}
 use Rattle.sim_site.specs.declared.played.Played.{Played}
 use Rattle.sim_site.specs.declared.site.SimSite.{SimSite}
 
@@ -36,7 +41,9 @@ pub short_dark : (played : Played) → played.short ≡ true → is_dark played 
 short_dark played short = ap (λ s. s || is_some played.place.off) short
 
 pub origin_same : (old new : Played) → IsSameScript old new → origin_of new ≡ origin_of old
-origin_same old new same = ap (λ s. if s then new.text.value else origin_beside) same.scripted ∙ ap (λ (text : List ℕ). if old.scripted then text else origin_beside) same.text
+origin_same old new same = ap (λ s. if s then source_origin new.drill new.text.value else origin_beside) same.scripted
+    ∙ ap (λ drill. if old.scripted then source_origin drill new.text.value else origin_beside) same.drill
+    ∙ ap (λ (text : List ℕ). if old.scripted then source_origin old.drill text else origin_beside) same.text
 
 -- ---- what is added
 
@@ -235,7 +242,7 @@ goes_on old new after call e made = record { turns = ap (λ (p : Played). p.log)
 -- ---- the site itself
 
 pub observed_same : (f : ℕ) (old new : Played) → IsUnchanged old new → observed_with f new ≡ observed_with f old
-observed_same f old new u = rw (u.log, u.short, u.place, u.scripted, u.text, u.script) refl
+observed_same f old new u = rw (u.log, u.short, u.place, u.scripted, u.drill, u.text, u.script) refl
 
 pub play_same : (old new : Played) → IsUnchanged old new → play_at new ≡ play_at old
 play_same old new u = rw (u.script, u.place) refl
@@ -251,19 +258,66 @@ no_text = by_test (is_utf8 (255 ∷ []))
 ok_same : (a b : Script) → ◌≡◌ {A = Result Script ℕ} (Ok a) (Ok b) → a ≡ b
 ok_same a b e = cc
 
-pub origin_own : (played : Played) (script : Script) → script_of (origin_of played) ≡ Ok script → (played.scripted ≡ true) × (whole_script_value played.script ≡ script)
+-- nor has it that of a drill
+no_drill_text : (from payments : ℕ) → script_of (drill_origin from payments) ≡ Err 1
+no_drill_text from payments = by_test (is_utf8 (254 ∷ []))
+  where
+    by_test : (test : Bool) → script_goes_on (option_and_then (with_entry no_lines) (if test then spelled (254 ∷ []) else None)) 1 (λ more. script_from more 2 (split_lines (from ∷ payments ∷ []))) ≡ Err 1
+    by_test true = refl
+    by_test false = refl
+
+-- the script of the text that determines what is played is played alone
+pub record IsOwn (played : Played) (script : Script) : Type 0 where
+  pub scripted : played.scripted ≡ true
+  pub alone : source_terminals played.drill ≡ []
+  pub script_is : whole_script_value played.script ≡ script
+
+pub origin_own : (played : Played) (script : Script) → script_of (origin_of played) ≡ Ok script → IsOwn played script
 origin_own played script e = by_test played.scripted refl e
   where
-    by_test : (test : Bool) → played.scripted ≡ test → script_of (if test then played.text.value else origin_beside) ≡ Ok script → (played.scripted ≡ true) × (whole_script_value played.script ≡ script)
-    by_test true own same = (own, ok_same (whole_script_value played.script) script (sym played.read_is ∙ same))
+    by_drill : (drill : Option Drill) → played.drill ≡ drill → played.scripted ≡ true → source_script drill played.text.value ≡ Ok (whole_script_value played.script) → script_of (source_origin drill played.text.value) ≡ Ok script → IsOwn played script
+    by_drill None is own source same = record { scripted = own; alone = ap source_terminals is; script_is = ok_same (whole_script_value played.script) script (sym source ∙ same) }
+    by_drill (Some drill) is own source same = absurd (let h : Err 1 ≡ Ok script = sym (no_drill_text drill.from drill.payments) ∙ same in cc)
+
+    by_test : (test : Bool) → played.scripted ≡ test → script_of (if test then source_origin played.drill played.text.value else origin_beside) ≡ Ok script → IsOwn played script
+    by_test true own same = by_drill played.drill refl own played.source same
     by_test false own same = absurd (let h : Err 1 ≡ Ok script = sym no_text ∙ same in cc)
+
+-- the drill whose numbers determine what is played is played alone
+pub record IsOwnDrill (played : Played) (from payments : ℕ) : Type 0 where
+  pub scripted : played.scripted ≡ true
+  pub terminals : source_terminals played.drill ≡ drill_terminals (drill_payments from payments)
+  pub script_is : whole_script_value played.script ≡ drill_script from payments
+
+pub drill_own : (played : Played) (from payments : ℕ) → origin_of played ≡ drill_origin from payments → IsOwnDrill played from payments
+drill_own played from payments e = by_test played.scripted refl e
+  where
+    by_drill : (drill : Option Drill) → played.drill ≡ drill → played.scripted ≡ true → source_script drill played.text.value ≡ Ok (whole_script_value played.script) → source_origin drill played.text.value ≡ drill_origin from payments → IsOwnDrill played from payments
+    by_drill None is own source same = absurd (let h : Err 1 ≡ Ok (whole_script_value played.script) = sym (no_drill_text from payments) ∙ ap script_of (sym same) ∙ source in cc)
+    by_drill (Some drill) is own source same =
+        let first : drill.from ≡ from = ap (λ (l : List ℕ). get_or l 2 0) same in
+        let count : drill.payments ≡ payments = ap (λ (l : List ℕ). get_or l 3 0) same in
+        record {
+          scripted = own;
+          terminals = ap source_terminals is ∙ ap (λ n. drill_terminals (drill_payments n drill.payments)) first ∙ ap (λ n. drill_terminals (drill_payments from n)) count;
+          script_is = ok_same (whole_script_value played.script) (drill_script drill.from drill.payments) (sym source) ∙ ap (λ n. drill_script n drill.payments) first ∙ ap (λ n. drill_script from n) count;
+        }
+
+    by_test : (test : Bool) → played.scripted ≡ test → (if test then source_origin played.drill played.text.value else origin_beside) ≡ drill_origin from payments → IsOwnDrill played from payments
+    by_test true own same = by_drill played.drill refl own played.source same
+    by_test false own same = absurd (omega (arith, ap (λ (l : List ℕ). get_or l 0 0) same))
+
+-- the setup of a drill
+pub setup_drill : {E : Type 0} (played : Played) (result : Result Setup E) → IfOk result (λ setup. setup ≡ setup_of (whole_script_value played.script).given) → IfOk result (λ setup. IsDrillSetup (origin_of played) setup)
+setup_drill played (Ok setup) is = λ from payments e. is ∙ ap (λ (x : Script). setup_of x.given) (drill_own played from payments e).script_is
+setup_drill played (Err error) is = tt
 
 pub some_same : (a b : List Turn) → Some a ≡ Some b → a ≡ b
 some_same a b e = cc
 
 -- the setup that the script gives is that of the text
 pub setup_own : {E : Type 0} (played : Played) (result : Result Setup E) → IfOk result (λ setup. setup ≡ setup_of (whole_script_value played.script).given) → IfOk result (λ setup. IsOriginSetup (origin_of played) setup)
-setup_own played (Ok setup) is = λ script e. is ∙ ap (λ (x : Script). setup_of x.given) (origin_own played script e).1
+setup_own played (Ok setup) is = λ script e. is ∙ ap (λ (x : Script). setup_of x.given) (origin_own played script e).script_is
 setup_own played (Err error) is = tt
 
 -- ---- a new site
@@ -273,16 +327,26 @@ observed_is : (log other : List Turn) (dark lit : Bool) (origin text : List ℕ)
 observed_is log other dark lit origin text plan first l d o p = rw (l, d, o, p) refl
 
 -- nothing is played yet
-pub unplayed_observed : (text : List ℕ) (played : Played) → IsUnplayed text played →
-    observed_with 0 played ≡ record { log = Some []; faults = 0; dark = false; origin = text; plan = Some (site_turns (lines_value played.script.lines.items)) }
-unplayed_observed text played u = observed_is played.log [] (is_dark played) false (origin_of played) text (plan_of played) (Some (site_turns (lines_value played.script.lines.items)))
+pub unplayed_observed : (text : List ℕ) (drill : Option Drill) (played : Played) → IsUnplayed text drill played →
+    observed_with 0 played ≡ record { log = Some []; faults = 0; dark = false; origin = source_origin drill text; plan = Some (site_turns_with (source_terminals drill) (lines_value played.script.lines.items)) }
+unplayed_observed text drill played u = observed_is played.log [] (is_dark played) false (origin_of played) (source_origin drill text) (plan_of played) (Some (site_turns_with (source_terminals drill) (lines_value played.script.lines.items)))
     u.log
     (lit_there played (record { whole = u.whole; power = u.power }))
-    (ap (λ s. if s then played.text.value else origin_beside) u.scripted ∙ u.text_is)
+    (ap (λ s. if s then source_origin played.drill played.text.value else origin_beside) u.scripted ∙ ap (λ one. source_origin one played.text.value) u.drill_is ∙ ap (source_origin drill) u.text_is)
     (ap (λ short. plan_from short played.log (play_at played)) u.whole ∙ ap (λ log. Some (turns_by log (play_at played))) u.log ∙ ap (λ place. Some (turns_by [] place)) u.place)
 
-pub unplayed_text : (text : List ℕ) (played : Played) → IsUnplayed text played → script_of text ≡ Ok (whole_script_value played.script)
-unplayed_text text played u = ap script_of (sym u.text_is) ∙ played.read_is
+-- a new drill
+lines_same : (from payments : ℕ) (played : Played) → whole_script_value played.script ≡ drill_script from payments → lines_value played.script.lines.items ≡ drill_lines (drill_payments from payments)
+lines_same from payments played is = ap (λ (script : Script). script.lines) is
+
+pub drill_observed : (from payments : ℕ) (played : Played) → IsUnplayed [] (Some (record { from = from; payments = payments })) played → whole_script_value played.script ≡ drill_script from payments
+    → observed_with 0 played ≡ record { log = Some []; faults = 0; dark = false; origin = drill_origin from payments; plan = Some (drill_turns from payments) }
+drill_observed from payments played u is =
+    unplayed_observed [] (Some (record { from = from; payments = payments })) played u
+    ∙ ap (λ lines. record { log = Some []; faults = 0; dark = false; origin = drill_origin from payments; plan = Some (site_turns_with (drill_terminals (drill_payments from payments)) lines) }) (lines_same from payments played is)
+
+pub drill_place : (from payments : ℕ) (played : Played) → IsUnplayed [] (Some (record { from = from; payments = payments })) played → whole_script_value played.script ≡ drill_script from payments → play_at played ≡ drill_begins from payments
+drill_place from payments played u is = u.place ∙ ap (begins_with (drill_terminals (drill_payments from payments))) (lines_same from payments played is)
 
 -- ---- polls
 

@@ -3,8 +3,8 @@ use Rattle.std.proofs.Common.{◌≡◌, ℕ, zero, suc, ◌+◌, ◌<◌, ◌�
 use Rattle.std.specs.Prelude.{Bool, ◌==◌, if◌then◌else◌}
 use Rattle.gw_site.specs.Outside.{Outside}
 use Rattle.gw_script.specs.site.Hazards.{armed, is_reached}
-use Rattle.gw_script.specs.site.Playing.{Play, after_poll, applies, brings, fails_next, is_off, met, powered}
-use Rattle.gw_script.specs.site.ScriptLine.{PlayedLine, At, Poll, Fail, Power}
+use Rattle.gw_script.specs.site.Playing.{Play, applies, brings, fails_next, is_off, met, power_forgotten, powered}
+use Rattle.gw_script.specs.site.ScriptLine.{PlayedLine, At, Poll, Fail, Power, ForgetPower}
 use Rattle.std.proofs.lemmas.List.{drop_more}
 use Rattle.gw_site.specs.declared.turn.Turn.TheVariants.{Stopped}
 use Rattle.sim_script.specs.declared.line.ScriptLine.{ScriptLine}
@@ -32,6 +32,7 @@ met_bare o p (Power calls kind ∷ lines) = by_test (calls == 0) (met_bare o (po
     by_test : (test : Bool) → met o (powered calls kind p) lines ≡ met o (powered calls kind (record p { lines = [] })) lines → (if test then is_off kind (record p { lines = lines }) else met o (powered calls kind p) lines) ≡ (if test then is_off kind (record p { lines = lines }) else met o (powered calls kind (record p { lines = [] })) lines)
     by_test true later = refl
     by_test false later = later
+met_bare o p (ForgetPower ∷ lines) = met_bare o (power_forgotten p) lines
 
 -- ---- the lines of the code
 
@@ -70,5 +71,5 @@ passed_all o lines mid le = rw (none_left lines mid.at le) (by_early mid.early)
     by_early false = refl
 
 -- a poll goes on from the place
-pub polled_from : (o : Outside) (lines : List ScriptLine) (place : Place) → after_poll o (place_value lines place) ≡ met_from o lines place
+pub polled_from : (o : Outside) (lines : List ScriptLine) (place : Place) → met o (place_value lines place) (place_value lines place).lines ≡ met_from o lines place
 polled_from o lines place = met_bare o (place_value lines place) (left place.early (lines_value (drop place.at lines)))

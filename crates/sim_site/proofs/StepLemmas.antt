@@ -22,6 +22,7 @@ use Rattle.sim_site.specs.Dark.{is_dark}
 use Rattle.sim_site.specs.Made.{IsLit, IsCallMade, IsSameScript, outside_at, play_at}
 use Rattle.sim_site.specs.Places.{place_value}
 use Rattle.sim_site.specs.Sites.{IsRestarted, observed_with, plan_from, plan_of}
+use Rattle.sim_site.specs.Sources.{source_terminals}
 use Rattle.sim_site.specs.declared.played.Played.{Played}
 use Rattle.sim_site.specs.declared.site.SimSite.{SimSite}
 use Rattle.sim_site.proofs.PlayedLemmas.{idle_there}
@@ -100,6 +101,7 @@ restarted_there (Ok done) old new kind lit off log bytes place power whole same 
   short = whole;
   taken = step_taken old.played new.played PowerBack (Crash (crash_file (image_value kind) (outside_at old.played)) ∷ []) (λ short. record { whole = lit; fits = (image_value kind, ap (option_map image_value) off, refl); log = log; place = place });
   script = ap whole_script_value same.script;
+  terminals = ap source_terminals same.drill;
   origin = origin_same old.played new.played same;
 }
 restarted_there (Err error) old new kind lit off log bytes place power whole same = tt

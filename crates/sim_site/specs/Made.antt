@@ -8,13 +8,15 @@ use Rattle.gw_site.specs.declared.site.What.TheVariants.{Stopped}
 use Rattle.gw_site.specs.declared.turn.Turn.TheVariants.{Polled, Wrote}
 use Rattle.gw_site.specs.Steps.{SiteCall}
 use Rattle.gw_script.specs.site.Calls.{call_turns, place_after}
-use Rattle.gw_script.specs.site.Playing.{Play, after_poll, begins}
+use Rattle.gw_script.specs.site.Playing.{Play, after_poll, begins_with}
+use Rattle.sim_site.specs.Sources.{source_terminals}
 use Rattle.sim_script.specs.Values.{lines_value}
 use Rattle.sim_script.specs.declared.line.ScriptLine.{ScriptLine}
 use Rattle.sim_site.specs.Connected.{HasConnections, IsFollowed}
 use Rattle.sim_site.specs.Places.{place_value}
 use Rattle.sim_site.specs.declared.brought.Brought.{Brought}
 use Rattle.sim_site.specs.declared.connections.Connections.{Connections}
+use Rattle.sim_site.specs.declared.drill.Drill.{Drill}
 use Rattle.sim_site.specs.declared.place.Place.{Place}
 use Rattle.sim_site.specs.declared.played.Played.{Played}
 
@@ -36,6 +38,7 @@ pub record IsSameScript (old new : Played) : Type 0 where
   pub text : new.text.value ≡ old.text.value
   pub script : new.script ≡ old.script
   pub scripted : new.scripted ≡ old.scripted
+  pub drill : new.drill ≡ old.drill
 
 -- the call was made: the log has its turns, and the script is played as far as after it
 pub record IsCallMade (old new : Played) (call : SiteCall) : Type 0 where
@@ -53,18 +56,20 @@ pub record IsUnchanged (old new : Played) : Type 0 where
   pub text : new.text.value ≡ old.text.value
   pub script : new.script ≡ old.script
   pub scripted : new.scripted ≡ old.scripted
+  pub drill : new.drill ≡ old.drill
   pub place : new.place ≡ old.place
   pub log : new.log ≡ old.log
   pub short : new.short ≡ old.short
 
 -- nothing is played yet
-pub record IsUnplayed (text : List ℕ) (played : Played) : Type 0 where
+pub record IsUnplayed (text : List ℕ) (drill : Option Drill) (played : Played) : Type 0 where
   pub text_is : played.text.value ≡ text
   pub scripted : played.scripted ≡ true
+  pub drill_is : played.drill ≡ drill
   pub whole : played.short ≡ false
   pub power : played.place.off ≡ None
   pub log : played.log ≡ []
-  pub place : play_at played ≡ begins (lines_value played.script.lines.items)
+  pub place : play_at played ≡ begins_with (source_terminals drill) (lines_value played.script.lines.items)
 
 -- the poll has brought this: its turn, its bytes in the buffer, and as promised
 pub record HasBrought (lines : List ScriptLine) (old new : Place) (before after : Connections) (buf : List ℕ) (brought : Brought) : Type 0 where

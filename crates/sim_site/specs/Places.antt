@@ -9,6 +9,7 @@ use Rattle.sim_script.specs.declared.line.ScriptLine.{ScriptLine}
 use Rattle.sim_script.specs.Values.{image_value, lines_value}
 use Rattle.sim_site.specs.declared.place.Place.{Place}
 use Rattle.sim_site.specs.Hazards.{hazard_value}
+use Rattle.sim_site.specs.Peering.{peers_value}
 
 -- the lines that are left of these: before the first that polls, without fail lines that took effect before the first run
 abbrev pub left : Bool → List PlayedLine → List PlayedLine
@@ -24,6 +25,7 @@ place_value lines place = record {
   hazard = hazard_value place.hazard;
   failing = false;
   off = option_map image_value place.off;
+  peers = peers_value place.peers;
 }
 
 -- Inner: the place moves as the call says

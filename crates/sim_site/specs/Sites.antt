@@ -11,13 +11,17 @@ use Rattle.gw_site.specs.declared.turn.Turn.TheVariants.{Crash}
 use Rattle.gw_site.specs.Steps.{SiteCall, ImageKind, Plan, PowerBack, SiteStep, Takes}
 use Rattle.gw_script.specs.site.Calls.{IsPlayedTo, call_turns, place_after}
 use Rattle.gw_script.specs.site.Decode.{script_of}
+use Rattle.gw_script.specs.site.Drill.{drill_given, drill_lines, drill_origin, drill_payments, drill_terminals}
 use Rattle.gw_script.specs.site.Hazards.{crash_file}
 use Rattle.gw_script.specs.site.Playing.{Play, PlaysLines, restarted}
 use Rattle.gw_script.specs.site.ScriptLine.{Script, setup_of}
 use Rattle.gw_script.specs.site.StepTurns.{turns_by}
+use Rattle.pt_core.specs.Serving.{TerminalValue}
 use Rattle.sim_script.specs.Values.{whole_script_value}
 use Rattle.sim_site.specs.Dark.{is_dark}
 use Rattle.sim_site.specs.Places.{place_value}
+use Rattle.sim_site.specs.Sources.{source_origin, source_terminals}
+use Rattle.sim_site.specs.Steps.{HasPart, IsPlayedWith}
 use Rattle.sim_site.specs.declared.played.Played.{Played}
 use Rattle.sim_site.specs.declared.site.SimSite.{SimSite}
 
@@ -25,9 +29,9 @@ use Rattle.sim_site.specs.declared.site.SimSite.{SimSite}
 abbrev pub origin_beside : List ℕ
 origin_beside = 255 ∷ []
 
--- what determines what is played: the text, unless the power was set to fail or a file was put on the disk beside the script
+-- what determines what is played: the text or the numbers of the drill, unless the power was set to fail or a file was put on the disk beside it
 abbrev pub origin_of : Played → List ℕ
-origin_of played = if played.scripted then played.text.value else origin_beside
+origin_of played = if played.scripted then source_origin played.drill played.text.value else origin_beside
 
 -- the turns of each of further steps after this log, from this place on; none are known where the log could not grow
 abbrev pub plan_from : Bool → List Turn → Play → Option Plan
@@ -61,6 +65,10 @@ played_script site = whole_script_value site.played.script
 -- how far it is played
 abbrev pub place_of : SimSite → Play
 place_of site = place_value site.played.script.lines.items site.played.place
+
+-- the terminals that are played, before the first turn; none where a text is
+abbrev pub first_terminals : SimSite → List TerminalValue
+first_terminals site = source_terminals site.played.drill
 
 -- the log could not grow
 abbrev pub is_log_full : SimSite → Bool
@@ -115,6 +123,7 @@ pub record IsRestarted (old new : SimSite) : Type 0 where
   pub short : is_log_full new ≡ false
   pub taken : TakesStep old new PowerBack (Crash (crash_file kind (outside_there old)) ∷ [])
   pub script : played_script new ≡ played_script old
+  pub terminals : first_terminals new ≡ first_terminals old
   pub origin : (sim_observed new).origin ≡ (sim_observed old).origin
 
 -- all is as it was
@@ -122,6 +131,7 @@ pub record IsSame (old new : SimSite) : Type 0 where
   pub observed : sim_observed new ≡ sim_observed old
   pub place : place_of new ≡ place_of old
   pub script : played_script new ≡ played_script old
+  pub terminals : first_terminals new ≡ first_terminals old
 
 -- the log plays the script of the text that determines what is played
 abbrev pub PlaysOrigin : List ℕ → List Turn → Type 0
@@ -130,6 +140,18 @@ PlaysOrigin origin log = (script : Script) → script_of origin ≡ Ok script �
 -- some calls and power failures have this log, and lead to this place of the script of the text that determines what is played
 abbrev pub IsOriginPlayedTo : List ℕ → List Turn → Play → Type 0
 IsOriginPlayedTo origin log place = (script : Script) → script_of origin ≡ Ok script → ∥ IsPlayedTo script.lines log place ∥₁
+
+-- some calls and power failures have this log, and lead to this place of the drill whose numbers determine what is played
+abbrev pub IsDrillPlayedTo : List ℕ → List Turn → Play → Type 0
+IsDrillPlayedTo origin log place = (from payments : ℕ) → origin ≡ drill_origin from payments → ∥ IsPlayedWith (drill_terminals (drill_payments from payments)) (drill_lines (drill_payments from payments)) log place ∥₁
+
+-- the log is a prefix of one that some calls and power failures have in that drill
+abbrev pub IsDrillPart : List ℕ → List Turn → Type 0
+IsDrillPart origin log = (from payments : ℕ) → origin ≡ drill_origin from payments → ∥ HasPart true (drill_terminals (drill_payments from payments)) (drill_lines (drill_payments from payments)) log ∥₁
+
+-- the setup is that of a drill, if one is played
+abbrev pub IsDrillSetup : List ℕ → Setup → Type 0
+IsDrillSetup origin setup = (from payments : ℕ) → origin ≡ drill_origin from payments → setup ≡ setup_of drill_given
 
 -- the setup is the one that the script of the text gives which determines what is played
 abbrev pub IsOriginSetup : List ℕ → Setup → Type 0

@@ -57,7 +57,7 @@ fn heard_pt(pt: u16, chunk: &Chunk, buf: &mut [u8; 4096]) -> Result<Brought, All
 }
 
 /// What a poll brings that has met this event.
-fn bring_event(event: &ScriptEvent, buf: &mut [u8; 4096]) -> Result<Brought, AllocError>
+pub(crate) fn bring_event(event: &ScriptEvent, buf: &mut [u8; 4096]) -> Result<Brought, AllocError>
     ensures brought { IfOk result (λ brought. HasEventTurn brought (script_event_value event.now) buf.new) }
     ensures buf { length buf.new ≡ 4096 }
 {

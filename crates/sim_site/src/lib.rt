@@ -4,10 +4,13 @@
 mod brought;
 mod connections;
 mod disk;
+mod drill;
 mod hazard;
+mod peers;
 mod place;
 mod played;
 mod polled;
+mod sent;
 mod site;
 mod sought;
 

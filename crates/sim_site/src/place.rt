@@ -1,20 +1,28 @@
 //! How far a script is played, and how calls go on from there.
-ghost use Rattle.std.specs.Prelude.{◌≡◌, ◌||◌, ◌==◌, List, ℕ, None, IfOk, is_some};
+ghost use Rattle.std.specs.Prelude.{◌≡◌, ◌||◌, ◌==◌, List, ℕ, None, IfOk, OnOk, is_some};
 ghost use Rattle.std.specs.List.{list_all};
 ghost use Rattle.gw_base.specs.declared.setup.Setup.{Setup};
 ghost use Rattle.gw_site.specs.Steps.{CutPtCall, CutTillCall, LengthCall, LinkCall, OpenCall, ReadCall, SendPtCall, SendTillCall, SyncCall, WriteCall};
 ghost use Rattle.gw_script.specs.site.Calls.{set_to_fail};
 ghost use Rattle.gw_script.specs.site.Hazards.{is_failing, takes_most};
 ghost use Rattle.gw_script.specs.Decode.{is_empty};
-ghost use Rattle.gw_script.specs.site.Playing.{begins, counted, early_lines, restarted};
+ghost use Rattle.gw_script.specs.site.Playing.{begins_with, counted, early_lines, restarted};
 ghost use Rattle.sim_script.specs.Values.{image_value, lines_value, script_line_value};
 ghost use Rattle.sim_site.specs.Early.{is_early_line};
 ghost use Rattle.sim_script.specs.declared.line.ScriptLine.{ScriptLine};
+ghost use Rattle.gw_site.specs.Outside.{Outside};
+ghost use Rattle.sim_site.specs.Comings.{MeetsComing};
+ghost use Rattle.sim_site.specs.Connected.{HasConnections};
 ghost use Rattle.sim_site.specs.Hazards.{links_value, sends_value};
+ghost use Rattle.sim_site.specs.Peering.{IsUsedUp, event_value, peers_value};
 
+use crate::connections::Connections;
 use crate::hazard::{Armed, Hazard, drop_links, drop_sends, is_failing, takes_most};
+use crate::peers::Peers;
+use crate::sent::taken;
 use crate::sought::{early_hazard, is_early};
-use sim_script::{ImageKind, ScriptLine};
+use pt_core::Terminal;
+use sim_script::{ImageKind, ScriptEvent, ScriptLine};
 use std::alloc::{AllocError, Global};
 
 /// How far a script is played, between two calls.
@@ -29,6 +37,8 @@ pub(crate) struct Place {
     pub(crate) hazard: Hazard,
     /// The power has failed, and leaves this.
     pub(crate) off: Option<ImageKind>,
+    /// The terminals that are played.
+    pub(crate) peers: Peers,
 }
 
 /// Whether these lines are fail lines that take effect before the first run.
@@ -51,7 +61,10 @@ fn is_early_line(line: &ScriptLine) -> bool
 {
     match line {
         ScriptLine::Fail(failing) => is_early(*failing),
-        ScriptLine::At(_) | ScriptLine::Poll(_) | ScriptLine::Power(_, _) => false,
+        ScriptLine::At(_)
+        | ScriptLine::Poll(_)
+        | ScriptLine::Power(_, _)
+        | ScriptLine::ForgetPower => false,
     }
 }
 
@@ -59,8 +72,12 @@ impl Place {
     ghost use Rattle.sim_site.specs.Places.{Moves, place_value};
 
     /// Before the first line.
-    pub(crate) fn first(alloc: Global, lines: &[ScriptLine]) -> Result<Place, AllocError>
-        ensures place { IfOk result (λ place. place_value lines.now place ≡ begins (lines_value lines.now)) }
+    pub(crate) fn first(
+        alloc: Global,
+        lines: &[ScriptLine],
+        terminals: Vec<Terminal>,
+    ) -> Result<Place, AllocError>
+        ensures place { IfOk result (λ place. place_value lines.now place ≡ begins_with terminals.items (lines_value lines.now)) }
         ensures power { IfOk result (λ place. place.off ≡ None) }
     {
         Ok(Place {
@@ -69,6 +86,7 @@ impl Place {
             moment: 0,
             hazard: early_hazard(alloc, lines)?,
             off: None,
+            peers: Peers::of(alloc, terminals),
         })
     }
 
@@ -138,16 +156,16 @@ impl Place {
         most
     }
 
-    /// Bytes are sent to a terminal. How many it takes, where the send fails.
-    pub(crate) fn send_pt(&mut self, pt: u16) -> Option<u64>
-        ensures most { result ≡ takes_most (sends_value self.old.hazard.pts) pt }
-        ensures moves { (bytes : List ℕ) → Moves self.old self.new (SendPtCall pt bytes) }
+    /// Bytes are sent to a terminal, which hears those that the send takes where it is played.
+    pub(crate) fn send_pt(&mut self, alloc: Global, pt: u16, bytes: &[u8]) -> Result<(), AllocError>
+        ensures { OnOk result (Moves self.old self.new (SendPtCall pt bytes.now)) }
     {
         let number = u64::from(pt);
         let most = takes_most(&self.hazard.pts, number);
+        self.peers.hear(alloc, pt, taken(bytes, most))?;
         drop_sends(&mut self.hazard.pts, number);
         self.count();
-        most
+        Ok(())
     }
 
     /// A terminal is linked. True where this fails.
@@ -156,6 +174,7 @@ impl Place {
         ensures moves { Moves self.old self.new (LinkCall pt) }
     {
         let fails = is_failing(&self.hazard.links, pt);
+        self.peers.link_unless(pt, fails);
         drop_links(&mut self.hazard.links, pt);
         self.count();
         fails
@@ -211,6 +230,15 @@ impl Place {
         fails
     }
 
+    /// What a poll brings of the played terminals, if it brings anything of them.
+    pub(crate) fn next(&mut self, connections: &Connections) -> Option<ScriptEvent>
+        ensures met { (o : Outside) (lines : List ScriptLine) → HasConnections o connections.now → MeetsComing o lines self.old self.new (event_value result) }
+        ensures left { IsUsedUp (event_value result) (peers_value self.new.peers).coming }
+        ensures power { self.new.off ≡ self.old.off }
+    {
+        self.peers.next(connections)
+    }
+
     /// The power, which had failed, is there again.
     pub(crate) fn restart(&mut self)
         ensures place { (lines : List ScriptLine) → place_value lines self.new ≡ restarted (place_value lines self.old) }
@@ -218,5 +246,6 @@ impl Place {
     {
         self.hazard.forget();
         self.off = None;
+        self.peers.cut_all();
     }
 }

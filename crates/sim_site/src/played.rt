@@ -7,6 +7,7 @@ ghost use Rattle.gw_site.specs.declared.turn.Turn.TheVariants.{Crash, DiskFailed
 ghost use Rattle.gw_site.specs.Steps.{CutPtCall, CutTillCall, LengthCall, LinkCall, OpenCall, PollCall, ReadCall, SendPtCall, SendTillCall, SyncCall, WriteCall};
 ghost use Rattle.gw_script.specs.site.Calls.{set_to_fail};
 ghost use Rattle.gw_script.specs.site.Decode.{script_of};
+ghost use Rattle.gw_script.specs.site.Drill.{drill_payments, drill_script, drill_terminals};
 ghost use Rattle.gw_script.specs.Decode.{is_empty};
 ghost use Rattle.gw_script.specs.site.Hazards.{crash_file, is_failing, sent_of, takes_most};
 ghost use Rattle.gw_script.specs.site.Playing.{restarted};
@@ -14,15 +15,19 @@ ghost use Rattle.sim_script.specs.Values.{image_value, lines_value, whole_script
 ghost use Rattle.sim_site.specs.Connected.{HasConnections};
 ghost use Rattle.sim_site.specs.Disks.{HasDisk};
 ghost use Rattle.sim_site.specs.Places.{place_value};
+ghost use Rattle.sim_site.specs.Sources.{source_script, source_terminals};
 ghost use Rattle.sim_site.specs.Steps.{HasPart, HasSteps};
 
 use crate::connections::Connections;
 use crate::disk::Disk;
+use crate::drill::Drill;
 use crate::hazard::{is_failing, takes_most};
 use crate::place::Place;
 use crate::polled::polled;
+use crate::sent::taken;
 use gw_base::{Bytes, Setup};
 use gw_site::{BoxedSetup, SharedBytes, Turn, Turns, What};
+use pt_core::Terminal;
 use sim_script::{ImageKind, Script};
 use std::alloc::{AllocError, Global};
 use std::snapshot::Snapshot;
@@ -33,17 +38,19 @@ pub(crate) struct Played {
     /// The text of the script, of which no bytes are kept: clauses alone read it.
     pub(crate) text: Snapshot<Bytes>,
     pub(crate) script: Script,
-    /// What is played is the script alone: no power failure was set and no file was put on the disk beside it.
+    /// What is played is the script or the drill alone: no power failure was set and no file was put on the disk beside it.
     pub(crate) scripted: bool,
+    /// The drill that is played, if it isn't the script of a text.
+    pub(crate) drill: Option<Drill>,
     pub(crate) place: Place,
     pub(crate) log: Turns,
     /// The log could not grow; place, disk and connections aren't those of the log any more.
     pub(crate) short: bool,
     pub(crate) disk: Disk,
     pub(crate) connections: Connections,
-    pub(crate) ghost read_is: { script_of text.value ≡ Ok (whole_script_value script) },
-    pub(crate) ghost part: { ∥ HasPart scripted (lines_value script.lines.items) log ∥₁ },
-    pub(crate) ghost stands: { short ≡ false → ∥ HasSteps scripted (lines_value script.lines.items) log (place_value script.lines.items place) ∥₁ },
+    pub(crate) ghost source: { source_script drill text.value ≡ Ok (whole_script_value script) },
+    pub(crate) ghost part: { ∥ HasPart scripted (source_terminals drill) (lines_value script.lines.items) log ∥₁ },
+    pub(crate) ghost stands: { short ≡ false → ∥ HasSteps scripted (source_terminals drill) (lines_value script.lines.items) log (place_value script.lines.items place) ∥₁ },
     pub(crate) ghost disk_is: { short ≡ false → HasDisk (outside_of log) disk },
     pub(crate) ghost connections_are: { short ≡ false → HasConnections (outside_of log) connections },
 }
@@ -76,16 +83,6 @@ fn push_link(log: &mut Turns, pt: u16, fails: bool) -> Result<(), AllocError>
         log.push(Turn::LinkFailed { pt })
     } else {
         log.push(Turn::Linked { pt })
-    }
-}
-
-/// What a send takes of these bytes: all, or where it fails the first so many.
-fn taken(bytes: &[u8], most: Option<u64>) -> &[u8]
-    ensures { result.now ≡ sent_of most bytes.now }
-{
-    match most {
-        Some(most) if most < bytes.len() as u64 => &bytes[..most as usize],
-        _ => bytes,
     }
 }
 
@@ -236,13 +233,48 @@ impl Played {
         script: Script,
     ) -> Result<Played, AllocError>
         requires { script_of text.value ≡ Ok (whole_script_value script) }
-        ensures new { IfOk result (λ played. IsUnplayed text.value played) }
+        ensures new { IfOk result (λ played. IsUnplayed text.value None played) }
+        ensures script { IfOk result (λ played. played.script ≡ script) }
     {
-        let place = Place::first(alloc, &script.lines)?;
+        let terminals = Vec::new(alloc);
+        Played::from_first(alloc, text, script, None, terminals)
+    }
+
+    /// Nothing of this drill, of which this is the script and these are the terminals, is played yet.
+    pub(crate) fn of_drill(
+        alloc: Global,
+        drill: Drill,
+        script: Script,
+        terminals: Vec<Terminal>,
+    ) -> Result<Played, AllocError>
+        requires script { whole_script_value script ≡ drill_script drill.from drill.payments }
+        requires terminals { terminals.items ≡ drill_terminals (drill_payments drill.from drill.payments) }
+        ensures new { IfOk result (λ played. IsUnplayed [] (Some drill) played) }
+        ensures script { IfOk result (λ played. played.script ≡ script) }
+    {
+        let text = Bytes::new(Vec::new(alloc));
+        Played::from_first(alloc, Snapshot::of(&text), script, Some(drill), terminals)
+    }
+
+    /// Nothing is played yet of what is to be played.
+    fn from_first(
+        alloc: Global,
+        text: Snapshot<Bytes>,
+        script: Script,
+        drill: Option<Drill>,
+        terminals: Vec<Terminal>,
+    ) -> Result<Played, AllocError>
+        requires source { source_script drill text.value ≡ Ok (whole_script_value script) }
+        requires terminals { terminals.items ≡ source_terminals drill }
+        ensures new { IfOk result (λ played. IsUnplayed text.value drill played) }
+        ensures script { IfOk result (λ played. played.script ≡ script) }
+    {
+        let place = Place::first(alloc, &script.lines, terminals)?;
         Ok(Played {
             text,
             script,
             scripted: true,
+            drill,
             place,
             log: no_turns(alloc),
             short: false,
@@ -274,6 +306,7 @@ impl Played {
         ensures log { self.new.log ≡ self.old.log }
         ensures short { self.new.short ≡ self.old.short }
         ensures script { self.new.script ≡ self.old.script }
+        ensures drill { self.new.drill ≡ self.old.drill }
     {
         self.scripted = false;
         self.place.fail_after(calls, kind);
@@ -308,6 +341,7 @@ impl Played {
         ensures refused { OnErr result (IsUnchanged self.old self.new) }
         ensures short { self.new.short ≡ self.old.short }
         ensures script { self.new.script ≡ self.old.script }
+        ensures drill { self.new.drill ≡ self.old.drill }
     {
         let disk = Disk::of(alloc, file)?;
         push_crash(&mut self.log, alloc, file)?;
@@ -398,8 +432,8 @@ impl Played {
     {
         self.short = true;
         let most = takes_most(&self.place.hazard.pts, u64::from(pt));
+        self.place.send_pt(alloc, pt, bytes)?;
         push_send_pt(&mut self.log, alloc, pt, bytes, most)?;
-        self.place.send_pt(pt);
         self.short = false;
         Ok(most.is_some())
     }

@@ -8,8 +8,11 @@ ghost use Rattle.gw_site.specs.Turns.{DiskTurns, IsPromised, IsTurn, IsWithinBuf
 ghost use Rattle.gw_site.specs.declared.turn.Turn.TheVariants.{Crash, CutPt, CutTill};
 ghost use Rattle.gw_site.specs.Steps.{CutPtCall, CutTillCall, Holding, LengthCall, LinkCall, OpenCall, PollCall, ReadCall, SendPtCall, SendTillCall, StopAfter, SyncCall, WriteCall};
 ghost use Rattle.gw_script.specs.Decode.{is_empty, script_limit};
-ghost use Rattle.gw_script.specs.site.Calls.{IsReached, set_to_fail};
+ghost use Rattle.gw_script.specs.site.Calls.{IsReachedWith, set_to_fail};
+ghost use Rattle.std.specs.Option.{option_copied};
 ghost use Rattle.gw_script.specs.site.Decode.{script_of};
+ghost use Rattle.gw_script.specs.site.Drill.{drill_begins, drill_origin, drill_payments, drill_script, drill_terminals, drill_turns};
+ghost use Rattle.gw_script.specs.site.Peers.{book_of_peer};
 ghost use Rattle.gw_script.specs.site.Playing.{begins};
 ghost use Rattle.gw_script.specs.site.ScriptLine.{setup_of};
 ghost use Rattle.gw_script.specs.site.StepTurns.{site_turns};
@@ -17,11 +20,13 @@ ghost use Rattle.sim_script.specs.Read.{IsScriptFault};
 ghost use Rattle.sim_script.specs.Values.{image_value, whole_script_value};
 ghost use Rattle.sim_site.specs.Steps.{IsReachedPart};
 
+use crate::drill::{Drill, drill_terminals};
 use crate::played::Played;
 use gw_base::{Bytes, Setup};
 use gw_site::{Failed, Polled, Site, Turns, What};
 use jrn_log::read_part;
-use sim_script::{ImageKind, Script, ScriptFault, read_script};
+use pt_core::Book;
+use sim_script::{ImageKind, Script, ScriptFault, drill_script, read_script};
 use std::alloc::{AllocError, Global};
 use std::snapshot::Snapshot;
 
@@ -47,7 +52,7 @@ fn risen(faults: u64) -> u64
 
 impl SimSite {
     ghost use Rattle.sim_site.specs.Made.{IsCallReported};
-    ghost use Rattle.sim_site.specs.Sites.{IsCounted, IsOriginPlayedTo, IsOriginSetup, IsRestarted, IsSame, PlaysOrigin, TakesStep, is_crashed, is_log_full, log_of, origin_beside, outside_there, place_of, played_script, sim_observed};
+    ghost use Rattle.sim_site.specs.Sites.{IsCounted, IsDrillPart, IsDrillPlayedTo, IsDrillSetup, IsOriginPlayedTo, IsOriginSetup, IsRestarted, IsSame, PlaysOrigin, TakesStep, first_terminals, is_crashed, is_log_full, log_of, origin_beside, outside_there, place_of, played_script, sim_observed};
 
     /// A site that plays the script of these bytes, of which it keeps none.
     pub fn from_script(alloc: Global, bytes: &Bytes) -> Result<SimSite, ScriptFault>
@@ -55,6 +60,7 @@ impl SimSite {
         ensures log { IfOk result (λ site. log_of site ≡ []) }
         ensures script { IfOk result (λ site. script_of bytes.now ≡ Ok (played_script site)) }
         ensures place { IfOk result (λ site. place_of site ≡ begins (played_script site).lines) }
+        ensures terminals { IfOk result (λ site. first_terminals site ≡ []) }
         ensures within { OnOk result (length bytes.now ≤ script_limit) }
         ensures fault { IfErr result (IsScriptFault bytes.now) }
 
@@ -79,8 +85,28 @@ impl SimSite {
         ensures log { IfOk result (λ site. log_of site ≡ []) }
         ensures script { IfOk result (λ site. script_of text.value ≡ Ok (played_script site)) }
         ensures place { IfOk result (λ site. place_of site ≡ begins (played_script site).lines) }
+        ensures terminals { IfOk result (λ site. first_terminals site ≡ []) }
     {
         let played = Played::new(alloc, text, script)?;
+        Ok(SimSite {
+            alloc,
+            played,
+            faults: 0,
+        })
+    }
+
+    /// A site that plays the drill: so many payments, drawn from this number on, and two terminals at which they are made.
+    pub fn played(alloc: Global, from: u64, payments: u32) -> Result<SimSite, AllocError>
+        requires { payments ≤ 10000 }
+        ensures site { IfOk result (λ site. sim_observed site ≡ record { log = Some []; faults = 0; dark = false; origin = drill_origin from payments; plan = Some (drill_turns from payments) }) }
+        ensures log { IfOk result (λ site. log_of site ≡ []) }
+        ensures script { IfOk result (λ site. played_script site ≡ drill_script from payments) }
+        ensures place { IfOk result (λ site. place_of site ≡ drill_begins from payments) }
+        ensures terminals { IfOk result (λ site. first_terminals site ≡ drill_terminals (drill_payments from payments)) }
+    {
+        let script = drill_script(alloc, from, payments)?;
+        let terminals = drill_terminals(alloc, from, payments)?;
+        let played = Played::of_drill(alloc, Drill { from, payments }, script, terminals)?;
         Ok(SimSite {
             alloc,
             played,
@@ -109,6 +135,7 @@ impl SimSite {
         ensures taken { OnOk result (TakesStep self.old self.new (Holding file.now) (Crash file.now ∷ [])) }
         ensures place { place_of self.new ≡ place_of self.old }
         ensures script { played_script self.new ≡ played_script self.old }
+        ensures terminals { first_terminals self.new ≡ first_terminals self.old }
         ensures dark { (sim_observed self.new).dark ≡ (sim_observed self.old).dark }
         ensures short { is_log_full self.new ≡ is_log_full self.old }
         ensures origin { OnOk result ((sim_observed self.new).origin ≡ origin_beside) }
@@ -126,12 +153,20 @@ impl SimSite {
         ensures log { log_of self.new ≡ log_of self.old }
         ensures taken { TakesStep self.old self.new (StopAfter calls (image_value image)) [] }
         ensures script { played_script self.new ≡ played_script self.old }
+        ensures terminals { first_terminals self.new ≡ first_terminals self.old }
         ensures dark { (sim_observed self.new).dark ≡ ((sim_observed self.old).dark || (calls == 0)) }
         ensures short { is_log_full self.new ≡ is_log_full self.old }
         ensures origin { (sim_observed self.new).origin ≡ origin_beside }
         ensures faults { (sim_observed self.new).faults ≡ (sim_observed self.old).faults }
     {
         self.played.stop_after(calls, image);
+    }
+
+    /// The book of the terminal of this number; none where no such terminal is played.
+    pub fn book(&self, pt: u16) -> Option<&Book>
+        ensures { option_copied result ≡ book_of_peer (place_of self.now).peers pt }
+    {
+        self.played.place.peers.book(pt)
     }
 
     /// The script that is played.
@@ -170,6 +205,7 @@ impl SimSite {
         ensures given { IfOk result (λ setup. setup ≡ setup_of (played_script self.now).given) }
         ensures own { IfOk result (λ setup. IsOriginSetup (sim_observed self.now).origin setup) }
         ensures limits { IfOk result IsSetup }
+        ensures drill { IfOk result (λ setup. IsDrillSetup (sim_observed self.now).origin setup) }
     {
         self.played.script.given.setup(alloc)
     }
@@ -179,10 +215,14 @@ impl SimSite {
     /// such a log.
     pub fn log(&self) -> &Turns
         ensures log { result.now ≡ log_of self.now }
-        ensures steps { is_log_full self.now ≡ false → ∥ IsReached (played_script self.now).lines result.now (place_of self.now) ∥₁ }
-        ensures part { ∥ IsReachedPart (played_script self.now).lines result.now ∥₁ }
+        ensures steps { is_log_full self.now ≡ false → ∥ IsReachedWith (first_terminals self.now) (played_script self.now).lines result.now (place_of self.now) ∥₁ }
+        ensures part { ∥ IsReachedPart (first_terminals self.now) (played_script self.now).lines result.now ∥₁ }
         ensures plays { PlaysOrigin (sim_observed self.now).origin result.now }
         ensures calls { is_log_full self.now ≡ false → IsOriginPlayedTo (sim_observed self.now).origin result.now (place_of self.now) }
+
+        // The same of a drill, by its numbers.
+        ensures drill { is_log_full self.now ≡ false → IsDrillPlayedTo (sim_observed self.now).origin result.now (place_of self.now) }
+        ensures drill_part { IsDrillPart (sim_observed self.now).origin result.now }
     {
         &self.played.log
     }
@@ -223,7 +263,7 @@ impl SimSite {
 impl Site for SimSite {
     ghost use Rattle.std.specs.Prelude.{is_some};
     ghost use Rattle.gw_script.specs.site.Hazards.{is_failing, takes_most};
-    ghost use Rattle.sim_site.specs.Sites.{IsCalled, IsCounted, IsResult, IsStill, place_of, played_script, sim_observed};
+    ghost use Rattle.sim_site.specs.Sites.{IsCalled, IsCounted, IsResult, IsStill, first_terminals, place_of, played_script, sim_observed};
 
     ghost observed = { sim_observed };
 
@@ -236,6 +276,7 @@ impl Site for SimSite {
         ensures result { IsResult self.old self.new ((place_of self.old).hazard.fail_open) result }
         ensures still { (sim_observed self.old).dark ≡ true → IsStill self.old self.new }
         ensures script { played_script self.new ≡ played_script self.old }
+        ensures terminals { first_terminals self.new ≡ first_terminals self.old }
     {
         if self.played.is_dark() {
             return Err(self.fail());
@@ -256,6 +297,7 @@ impl Site for SimSite {
         ensures stops { (sim_observed self.new).dark ≡ true → result.what ≡ What.Stopped }
         ensures still { (sim_observed self.old).dark ≡ true → IsStill self.old self.new }
         ensures script { played_script self.new ≡ played_script self.old }
+        ensures terminals { first_terminals self.new ≡ first_terminals self.old }
     {
         if self.played.is_dark() {
             return self.poll_result(What::Stopped);
@@ -275,6 +317,7 @@ impl Site for SimSite {
         ensures result { IsResult self.old self.new (is_some (takes_most (place_of self.old).hazard.fail_tills till)) result }
         ensures still { (sim_observed self.old).dark ≡ true → IsStill self.old self.new }
         ensures script { played_script self.new ≡ played_script self.old }
+        ensures terminals { first_terminals self.new ≡ first_terminals self.old }
     {
         if self.played.is_dark() {
             return Err(self.fail());
@@ -292,6 +335,7 @@ impl Site for SimSite {
         ensures result { IsResult self.old self.new (is_some (takes_most (place_of self.old).hazard.fail_pts pt)) result }
         ensures still { (sim_observed self.old).dark ≡ true → IsStill self.old self.new }
         ensures script { played_script self.new ≡ played_script self.old }
+        ensures terminals { first_terminals self.new ≡ first_terminals self.old }
     {
         if self.played.is_dark() {
             return Err(self.fail());
@@ -309,6 +353,7 @@ impl Site for SimSite {
         ensures result { IsResult self.old self.new (is_failing (place_of self.old).hazard.fail_links pt) result }
         ensures still { (sim_observed self.old).dark ≡ true → IsStill self.old self.new }
         ensures script { played_script self.new ≡ played_script self.old }
+        ensures terminals { first_terminals self.new ≡ first_terminals self.old }
     {
         if self.played.is_dark() {
             return Err(self.fail());
@@ -324,6 +369,7 @@ impl Site for SimSite {
         ensures call { IsCalled self.old self.new (CutTillCall till) }
         ensures still { (sim_observed self.old).dark ≡ true → IsStill self.old self.new }
         ensures script { played_script self.new ≡ played_script self.old }
+        ensures terminals { first_terminals self.new ≡ first_terminals self.old }
     {
         if self.played.is_dark() {
             return;
@@ -338,6 +384,7 @@ impl Site for SimSite {
         ensures call { IsCalled self.old self.new (CutPtCall pt) }
         ensures still { (sim_observed self.old).dark ≡ true → IsStill self.old self.new }
         ensures script { played_script self.new ≡ played_script self.old }
+        ensures terminals { first_terminals self.new ≡ first_terminals self.old }
     {
         if self.played.is_dark() {
             return;
@@ -355,6 +402,7 @@ impl Site for SimSite {
         ensures result { IsResult self.old self.new ((place_of self.old).hazard.fail_length) result }
         ensures still { (sim_observed self.old).dark ≡ true → IsStill self.old self.new }
         ensures script { played_script self.new ≡ played_script self.old }
+        ensures terminals { first_terminals self.new ≡ first_terminals self.old }
     {
         if self.played.is_dark() {
             return Err(self.fail());
@@ -376,6 +424,7 @@ impl Site for SimSite {
         ensures result { IsResult self.old self.new ((place_of self.old).hazard.fail_read) result }
         ensures still { (sim_observed self.old).dark ≡ true → IsStill self.old self.new }
         ensures script { played_script self.new ≡ played_script self.old }
+        ensures terminals { first_terminals self.new ≡ first_terminals self.old }
     {
         if self.played.is_dark() {
             return Err(self.fail());
@@ -399,6 +448,7 @@ impl Site for SimSite {
         ensures result { IsResult self.old self.new ((place_of self.old).hazard.fail_write) result }
         ensures still { (sim_observed self.old).dark ≡ true → IsStill self.old self.new }
         ensures script { played_script self.new ≡ played_script self.old }
+        ensures terminals { first_terminals self.new ≡ first_terminals self.old }
     {
         if self.played.is_dark() {
             return Err(self.fail());
@@ -416,6 +466,7 @@ impl Site for SimSite {
         ensures result { IsResult self.old self.new ((place_of self.old).hazard.fail_sync) result }
         ensures still { (sim_observed self.old).dark ≡ true → IsStill self.old self.new }
         ensures script { played_script self.new ≡ played_script self.old }
+        ensures terminals { first_terminals self.new ≡ first_terminals self.old }
     {
         if self.played.is_dark() {
             return Err(self.fail());

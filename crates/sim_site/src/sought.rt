@@ -2,7 +2,7 @@
 ghost use Rattle.std.specs.Prelude.{◌≡◌, ◌==◌, true, false, Some, option_map, OnOk, IfOk};
 ghost use Rattle.std.specs.Option.{option_copied};
 ghost use Rattle.gw_site.specs.Outside.{Outside};
-ghost use Rattle.gw_script.specs.site.Playing.{after_poll, early_hazard, fails_next, is_early, is_off, powered};
+ghost use Rattle.gw_script.specs.site.Playing.{early_hazard, fails_next, is_early, is_off, met, powered};
 ghost use Rattle.sim_script.specs.Values.{failing_value, image_value, lines_value, script_line_value};
 ghost use Rattle.sim_site.specs.Broughts.{EndsUnskipped};
 ghost use Rattle.gw_script.specs.site.Hazards.{no_hazard};
@@ -103,6 +103,10 @@ fn pass(place: &mut Place, line: &ScriptLine, connections: &Connections) -> Resu
             Ok(false)
         }
         ScriptLine::Power(calls, kind) => Ok(pass_power(place, *calls, *kind)),
+        ScriptLine::ForgetPower => {
+            place.hazard.power = None;
+            Ok(false)
+        }
     }
 }
 
@@ -114,7 +118,7 @@ pub(crate) fn sought<'a>(
 ) -> Result<Option<&'a ScriptLine>, AllocError>
     ensures unskipped { IfOk result (λ line. (o : Outside) → HasConnections o connections.now → EndsUnskipped o (option_map script_line_value (option_copied line))) }
     ensures met { IfOk result (λ line. (o : Outside) → HasConnections o connections.now
-        → after_poll o (place_value lines.now place.old) ≡ record (place_value lines.now place.new) { due = met_due (option_map script_line_value (option_copied line)) }) }
+        → met o (place_value lines.now place.old) (place_value lines.now place.old).lines ≡ record (place_value lines.now place.new) { due = met_due (option_map script_line_value (option_copied line)) }) }
 {
     while place.at < lines.len() {
         let line = &lines[place.at];

@@ -8,7 +8,7 @@ use Rattle.gw_site.specs.declared.turn.Turn.{Turn}
 use Rattle.gw_site.specs.declared.turn.Turn.TheVariants.{Start, OpenFailed, Polled, Opened, HeardTill, Closed, HeardPt, Lost, Stopped, Linked, LinkFailed, SentTill, SentPt, CutTill, CutPt, Wrote, Synced, DiskFailed, Crash}
 use Rattle.gw_script.specs.site.ByLines.{GoesBy, GoingByLinesPlays, IsCall, HasNoFailures, IsPlayed, IsRunToStop, IsSkipped, PlainLinesGoOn}
 use Rattle.gw_script.specs.site.Hazards.{Hazard, no_hazard}
-use Rattle.gw_script.specs.site.ScriptLine.{Event, Open, Close, FromTill, FromPt, Lose, Tick, PlayedLine, At, Poll, Fail, Power}
+use Rattle.gw_script.specs.site.ScriptLine.{Event, Open, Close, FromTill, FromPt, Lose, Tick, PlayedLine, At, Poll, Fail, Power, ForgetPower}
 use Rattle.gw_script.specs.site.Playing.{DiskCall, Write, Sync, Length, Read, Fits, Leads, Play, applies, begins, brings, counted, early_hazard, early_lines, met, play_after, rests}
 
 pub by_value : (b : Bool) → (b ≡ true) ⊎ (b ≡ false)
@@ -89,6 +89,7 @@ stays_on o p (Poll event ∷ lines) plain = elim (by_value (applies o event)) [
 ]
 stays_on o p (Fail failing ∷ lines) plain = absurd plain
 stays_on o p (Power calls kind ∷ lines) plain = absurd plain
+stays_on o p (ForgetPower ∷ lines) plain = absurd plain
 
 plain_lines : (lines : List PlayedLine) → HasNoFailures lines → early_lines lines ≡ lines
 plain_lines [] plain = refl
@@ -96,6 +97,7 @@ plain_lines (At now ∷ lines) plain = ap (λ ls. At now ∷ ls) (plain_lines li
 plain_lines (Poll event ∷ lines) plain = refl
 plain_lines (Fail failing ∷ lines) plain = absurd plain
 plain_lines (Power calls kind ∷ lines) plain = absurd plain
+plain_lines (ForgetPower ∷ lines) plain = absurd plain
 
 plain_hazard : (h : Hazard) (lines : List PlayedLine) → HasNoFailures lines → early_hazard h lines ≡ h
 plain_hazard h [] plain = refl
@@ -103,6 +105,7 @@ plain_hazard h (At now ∷ lines) plain = plain_hazard h lines plain
 plain_hazard h (Poll event ∷ lines) plain = refl
 plain_hazard h (Fail failing ∷ lines) plain = absurd plain
 plain_hazard h (Power calls kind ∷ lines) plain = absurd plain
+plain_hazard h (ForgetPower ∷ lines) plain = absurd plain
 
 -- ---- calls, and then a poll
 
@@ -186,6 +189,7 @@ polled n again o all moment (Poll event ∷ lines) now turns q le plain is leads
 ]
 polled n again o all moment (Fail failing ∷ lines) now turns q le plain is leads run = absurd plain
 polled n again o all moment (Power calls kind ∷ lines) now turns q le plain is leads run = absurd plain
+polled n again o all moment (ForgetPower ∷ lines) now turns q le plain is leads run = absurd plain
 
 calls_then : (n : ℕ) → Again n
 calls_then n o moment lines [] q le plain leads run = absurd run
@@ -247,6 +251,7 @@ goes_plain (Poll event ∷ lines) o moment turns (inl (is, goes)) = goes_plain l
 goes_plain (Poll event ∷ lines) o moment turns (inr x) = goes_plain lines (outside_from o (Polled moment ∷ (brings event ++ x.calls))) moment x.later x.goes_on
 goes_plain (Fail failing ∷ lines) o moment turns goes = absurd goes
 goes_plain (Power calls kind ∷ lines) o moment turns goes = absurd goes
+goes_plain (ForgetPower ∷ lines) o moment turns goes = absurd goes
 
 -- a call leads from between two calls to there again
 record Stays (o : Outside) (lines : List PlayedLine) (moment : ℤ) (turn : Turn) : Type 0 where
@@ -352,6 +357,7 @@ goes_lead (Poll event ∷ lines) o all moment turns (inr x) =
     played_leads o all moment event lines turns x (poll_leads there moment lines x.later (goes_plain lines there moment x.later x.goes_on) (goes_lead lines there lines moment x.later x.goes_on))
 goes_lead (Fail failing ∷ lines) o all moment turns goes = absurd goes
 goes_lead (Power calls kind ∷ lines) o all moment turns goes = absurd goes
+goes_lead (ForgetPower ∷ lines) o all moment turns goes = absurd goes
 
 pub going-by-lines-plays : GoingByLinesPlays
 going-by-lines-plays lines log g =

@@ -7,10 +7,10 @@ use Rattle.gw_site.specs.declared.turn.Turn.{Turn}
 use Rattle.gw_site.specs.declared.turn.Turn.TheVariants.{Start, OpenFailed, Polled, Linked, LinkFailed, SentTill, SentPt, CutTill, CutPt, Wrote, Synced, DiskFailed, Crash}
 use Rattle.gw_site.proofs.OutsideLemmas.{outside_of-append, outside_of_more}
 use Rattle.gw_site.specs.Steps.{ImageKind, SiteCall, OpenCall, PollCall, SendTillCall, SendPtCall, LinkCall, CutTillCall, CutPtCall, LengthCall, ReadCall, WriteCall, SyncCall, SiteStep, Made, PowerBack, StopAfter, Holding}
-use Rattle.gw_script.specs.site.ScriptLine.{Failing, Event, Open, Close, FromTill, FromPt, Lose, Tick, PlayedLine, At, Poll, Fail, Power}
+use Rattle.gw_script.specs.site.ScriptLine.{Failing, Event, Open, Close, FromTill, FromPt, Lose, Tick, PlayedLine, At, Poll, Fail, Power, ForgetPower}
 use Rattle.gw_script.specs.site.Hazards.{Armed, Hazard, armed, crash_file, is_failing, is_reached, links_without, sends_without, sent_of, takes_most}
-use Rattle.gw_script.specs.site.Playing.{DiskCall, Write, Sync, Length, Read, Fits, Idle, Leads, Play, after_poll, applies, begins, brings, brought, counted, fails_next, fallen, is_off, met, one_call_less, play_after, powered, restarted}
-use Rattle.gw_script.specs.site.Calls.{LeadsBy, are_scripted, place_after, play_from, polled_place, polled_turns, call_turns, set_to_fail}
+use Rattle.gw_script.specs.site.Playing.{DiskCall, Write, Sync, Length, Read, Fits, Idle, Leads, Play, after_poll, applies, begins, brings, brought, counted, fails_next, fallen, is_off, linked_to_pt, met, met_coming, one_call_less, play_after, power_forgotten, powered, restarted, sent_to_pt, then_coming}
+use Rattle.gw_script.specs.site.Calls.{CallFits, LeadsBy, are_scripted, place_after, play_from, polled_place, polled_turns, call_turns, set_to_fail}
 use Rattle.gw_script.specs.site.Laws.{CallsGoOn, CallsPlay, GoesOnBeside, IsCutTo, OneLogOfCalls, PowerGoesOn, SendsAreCut}
 use Rattle.gw_script.proofs.site.LeadsLemmas.{sends-take-theirs}
 
@@ -72,15 +72,15 @@ open_goes o p setup false e idle = one_goes o p Sync (Start setup) (idle, e) (co
 pub link_goes : (o : Outside) (p : Play) (pt : ℕ) (test : Bool) → is_failing p.hazard.fail_links pt ≡ test → Idle p →
     Goes o p (if test then LinkFailed pt ∷ [] else Linked pt ∷ []) (play_from o Sync p (if test then LinkFailed pt ∷ [] else Linked pt ∷ []))
 link_goes o p pt true e idle = one_goes o p Sync (LinkFailed pt) (idle, e) (counted_quiet (record p { hazard = record p.hazard { fail_links = links_without p.hazard.fail_links pt } }) (record { no_event = idle.no_event; no_failure = idle.no_failure }))
-link_goes o p pt false e idle = one_goes o p Sync (Linked pt) (idle, e) (counted_quiet p (idle_quiet p idle))
+link_goes o p pt false e idle = one_goes o p Sync (Linked pt) (idle, e) (counted_quiet (linked_to_pt pt p) (record { no_event = idle.no_event; no_failure = idle.no_failure }))
 
 pub till_quiet : (p : Play) (till : ℕ) (bytes : List ℕ) (ok : Bool) (o : Outside) → Idle p → IsQuiet (play_after o Sync p (SentTill till bytes ok))
 till_quiet p till bytes true o idle = counted_quiet p (idle_quiet p idle)
 till_quiet p till bytes false o idle = counted_quiet (record p { hazard = record p.hazard { fail_tills = sends_without p.hazard.fail_tills till } }) (record { no_event = idle.no_event; no_failure = idle.no_failure })
 
 pub pt_quiet : (p : Play) (pt : ℕ) (bytes : List ℕ) (ok : Bool) (o : Outside) → Idle p → IsQuiet (play_after o Sync p (SentPt pt bytes ok))
-pt_quiet p pt bytes true o idle = counted_quiet p (idle_quiet p idle)
-pt_quiet p pt bytes false o idle = counted_quiet (record p { hazard = record p.hazard { fail_pts = sends_without p.hazard.fail_pts pt } }) (record { no_event = idle.no_event; no_failure = idle.no_failure })
+pt_quiet p pt bytes true o idle = counted_quiet (sent_to_pt pt bytes p) (record { no_event = idle.no_event; no_failure = idle.no_failure })
+pt_quiet p pt bytes false o idle = counted_quiet (record (sent_to_pt pt bytes p) { hazard = record p.hazard { fail_pts = sends_without p.hazard.fail_pts pt } }) (record { no_event = idle.no_event; no_failure = idle.no_failure })
 
 pub length_goes : (o : Outside) (p : Play) (test : Bool) → p.hazard.fail_length ≡ test → Idle p → Goes o p (if test then DiskFailed ∷ [] else []) (play_from o Length p (if test then DiskFailed ∷ [] else []))
 length_goes o p true e idle = one_goes o p Length DiskFailed (idle, e) (record { no_event = idle.no_event; no_failure = idle.no_failure })
@@ -150,8 +150,18 @@ met_event o p (Power calls kind ∷ lines) none = by_test (calls == 0) (met_even
     by_test : (test : Bool) → AreEvent (met o (powered calls kind p) lines).due → AreEvent (if test then is_off kind (record p { lines = lines }) else met o (powered calls kind p) lines).due
     by_test true later = subst AreEvent (sym none) tt
     by_test false later = later
+met_event o p (ForgetPower ∷ lines) none = met_event o (power_forgotten p) lines none
 
-pub met_failing : (o : Outside) (p : Play) (lines : List PlayedLine) → (met o p lines).failing ≡ p.failing
+-- so it is with what is still to come of played terminals
+coming_event : (o : Outside) (p : Play) (events : List Event) → p.due ≡ [] → AreEvent (met_coming o events p).due
+coming_event o p [] none = met_event o (then_coming [] p) p.lines none
+coming_event o p (event ∷ events) none = by_test (applies o event) (coming_event o p events none)
+  where
+    by_test : (test : Bool) → AreEvent (met_coming o events p).due → AreEvent (if test then record (then_coming events p) { due = brings event } else met_coming o events p).due
+    by_test true later = brings_event event
+    by_test false later = later
+
+met_failing : (o : Outside) (p : Play) (lines : List PlayedLine) → (met o p lines).failing ≡ p.failing
 met_failing o p [] = refl
 met_failing o p (At now ∷ lines) = met_failing o (record p { moment = now }) lines
 met_failing o p (Poll event ∷ lines) = by_test (applies o event) (met_failing o p lines)
@@ -163,6 +173,15 @@ met_failing o p (Fail failing ∷ lines) = met_failing o (fails_next o failing p
 met_failing o p (Power calls kind ∷ lines) = by_test (calls == 0) (met_failing o (powered calls kind p) lines)
   where
     by_test : (test : Bool) → (met o (powered calls kind p) lines).failing ≡ p.failing → (if test then is_off kind (record p { lines = lines }) else met o (powered calls kind p) lines).failing ≡ p.failing
+    by_test true later = refl
+    by_test false later = later
+met_failing o p (ForgetPower ∷ lines) = met_failing o (power_forgotten p) lines
+
+pub coming_failing : (o : Outside) (p : Play) (events : List Event) → (met_coming o events p).failing ≡ p.failing
+coming_failing o p [] = met_failing o (then_coming [] p) p.lines
+coming_failing o p (event ∷ events) = by_test (applies o event) (coming_failing o p events)
+  where
+    by_test : (test : Bool) → (met_coming o events p).failing ≡ p.failing → (if test then record (then_coming events p) { due = brings event } else met_coming o events p).failing ≡ p.failing
     by_test true later = refl
     by_test false later = later
 
@@ -178,8 +197,8 @@ pub poll_goes : (o : Outside) (p : Play) → Idle p → (after_poll o p).off ≡
 poll_goes o p idle on =
     let q = after_poll o p in
     record {
-      leads = (Sync, (idle, on, refl), due_leads (outside_after o (Polled q.moment)) q q.due refl (met_event o p p.lines idle.no_event));
-      quiet = record { no_event = refl; no_failure = met_failing o p p.lines ∙ idle.no_failure };
+      leads = (Sync, (idle, on, refl), due_leads (outside_after o (Polled q.moment)) q q.due refl (coming_event o p p.peers.coming idle.no_event));
+      quiet = record { no_event = refl; no_failure = coming_failing o p p.peers.coming ∙ idle.no_failure };
     }
 
 -- ---- calls and power failures
@@ -331,19 +350,35 @@ leads_by_part (Holding file ∷ steps) past p more turns after (later, none, is,
     let (mid, place, leads) = leads_by_part steps (past ++ Crash file ∷ []) p more later after rest in
     (Crash file ∷ mid, place, (mid, none, refl, leads))
 
+-- from any first place on
+pub calls_on : (first : Play) (steps : List SiteStep) (log : List Turn) (place : Play) (call : SiteCall) (made : List Turn) → LeadsBy [] first steps log place → CallFits (outside_of log) place call made →
+    LeadsBy [] first (steps ++ Made call ∷ []) (log ++ made) (place_after (outside_of log) place call)
+calls_on first steps log place call made leads fits =
+    leads_by_append steps [] first log place (Made call ∷ []) made (place_after (outside_of log) place call) leads (made, [], fits, sym (append-nil made), (refl, refl))
+
+pub power_on : (first : Play) (steps : List SiteStep) (log : List Turn) (place : Play) (kind : ImageKind) → LeadsBy [] first steps log place → place.off ≡ Some kind →
+    LeadsBy [] first (steps ++ PowerBack ∷ []) (log ++ Crash (crash_file kind (outside_of log)) ∷ []) (restarted place)
+power_on first steps log place kind leads off =
+    leads_by_append steps [] first log place (PowerBack ∷ []) (Crash (crash_file kind (outside_of log)) ∷ []) (restarted place) leads (kind, [], off, refl, (refl, refl))
+
+pub stop_on : (first : Play) (steps : List SiteStep) (log : List Turn) (place : Play) (calls : ℕ) (kind : ImageKind) → LeadsBy [] first steps log place →
+    LeadsBy [] first (steps ++ StopAfter calls kind ∷ []) log (set_to_fail calls kind place)
+stop_on first steps log place calls kind leads =
+    subst (λ l. LeadsBy [] first (steps ++ StopAfter calls kind ∷ []) l (set_to_fail calls kind place)) (append-nil log) (leads_by_append steps [] first log place (StopAfter calls kind ∷ []) [] (set_to_fail calls kind place) leads (refl, refl))
+
+pub file_on : (first : Play) (steps : List SiteStep) (place : Play) (file : List ℕ) → LeadsBy [] first steps [] place → LeadsBy [] first (steps ++ Holding file ∷ []) (Crash file ∷ []) place
+file_on first steps place file leads = leads_by_append steps [] first [] place (Holding file ∷ []) (Crash file ∷ []) place leads ([], refl, refl, (refl, refl))
+
 pub calls-go-on : CallsGoOn
-calls-go-on lines steps log place call made leads fits =
-    leads_by_append steps [] (begins lines) log place (Made call ∷ []) made (place_after (outside_of log) place call) leads (made, [], fits, sym (append-nil made), (refl, refl))
+calls-go-on lines steps log place call made leads fits = calls_on (begins lines) steps log place call made leads fits
 
 pub power-goes-on : PowerGoesOn
-power-goes-on lines steps log place kind leads off =
-    leads_by_append steps [] (begins lines) log place (PowerBack ∷ []) (Crash (crash_file kind (outside_of log)) ∷ []) (restarted place) leads (kind, [], off, refl, (refl, refl))
+power-goes-on lines steps log place kind leads off = power_on (begins lines) steps log place kind leads off
 
 pub goes-on-beside : GoesOnBeside
 goes-on-beside = record {
-  stop = λ lines steps log place calls kind leads.
-      subst (λ l. LeadsBy [] (begins lines) (steps ++ StopAfter calls kind ∷ []) l (set_to_fail calls kind place)) (append-nil log) (leads_by_append steps [] (begins lines) log place (StopAfter calls kind ∷ []) [] (set_to_fail calls kind place) leads (refl, refl));
-  file = λ lines steps place file leads. leads_by_append steps [] (begins lines) [] place (Holding file ∷ []) (Crash file ∷ []) place leads ([], refl, refl, (refl, refl));
+  stop = λ lines steps log place calls kind leads. stop_on (begins lines) steps log place calls kind leads;
+  file = λ lines steps place file leads. file_on (begins lines) steps place file leads;
 }
 
 -- steps that were not beside the script, and one more of them

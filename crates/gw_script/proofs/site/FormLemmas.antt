@@ -14,7 +14,7 @@ use Rattle.gw_base.specs.declared.currency.Currency.{Currency}
 use Rattle.gw_base.specs.declared.setup.Pt.{Pt}
 use Rattle.gw_site.specs.Steps.{ImageKind, Old, New, Junk}
 use Rattle.gw_script.specs.Decode.{WordAndRest, is_blank, number, split_at_space}
-use Rattle.gw_script.specs.site.ScriptLine.{SetupLine, Name, Queue, Wait, Slots, Terminal, Event, Open, Close, FromTill, FromPt, Lose, Tick, Failing, FailOpen, FailLink, FailSendTill, FailSendPt, FailWrite, FailSync, FailLength, FailRead, PlayedLine, At, Poll, Fail, Power, Entry, Blank, Setting, Playing}
+use Rattle.gw_script.specs.site.ScriptLine.{SetupLine, Name, Queue, Wait, Slots, Terminal, Event, Open, Close, FromTill, FromPt, Lose, Tick, Failing, FailOpen, FailLink, FailSendTill, FailSendPt, FailWrite, FailSync, FailLength, FailRead, PlayedLine, At, Poll, Fail, Power, ForgetPower, Entry, Blank, Setting, Playing}
 use Rattle.gw_script.specs.site.Decode.{Form, after_word, byte_number, chunk, currency_word, entry_of, failing_of, failing_on, failing_parts, formed, formed_parts, forms, image_of, junk_of, link_number, name_word, number_within, password_word, polling, power_of, pt_bytes, said, setting, single, spelled, terminal, terminal_codes, terminal_currency, terminal_password, terminal_words, till_bytes, till_said}
 use Rattle.gw_script.specs.site.Grammar.{IsEntry, SpellsChunk, SpellsEvent, SpellsFailing, SpellsImage, SpellsLine, SpellsPlayed, SpellsSetting, SpellsTerminal}
 use Rattle.gw_script.proofs.NumberLemmas.{number_decimal}
@@ -465,6 +465,7 @@ played_read (Poll event) text spells = event_read event text spells
 played_read (Fail failing) text spells = failing_read failing text spells
 played_read (Power calls kind) text (small, image, image_is, is) =
     ap spelled is ∙ ap (λ line. option_map Playing line) (power-exact.complete (decimal calls ++ 32 ∷ image) (Power calls kind) (of_till SpellsImage Power calls kind image (small, refl) image_is))
+played_read ForgetPower text spells = absurd spells
 
 spelled_read : (entry : Entry) (text : List ℕ) → SpellsLine entry text → spelled text ≡ Some entry
 spelled_read Blank text (inl none) = ap spelled none

@@ -8,9 +8,9 @@ use Rattle.gw_site.specs.Sorts.{sort_of}
 use Rattle.gw_site.specs.declared.turn.Turn.{Turn}
 use Rattle.gw_site.specs.declared.turn.Turn.TheVariants.{Start, OpenFailed, Polled, Opened, HeardTill, Closed, HeardPt, Lost, Stopped, Linked, LinkFailed, SentTill, SentPt, CutTill, CutPt, Wrote, Synced, DiskFailed, Crash}
 use Rattle.gw_site.specs.Steps.{ImageKind, SiteCall, OpenCall, PollCall, SendTillCall, SendPtCall, LinkCall, CutTillCall, CutPtCall, LengthCall, ReadCall, WriteCall, SyncCall, SiteStep, Made, PowerBack, StopAfter, Holding}
-use Rattle.gw_script.specs.site.ScriptLine.{Failing, FailOpen, FailLink, FailSendTill, FailSendPt, FailWrite, FailSync, FailLength, FailRead, Event, Open, Close, FromTill, FromPt, Lose, Tick, PlayedLine, At, Poll, Fail, Power}
+use Rattle.gw_script.specs.site.ScriptLine.{Failing, FailOpen, FailLink, FailSendTill, FailSendPt, FailWrite, FailSync, FailLength, FailRead, Event, Open, Close, FromTill, FromPt, Lose, Tick, PlayedLine, At, Poll, Fail, Power, ForgetPower}
 use Rattle.gw_script.specs.site.Hazards.{Armed, Hazard, armed, crash_file, is_failing, is_reached, links_without, no_hazard, sends_without}
-use Rattle.gw_script.specs.site.Playing.{DiskCall, Write, Sync, Length, Read, Fits, Leads, Play, PlaysLines, after_poll, applies, begins, brings, counted, disk_failed, early_hazard, early_lines, fails_next, fallen, is_early, is_off, met, one_call_less, play_after, powered, restarted, send_failed_pt, send_failed_till}
+use Rattle.gw_script.specs.site.Playing.{DiskCall, Write, Sync, Length, Read, Fits, Leads, Play, PlaysLines, after_poll, applies, begins, brings, counted, disk_failed, early_hazard, early_lines, fails_next, fallen, is_early, is_off, linked_to_pt, met, met_coming, one_call_less, play_after, power_forgotten, powered, restarted, send_failed_pt, send_failed_till, sent_to_pt, then_coming}
 use Rattle.gw_script.specs.site.Calls.{LeadsBy, are_scripted, call_turns, place_after, play_from, polled_place, polled_turns, set_to_fail}
 use Rattle.gw_script.specs.site.Powers.{EachFailureLeavesFewer, FailuresAddUp, PowerFailsOncePerLine, failures_of, is_failure_due, power_failures, power_failures_left, power_lines}
 
@@ -93,6 +93,14 @@ passed o failing p = by_test (is_reached o failing)
     by_test true = record { event = refl; power = ap (λ (power : Option Armed). one_if (is_some p.off || is_some power)) (armed_power failing p.hazard) }
     by_test false = record { event = refl; power = refl }
 
+-- where it is forgotten, no more are due
+forgotten_pending : (p : Play) → pending (power_forgotten p) ≤ pending p
+forgotten_pending p = by_test (is_some p.off) (is_some p.hazard.power)
+  where
+    by_test : (off power : Bool) → one_if (off || false) ≤ one_if (off || power)
+    by_test true power = omega arith
+    by_test false power = omega arith
+
 met_leaves : (o : Outside) (p : Play) (lines : List PlayedLine) → power_failures_left (met o p lines) ≤ pending p + power_lines lines
 met_leaves o p [] = omega arith
 met_leaves o p (At now ∷ lines) = met_leaves o (record p { moment = now }) lines
@@ -110,9 +118,20 @@ met_leaves o p (Power calls kind ∷ lines) = by_test (calls == 0) (met_leaves o
     by_test : (test : Bool) → power_failures_left (met o (powered calls kind p) lines) ≤ pending (powered calls kind p) + power_lines lines → power_failures_left (if test then is_off kind (record p { lines = lines }) else met o (powered calls kind p) lines) ≤ pending p + (1 + power_lines lines)
     by_test true later = omega arith
     by_test false later = omega (arith, at_most_one (is_failure_due (powered calls kind p)))
+met_leaves o p (ForgetPower ∷ lines) = omega (arith, met_leaves o (power_forgotten p) lines, forgotten_pending p)
+
+-- so it is with what is still to come of played terminals
+coming_leaves : (o : Outside) (p : Play) (events : List Event) → power_failures_left (met_coming o events p) ≤ pending p + power_lines p.lines
+coming_leaves o p [] = met_leaves o (then_coming [] p) p.lines
+coming_leaves o p (event ∷ events) = by_test (applies o event) (coming_leaves o p events)
+  where
+    by_test : (test : Bool) → power_failures_left (met_coming o events p) ≤ pending p + power_lines p.lines
+        → power_failures_left (if test then record (then_coming events p) { due = brings event } else met_coming o events p) ≤ pending p + power_lines p.lines
+    by_test true later = omega arith
+    by_test false later = later
 
 poll_leaves : (o : Outside) (p : Play) → power_failures_left (after_poll o p) ≤ power_failures_left p
-poll_leaves o p = met_leaves o p p.lines
+poll_leaves o p = coming_leaves o p p.peers.coming
 
 fallen_leaves : (o : Outside) (off : Option ImageKind) (p : Play) → power_failures_left (fallen o off p) ≤ power_failures_left p
 fallen_leaves o None p = poll_leaves o p
@@ -134,10 +153,10 @@ turn_leaves o call p (Closed till) = omega arith
 turn_leaves o call p (HeardPt pt bytes) = omega arith
 turn_leaves o call p (Lost pt) = omega arith
 turn_leaves o call p Stopped = omega arith
-turn_leaves o call p (Linked pt) = counted_leaves p
+turn_leaves o call p (Linked pt) = counted_leaves (linked_to_pt pt p)
 turn_leaves o call p (LinkFailed pt) = counted_leaves (record p { hazard = record p.hazard { fail_links = links_without p.hazard.fail_links pt } })
 turn_leaves o call p (SentTill till bytes ok) = till_leaves p till ok
-turn_leaves o call p (SentPt pt bytes ok) = pt_leaves p pt ok
+turn_leaves o call p (SentPt pt bytes ok) = pt_leaves (sent_to_pt pt bytes p) pt ok
 turn_leaves o call p (CutTill till) = counted_leaves p
 turn_leaves o call p (CutPt pt) = counted_leaves p
 turn_leaves o call p (Wrote offset bytes) = counted_leaves (record p { failing = p.hazard.fail_write; hazard = record p.hazard { fail_write = false } })
@@ -193,6 +212,7 @@ early_power (Fail failing ∷ lines) h = early_power lines (if is_early failing 
     by_test true = armed_power failing h
     by_test false = refl
 early_power (Power calls kind ∷ lines) h = early_power lines h
+early_power (ForgetPower ∷ lines) h = early_power lines h
 
 early_count : (lines : List PlayedLine) → power_lines (early_lines lines) ≡ power_lines lines
 early_count [] = refl
@@ -204,6 +224,7 @@ early_count (Fail failing ∷ lines) = by_test (is_early failing) (early_count l
     by_test true e = e
     by_test false e = e
 early_count (Power calls kind ∷ lines) = ap (λ n. 1 + n) (early_count lines)
+early_count (ForgetPower ∷ lines) = early_count lines
 
 begins_left : (lines : List PlayedLine) → power_failures_left (begins lines) ≡ power_lines lines
 begins_left lines = omega (arith, early_count lines, ap (λ (power : Option Armed). one_if (is_some power)) (early_power lines no_hazard))
@@ -268,6 +289,15 @@ met_none o p (Power calls kind ∷ lines) none = by_test (calls == 0) (met_none 
     by_test : (test : Bool) → power_failures (met o (powered calls kind p) lines).due ≡ 0 → power_failures (if test then is_off kind (record p { lines = lines }) else met o (powered calls kind p) lines).due ≡ 0
     by_test true later = ap power_failures none
     by_test false later = later
+met_none o p (ForgetPower ∷ lines) none = met_none o (power_forgotten p) lines none
+
+coming_none : (o : Outside) (p : Play) (events : List Event) → p.due ≡ [] → power_failures (met_coming o events p).due ≡ 0
+coming_none o p [] none = met_none o (then_coming [] p) p.lines none
+coming_none o p (event ∷ events) none = by_test (applies o event) (coming_none o p events none)
+  where
+    by_test : (test : Bool) → power_failures (met_coming o events p).due ≡ 0 → power_failures (if test then record (then_coming events p) { due = brings event } else met_coming o events p).due ≡ 0
+    by_test true later = brings_none event
+    by_test false later = later
 
 polled_none : (p : Play) (off : Option ImageKind) → power_failures p.due ≡ 0 → power_failures (polled_turns p off) ≡ 0
 polled_none p None none = ap (λ n. 0 + n) none
@@ -280,7 +310,7 @@ either_none false turns others e f = f
 -- nor are the turns of a call
 call_none : (o : Outside) (p : Play) (call : SiteCall) → p.due ≡ [] → power_failures (call_turns o p call) ≡ 0
 call_none o p (OpenCall setup) none = either_none p.hazard.fail_open (OpenFailed ∷ []) (Start setup ∷ []) refl refl
-call_none o p PollCall none = polled_none (after_poll o p) (after_poll o p).off (met_none o p p.lines none)
+call_none o p PollCall none = polled_none (after_poll o p) (after_poll o p).off (coming_none o p p.peers.coming none)
 call_none o p (SendTillCall till bytes) none = refl
 call_none o p (SendPtCall pt bytes) none = refl
 call_none o p (LinkCall pt) none = either_none (is_failing p.hazard.fail_links pt) (LinkFailed pt ∷ []) (Linked pt ∷ []) refl refl
@@ -295,7 +325,7 @@ call_none o p SyncCall none = either_none p.hazard.fail_sync (DiskFailed ∷ [])
 sum_within : (whole first more left most : ℕ) → whole ≡ first + more → first ≡ 0 → left ≤ most → (later : ℕ) → more + later ≤ left → whole + later ≤ most
 sum_within whole first more left most sum none a later b = omega arith
 
-steps_count : (steps : List SiteStep) → are_scripted steps ≡ true → (past : List Turn) (p : Play) (turns : List Turn) (after : Play) → LeadsBy past p steps turns after → power_failures turns + power_failures_left after ≤ power_failures_left p
+pub steps_count : (steps : List SiteStep) → are_scripted steps ≡ true → (past : List Turn) (p : Play) (turns : List Turn) (after : Play) → LeadsBy past p steps turns after → power_failures turns + power_failures_left after ≤ power_failures_left p
 steps_count [] own past p turns after (none, same) = omega (arith, ap power_failures none, ap power_failures_left same)
 steps_count (Made call ∷ steps) own past p turns after (made, later, (idle, made_is), is, rest) =
     sum_within (power_failures turns) (power_failures made) (power_failures later) (power_failures_left (place_after (outside_of past) p call)) (power_failures_left p)

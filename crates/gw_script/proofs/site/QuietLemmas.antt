@@ -4,12 +4,12 @@ use Rattle.std.specs.Prelude.{Bool, ◌==◌, if◌then◌else◌, not, Option, 
 use Rattle.gw_site.specs.Outside.{Outside, outside_of}
 use Rattle.gw_site.specs.declared.turn.Turn.{Turn}
 use Rattle.gw_site.specs.Steps.{ImageKind, SiteCall, OpenCall, PollCall, SendTillCall, SendPtCall, LinkCall, CutTillCall, CutPtCall, LengthCall, ReadCall, WriteCall, SyncCall, SiteStep, Made, PowerBack, StopAfter, Holding}
-use Rattle.gw_script.specs.site.ScriptLine.{Failing, PlayedLine, At, Poll, Fail, Power}
+use Rattle.gw_script.specs.site.ScriptLine.{Failing, Event, PlayedLine, At, Poll, Fail, Power, ForgetPower}
 use Rattle.gw_script.specs.site.Hazards.{armed, is_failing, is_reached, sent_of, takes_most}
-use Rattle.gw_script.specs.site.Playing.{Idle, Play, after_poll, applies, brings, fails_next, is_off, met, powered}
+use Rattle.gw_script.specs.site.Playing.{Idle, Play, after_poll, applies, brings, fails_next, is_off, met, met_coming, power_forgotten, powered, then_coming}
 use Rattle.gw_script.specs.site.Calls.{place_after, polled_place, set_to_fail}
 use Rattle.gw_script.specs.site.StepTurns.{StepFits, place_after_step}
-use Rattle.gw_script.proofs.site.CallLemmas.{IsQuiet, counted_quiet, idle_quiet, length_goes, link_goes, met_failing, open_goes, passed_due, poll_goes, pt_quiet, read_goes, sync_goes, till_quiet, write_goes}
+use Rattle.gw_script.proofs.site.CallLemmas.{IsQuiet, coming_failing, counted_quiet, idle_quiet, length_goes, link_goes, open_goes, passed_due, poll_goes, pt_quiet, read_goes, sync_goes, till_quiet, write_goes}
 
 -- ---- polls
 
@@ -41,10 +41,21 @@ met_power o p (Power calls other ∷ lines) kind none on off = by_test (calls ==
         → ((met o (powered calls other p) lines).off ≡ Some kind → (met o (powered calls other p) lines).due ≡ []) → (if test then is_off other (record p { lines = lines }) else met o (powered calls other p) lines).due ≡ []
     by_test true here later = none
     by_test false here later = later here
+met_power o p (ForgetPower ∷ lines) kind none on off = met_power o (power_forgotten p) lines kind none on off
+
+-- so it is with what is still to come of played terminals
+coming_power : (o : Outside) (p : Play) (events : List Event) (kind : ImageKind) → p.due ≡ [] → p.off ≡ None → (met_coming o events p).off ≡ Some kind → (met_coming o events p).due ≡ []
+coming_power o p [] kind none on off = met_power o (then_coming [] p) p.lines kind none on off
+coming_power o p (event ∷ events) kind none on off = by_test (applies o event) off (coming_power o p events kind none on)
+  where
+    by_test : (test : Bool) → (if test then record (then_coming events p) { due = brings event } else met_coming o events p).off ≡ Some kind → ((met_coming o events p).off ≡ Some kind → (met_coming o events p).due ≡ []) →
+        (if test then record (then_coming events p) { due = brings event } else met_coming o events p).due ≡ []
+    by_test true here later = on_or_off p kind on here
+    by_test false here later = later here
 
 poll_quiet : (o : Outside) (p : Play) → Idle p → (off : Option ImageKind) → (after_poll o p).off ≡ off → IsQuiet (polled_place (after_poll o p) off)
 poll_quiet o p idle None e = (poll_goes o p idle e).quiet
-poll_quiet o p idle (Some kind) e = record { no_event = met_power o p p.lines kind idle.no_event idle.power e; no_failure = met_failing o p p.lines ∙ idle.no_failure }
+poll_quiet o p idle (Some kind) e = record { no_event = coming_power o p p.peers.coming kind idle.no_event idle.power e; no_failure = coming_failing o p p.peers.coming ∙ idle.no_failure }
 
 -- ---- calls
 

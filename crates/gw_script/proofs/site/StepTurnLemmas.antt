@@ -105,7 +105,7 @@ are_computed (step ∷ steps) (turns ∷ parts) past p (first, rest) =
     let later = are_computed steps parts (past ++ turns) (place_after_step past p step) rest in
     (taken_first past p step steps turns (has_turns past p step turns first) ∙ ap (λ ts. turns ∷ ts) later.0, ap suc later.1)
 
-from_computed : (steps : List SiteStep) (parts : List (List Turn)) (past : List Turn) (p : Play) → turns_by past p steps ≡ parts → length parts ≡ length steps → LeadsInParts past p steps parts
+pub from_computed : (steps : List SiteStep) (parts : List (List Turn)) (past : List Turn) (p : Play) → turns_by past p steps ≡ parts → length parts ≡ length steps → LeadsInParts past p steps parts
 from_computed [] parts past p is size = sym is
 from_computed (step ∷ steps) parts past p is size = elim (none_or_some (step_turns past p step)) [
   | inl e ↦ (
@@ -146,7 +146,7 @@ before_steps (StopAfter calls kind) steps past p made later after is rest =
     subst (λ m. LeadsBy past (set_to_fail calls kind p) steps (m ++ later) after) (sym is) here
 before_steps (Holding file) steps past p made later after (none, is) rest = (later, none, ap (λ m. m ++ later) is, subst (λ m. LeadsBy (past ++ m) p steps later after) is rest)
 
-to_log : (steps : List SiteStep) (parts : List (List Turn)) (past : List Turn) (p : Play) → LeadsInParts past p steps parts → (after : Play) × LeadsBy past p steps (log_of_parts parts) after
+pub to_log : (steps : List SiteStep) (parts : List (List Turn)) (past : List Turn) (p : Play) → LeadsInParts past p steps parts → (after : Play) × LeadsBy past p steps (log_of_parts parts) after
 to_log [] parts past p none = (p, (ap log_of_parts none, refl))
 to_log (step ∷ steps) [] past p leads = absurd leads
 to_log (step ∷ steps) (turns ∷ parts) past p (first, rest) =

@@ -5,7 +5,7 @@ use Rattle.gw_base.specs.declared.setup.Setup.{Setup}
 use Rattle.gw_site.specs.Outside.{Outside, outside_from, outside_of, is_connected}
 use Rattle.gw_site.specs.declared.turn.Turn.{Turn}
 use Rattle.gw_site.specs.declared.turn.Turn.TheVariants.{Start, OpenFailed, Polled, Opened, HeardTill, Closed, HeardPt, Lost, Stopped, Linked, LinkFailed, SentTill, SentPt, CutTill, CutPt, Wrote, Synced, DiskFailed, Crash}
-use Rattle.gw_script.specs.site.ScriptLine.{Event, Open, Close, FromTill, FromPt, Lose, Tick, PlayedLine, At, Poll, Fail, Power}
+use Rattle.gw_script.specs.site.ScriptLine.{Event, Open, Close, FromTill, FromPt, Lose, Tick, PlayedLine, At, Poll, Fail, Power, ForgetPower}
 use Rattle.gw_script.specs.site.Playing.{PlaysLines, brings}
 
 -- no line makes a call or the power fail
@@ -15,6 +15,7 @@ HasNoFailures (At now ∷ lines) = HasNoFailures lines
 HasNoFailures (Poll event ∷ lines) = HasNoFailures lines
 HasNoFailures (Fail failing ∷ lines) = ⊥
 HasNoFailures (Power calls kind ∷ lines) = ⊥
+HasNoFailures (ForgetPower ∷ lines) = ⊥
 
 -- the turns of one run after its start, up to its stop
 abbrev pub IsRunToStop : List Turn → Type 0
@@ -86,6 +87,7 @@ GoesBy o moment (At now ∷ lines) turns = GoesBy o now lines turns
 GoesBy o moment (Poll event ∷ lines) turns = (IsSkipped o event × GoesBy o moment lines turns) ⊎ IsPlayed o moment event turns (λ after later. GoesBy after moment lines later)
 GoesBy o moment (Fail failing ∷ lines) turns = ⊥
 GoesBy o moment (Power calls kind ∷ lines) turns = ⊥
+GoesBy o moment (ForgetPower ∷ lines) turns = ⊥
 
 -- the log is a start, the calls that open the journal, and what the lines give; the moment begins at 0
 pub record GoesByLines (lines : List PlayedLine) (log : List Turn) : Type 0 where

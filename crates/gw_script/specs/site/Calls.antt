@@ -1,13 +1,13 @@
 -- The turns of each call of the gateway, by what is handed to it and by how far the script is played. A log alone shows neither what was to be sent nor a look that succeeds; `Playing` says which turns fit by the log alone.
 use Rattle.std.specs.Prelude.{◌≡◌, ℕ, Bool, true, false, not, ◌==◌, if◌then◌else◌, List, [], ◌∷◌, ◌++◌, Option, Some, None, is_some}
-use Rattle.gw_base.specs.declared.setup.Setup.{Setup}
 use Rattle.gw_site.specs.Outside.{Outside, outside_after, outside_of}
 use Rattle.gw_site.specs.declared.turn.Turn.{Turn}
 use Rattle.gw_site.specs.declared.turn.Turn.TheVariants.{Start, OpenFailed, Polled, Linked, LinkFailed, SentTill, SentPt, CutTill, CutPt, Wrote, Synced, DiskFailed, Crash}
 use Rattle.gw_site.specs.Steps.{ImageKind, SiteCall, OpenCall, PollCall, SendTillCall, SendPtCall, LinkCall, CutTillCall, CutPtCall, LengthCall, ReadCall, WriteCall, SyncCall, SiteStep, Made, PowerBack, StopAfter, Holding}
+use Rattle.pt_core.specs.Serving.{TerminalValue}
 use Rattle.gw_script.specs.site.ScriptLine.{PlayedLine}
 use Rattle.gw_script.specs.site.Hazards.{crash_file, is_failing, sent_of, takes_most}
-use Rattle.gw_script.specs.site.Playing.{DiskCall, Write, Sync, Length, Read, Idle, Play, after_poll, begins, brought, is_off, play_after, powered, restarted}
+use Rattle.gw_script.specs.site.Playing.{DiskCall, Write, Sync, Length, Read, Idle, Play, after_poll, begins, begins_with, brought, is_off, play_after, powered, restarted}
 
 -- the turns of a poll: the moment and the event that it has met, or none where it has reached a power failure
 abbrev pub polled_turns : Play → Option ImageKind → List Turn
@@ -81,6 +81,14 @@ LeadsBy past p (Holding file ∷ steps) turns after = (later : List Turn) × (pa
 -- a site that plays these lines is at this place after these steps, with this log
 abbrev pub Reaches : List PlayedLine → List SiteStep → List Turn → Play → Type 0
 Reaches lines steps log place = LeadsBy [] (begins lines) steps log place
+
+-- a site that plays these terminals and lines is at this place after these steps, with this log
+abbrev pub ReachesWith : List TerminalValue → List PlayedLine → List SiteStep → List Turn → Play → Type 0
+ReachesWith terminals lines steps log place = LeadsBy [] (begins_with terminals lines) steps log place
+
+-- after some steps, whether beside the script or not, the lines are played with these terminals up to this place, with this log
+abbrev pub IsReachedWith : List TerminalValue → List PlayedLine → List Turn → Play → Type 0
+IsReachedWith terminals lines log place = (steps : List SiteStep) × ReachesWith terminals lines steps log place
 
 -- a site that plays these lines has this log after these steps
 abbrev pub PlaysBy : List PlayedLine → List SiteStep → List Turn → Type 0

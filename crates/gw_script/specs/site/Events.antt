@@ -8,7 +8,7 @@ use Rattle.gw_site.specs.declared.turn.Turn.{Turn}
 use Rattle.gw_site.specs.declared.turn.Turn.TheVariants.{Start, Polled, Stopped}
 use Rattle.gw_script.specs.site.ByLines.{IsRunToStop}
 use Rattle.gw_script.specs.site.Playing.{PlaysLines, brings}
-use Rattle.gw_script.specs.site.ScriptLine.{Event, PlayedLine, At, Poll, Fail, Power}
+use Rattle.gw_script.specs.site.ScriptLine.{Event, PlayedLine, At, Poll, Fail, Power, ForgetPower}
 
 -- a line that polls, with the moment that is set there
 pub record Timed : Type 0 where
@@ -22,6 +22,7 @@ timed moment (At now ∷ lines) = timed now lines
 timed moment (Poll event ∷ lines) = record { moment = moment; event = event } ∷ timed moment lines
 timed moment (Fail failing ∷ lines) = timed moment lines
 timed moment (Power calls kind ∷ lines) = timed moment lines
+timed moment (ForgetPower ∷ lines) = timed moment lines
 
 -- the moment of the last `at` line
 abbrev pub last_moment_of : ℤ → List PlayedLine → ℤ
@@ -30,6 +31,7 @@ last_moment_of moment (At now ∷ lines) = last_moment_of now lines
 last_moment_of moment (Poll event ∷ lines) = last_moment_of moment lines
 last_moment_of moment (Fail failing ∷ lines) = last_moment_of moment lines
 last_moment_of moment (Power calls kind ∷ lines) = last_moment_of moment lines
+last_moment_of moment (ForgetPower ∷ lines) = last_moment_of moment lines
 
 -- these are some of those, in the same order
 abbrev pub AreSomeOf : List Timed → List Timed → Type 0

@@ -14,7 +14,7 @@ use Rattle.gw_base.specs.declared.setup.Pt.{Pt}
 use Rattle.gw_site.specs.Turns.{IsCount}
 use Rattle.sale_frame.specs.Grammar.{frame}
 use Rattle.gw_site.specs.Steps.{ImageKind, Old, New, Junk}
-use Rattle.gw_script.specs.site.ScriptLine.{SetupLine, Name, Queue, Wait, Slots, Terminal, Event, Open, Close, FromTill, FromPt, Lose, Tick, Failing, FailOpen, FailLink, FailSendTill, FailSendPt, FailWrite, FailSync, FailLength, FailRead, PlayedLine, At, Poll, Fail, Power, Entry, Blank, Setting, Playing, Script}
+use Rattle.gw_script.specs.site.ScriptLine.{SetupLine, Name, Queue, Wait, Slots, Terminal, Event, Open, Close, FromTill, FromPt, Lose, Tick, Failing, FailOpen, FailLink, FailSendTill, FailSendPt, FailWrite, FailSync, FailLength, FailRead, PlayedLine, At, Poll, Fail, Power, ForgetPower, Entry, Blank, Setting, Playing, Script}
 
 -- ---- words
 
@@ -98,6 +98,7 @@ SpellsPlayed (At moment) text = (n : ℕ) × (moment ≡ pos n) × (n ≤ last_m
 SpellsPlayed (Poll event) text = SpellsEvent event text
 SpellsPlayed (Fail failing) text = SpellsFailing failing text
 SpellsPlayed (Power calls kind) text = IsNumber calls × (image : List ℕ) × SpellsImage kind image × (text ≡ codes "power " ++ (decimal calls ++ 32 ∷ image))
+SpellsPlayed ForgetPower text = ⊥
 
 -- an empty line or a comment, a setup line, or a line that is played
 abbrev pub SpellsLine : Entry → List ℕ → Type 0

@@ -4,9 +4,11 @@ use Rattle.gw_site.specs.Outside.{Outside, outside_after, nothing_yet, is_connec
 use Rattle.gw_site.specs.declared.turn.Turn.{Turn}
 use Rattle.gw_site.specs.declared.turn.Turn.TheVariants.{Start, OpenFailed, Polled, Opened, HeardTill, Closed, HeardPt, Lost, Stopped, Linked, LinkFailed, SentTill, SentPt, CutTill, CutPt, Wrote, Synced, DiskFailed, Crash}
 use Rattle.gw_site.specs.Steps.{ImageKind}
-use Rattle.gw_script.specs.site.ScriptLine.{Event, Open, Close, FromTill, FromPt, Lose, Tick, Failing, FailOpen, FailLink, FailSendTill, FailSendPt, FailWrite, FailSync, FailLength, FailRead, PlayedLine, At, Poll, Fail, Power, Script}
+use Rattle.gw_script.specs.site.ScriptLine.{Event, Open, Close, FromTill, FromPt, Lose, Tick, Failing, FailOpen, FailLink, FailSendTill, FailSendPt, FailWrite, FailSync, FailLength, FailRead, PlayedLine, At, Poll, Fail, Power, ForgetPower, Script}
 use Rattle.gw_script.specs.site.Decode.{script_of}
 use Rattle.gw_script.specs.site.Hazards.{Armed, Hazard, armed, crash_file, is_failing, is_reached, kept_by_crash, links_without, no_hazard, sends_without, takes_most}
+use Rattle.gw_script.specs.site.Peers.{Peers, no_peers, peers_after_bytes, peers_after_crash, peers_after_link, quiet_peers}
+use Rattle.pt_core.specs.Serving.{TerminalValue}
 
 -- how far a script is played
 pub record Play : Type 0 where
@@ -21,6 +23,8 @@ pub record Play : Type 0 where
   pub failing : Bool
   -- the power has failed, and leaves this
   pub off : Option ImageKind
+  -- the terminals that are played, none where a text is
+  pub peers : Peers
 
 -- ---- polls
 
@@ -54,6 +58,10 @@ powered calls kind p = record p { hazard = record p.hazard { power = Some (recor
 abbrev pub is_off : ImageKind → Play → Play
 is_off kind p = record p { hazard = record p.hazard { power = None }; off = Some kind }
 
+-- a power failure that was set and has no effect yet is forgotten
+abbrev pub power_forgotten : Play → Play
+power_forgotten p = record p { hazard = record p.hazard { power = None } }
+
 -- a poll meets the first event that isn't skipped, or the end after the last line, or a power failure at once; the other lines before it take effect
 abbrev pub met : Outside → Play → List PlayedLine → Play
 met o p [] = record p { lines = []; due = Stopped ∷ [] }
@@ -61,10 +69,20 @@ met o p (At now ∷ lines) = met o (record p { moment = now }) lines
 met o p (Poll event ∷ lines) = if applies o event then record p { lines = lines; due = brings event } else met o p lines
 met o p (Fail failing ∷ lines) = met o (fails_next o failing p) lines
 met o p (Power calls kind ∷ lines) = if calls == 0 then is_off kind (record p { lines = lines }) else met o (powered calls kind p) lines
+met o p (ForgetPower ∷ lines) = met o (power_forgotten p) lines
+
+-- this is still to come of the played terminals
+abbrev pub then_coming : List Event → Play → Play
+then_coming events p = record p { peers = record p.peers { coming = events } }
+
+-- a poll meets the first event still to come of a terminal that is linked: those before it are lost. Without one it goes on in the lines
+abbrev pub met_coming : Outside → List Event → Play → Play
+met_coming o [] p = met o (then_coming [] p) p.lines
+met_coming o (event ∷ events) p = if applies o event then record (then_coming events p) { due = brings event } else met_coming o events p
 
 -- how far the script is played once the site was polled
 abbrev pub after_poll : Outside → Play → Play
-after_poll o p = met o p p.lines
+after_poll o p = met_coming o p.peers.coming p
 
 -- the event was brought
 abbrev pub brought : Play → Play
@@ -95,6 +113,14 @@ abbrev pub send_failed_pt : ℕ → Bool → Play → Play
 send_failed_pt pt true p = counted p
 send_failed_pt pt false p = counted (record p { hazard = record p.hazard { fail_pts = sends_without p.hazard.fail_pts pt } })
 
+-- bytes were sent to the terminal of this number, which hears them where it is played
+abbrev pub sent_to_pt : ℕ → List ℕ → Play → Play
+sent_to_pt pt bytes p = record p { peers = peers_after_bytes pt bytes p.peers }
+
+-- the terminal of this number was linked
+abbrev pub linked_to_pt : ℕ → Play → Play
+linked_to_pt pt p = record p { peers = peers_after_link pt p.peers }
+
 -- the call of which a failure of the disk is the outcome
 pub data DiskCall : Type 0 where
   Write : DiskCall
@@ -118,7 +144,7 @@ fallen o (Some kind) p = p
 
 -- the script goes on in the next run
 abbrev pub restarted : Play → Play
-restarted p = record p { due = []; hazard = kept_by_crash p.hazard; failing = false; off = None }
+restarted p = record p { due = []; hazard = kept_by_crash p.hazard; failing = false; off = None; peers = peers_after_crash p.peers }
 
 -- ---- turns
 
@@ -133,10 +159,10 @@ play_after o call p (Closed till) = brought p
 play_after o call p (HeardPt pt bytes) = brought p
 play_after o call p (Lost pt) = brought p
 play_after o call p Stopped = brought p
-play_after o call p (Linked pt) = counted p
+play_after o call p (Linked pt) = counted (linked_to_pt pt p)
 play_after o call p (LinkFailed pt) = counted (record p { hazard = record p.hazard { fail_links = links_without p.hazard.fail_links pt } })
 play_after o call p (SentTill till bytes ok) = send_failed_till till ok p
-play_after o call p (SentPt pt bytes ok) = send_failed_pt pt ok p
+play_after o call p (SentPt pt bytes ok) = send_failed_pt pt ok (sent_to_pt pt bytes p)
 play_after o call p (CutTill till) = counted p
 play_after o call p (CutPt pt) = counted p
 play_after o call p (Wrote offset bytes) = write_made p
@@ -223,6 +249,7 @@ early_hazard h (At now ∷ lines) = early_hazard h lines
 early_hazard h (Poll event ∷ lines) = h
 early_hazard h (Fail failing ∷ lines) = early_hazard (if is_early failing then armed failing h else h) lines
 early_hazard h (Power calls kind ∷ lines) = early_hazard h lines
+early_hazard h (ForgetPower ∷ lines) = early_hazard h lines
 
 -- the lines that are left before the first run, without those
 abbrev pub early_lines : List PlayedLine → List PlayedLine
@@ -231,14 +258,19 @@ early_lines (At now ∷ lines) = At now ∷ early_lines lines
 early_lines (Poll event ∷ lines) = Poll event ∷ lines
 early_lines (Fail failing ∷ lines) = if is_early failing then early_lines lines else Fail failing ∷ early_lines lines
 early_lines (Power calls kind ∷ lines) = Power calls kind ∷ early_lines lines
+early_lines (ForgetPower ∷ lines) = ForgetPower ∷ early_lines lines
 
 -- between two calls
 abbrev pub rests : List PlayedLine → ℤ → Hazard → Play
-rests lines moment hazard = record { lines = lines; moment = moment; due = []; hazard = hazard; failing = false; off = None }
+rests lines moment hazard = record { lines = lines; moment = moment; due = []; hazard = hazard; failing = false; off = None; peers = no_peers }
 
 -- before the first turn; the moment begins at 0
 abbrev pub begins : List PlayedLine → Play
 begins lines = rests (early_lines lines) (pos 0) (early_hazard no_hazard lines)
+
+-- before the first turn of a site that plays these terminals too
+abbrev pub begins_with : List TerminalValue → List PlayedLine → Play
+begins_with terminals lines = record (begins lines) { peers = quiet_peers terminals }
 
 -- the log plays these lines up to this place
 abbrev pub PlaysTo : List PlayedLine → List Turn → Play → Type 0

@@ -8,7 +8,7 @@ use Rattle.gw_site.specs.declared.turn.Turn.TheVariants.{Crash}
 use Rattle.gw_site.specs.Steps.{SiteCall, SiteStep, ImageKind}
 use Rattle.gw_script.specs.site.Calls.{Reaches, are_scripted, place_after, set_to_fail}
 use Rattle.gw_script.specs.site.Playing.{Play, PlaysLines, PlaysTo, restarted}
-use Rattle.gw_script.specs.site.ScriptLine.{PlayedLine, At, Poll, Fail, Power}
+use Rattle.gw_script.specs.site.ScriptLine.{PlayedLine, At, Poll, Fail, Power, ForgetPower}
 
 -- how many of the lines say that the power fails
 abbrev pub power_lines : List PlayedLine → ℕ
@@ -17,6 +17,7 @@ power_lines (At now ∷ lines) = power_lines lines
 power_lines (Poll event ∷ lines) = power_lines lines
 power_lines (Fail failing ∷ lines) = power_lines lines
 power_lines (Power calls kind ∷ lines) = 1 + power_lines lines
+power_lines (ForgetPower ∷ lines) = power_lines lines
 
 -- how many power failures a turn of this sort is: one or none
 abbrev pub failures_of : TurnSort → ℕ

@@ -55,6 +55,8 @@ pub data PlayedLine : Type 0 where
   Fail : Failing → PlayedLine
   -- the power fails after so many more calls, and leaves this; no poll
   Power : ℕ → ImageKind → PlayedLine
+  -- a power failure that was set and has no effect yet is forgotten; no poll, and no text has this line
+  ForgetPower : PlayedLine
 
 -- what one line of the text is
 pub data Entry : Type 0 where

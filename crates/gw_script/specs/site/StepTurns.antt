@@ -4,10 +4,11 @@ use Rattle.gw_site.specs.Outside.{Outside, outside_of}
 use Rattle.gw_site.specs.declared.turn.Turn.{Turn}
 use Rattle.gw_site.specs.declared.turn.Turn.TheVariants.{Crash}
 use Rattle.gw_site.specs.Steps.{ImageKind, SiteStep, Made, PowerBack, StopAfter, Holding}
+use Rattle.pt_core.specs.Serving.{TerminalValue}
 use Rattle.gw_script.specs.Decode.{is_empty}
 use Rattle.gw_script.specs.site.ScriptLine.{PlayedLine}
 use Rattle.gw_script.specs.site.Hazards.{crash_file}
-use Rattle.gw_script.specs.site.Playing.{Play, begins, restarted}
+use Rattle.gw_script.specs.site.Playing.{Play, begins, begins_with, restarted}
 use Rattle.gw_script.specs.site.Calls.{CallFits, call_turns, place_after, set_to_fail}
 
 -- ---- one step
@@ -73,3 +74,7 @@ turns_by past p (step ∷ steps) = with_those_after (step_turns past p step) (λ
 -- the turns of each step of a site that plays these lines, for as long as the steps can be taken
 abbrev pub site_turns : List PlayedLine → List SiteStep → List (List Turn)
 site_turns lines steps = turns_by [] (begins lines) steps
+
+-- the turns of each step of a site that plays these terminals and lines, for as long as the steps can be taken
+abbrev pub site_turns_with : List TerminalValue → List PlayedLine → List SiteStep → List (List Turn)
+site_turns_with terminals lines steps = turns_by [] (begins_with terminals lines) steps

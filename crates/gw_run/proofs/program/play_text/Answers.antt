@@ -1,11 +1,19 @@
 -- Proof of the contract of `play_text`.
 use Rattle.std.proofs.Common.{ap}
 use Rattle.gw_site.specs.Observed.{Observed}
+use Rattle.gw_script.specs.site.StepTurns.{site_turns}
+use Rattle.sim_site.specs.Sites.{played_script}
 use Rattle.gw_run.proofs.ReplayLemmas.{play-end, play-printed, text-fault-end, text-fault-printed}
+use Rattle.gw_run.proofs.RunsLemmas.{script-fails}
 use Rattle.gw_run.proofs.program.play_text.Goals as goal
 
 pub play-ending-requires : goal.play-ending-requires
-play-ending-requires g c = record { log_is = ap (λ (o : Observed). o.log) c.in-Ok.ensures.fresh; plan_is = ap (λ (o : Observed). o.plan) c.in-Ok.ensures.fresh }
+play-ending-requires g c = record {
+  log_is = ap (λ (o : Observed). o.log) c.in-Ok.ensures.fresh;
+  whole = site_turns (played_script c.in-Ok.site).lines;
+  plan_is = ap (λ (o : Observed). o.plan) c.in-Ok.ensures.fresh;
+  few = script-fails (played_script c.in-Ok.site).lines;
+}
 
 pub returns-in-Ok-clause-printed : goal.returns-in-Ok-clause-printed
 returns-in-Ok-clause-printed g c = λ written e.

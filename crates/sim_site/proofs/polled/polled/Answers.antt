@@ -1,25 +1,21 @@
 -- Proof of the contract of `polled`.
-use Rattle.std.proofs.Common.{IfOk, refl, sym, ◌∙◌, ap, subst}
-use Rattle.std.specs.Prelude.{Some}
-use Rattle.sim_site.specs.Made.{EndsPoll}
+use Rattle.std.proofs.Common.{◌∙◌, ap, sym}
 use Rattle.sim_site.specs.Places.{place_value}
-use Rattle.sim_site.proofs.PlayedLemmas.{fell_there, if_followed, none_off}
+use Rattle.sim_site.proofs.PollLemmas.{ends_from}
 use Rattle.sim_site.proofs.polled.polled.Goals as goal
 
-pub returns-then-is_some-clause-polled : goal.returns-then-is_some-clause-polled
-returns-then-is_some-clause-polled c =
-    let off = sym c.is_some.ensures ∙ c.if-is_some.true in
-    record { power = off; place = λ o held. fell_there o c.args.lines.now c.args.place.now c.sought.new.place _ c.requires off (c.in_ok-line.ensures.met o held); connections = refl }
-
-pub returns-clause-polled : goal.returns-clause-polled
-returns-clause-polled c =
-    let brought = c.in_ok-brought.ensures.brought in
-    let P = EndsPoll c.args.lines.now c.args.place.now c.sought.new.place c.args.connections.now c.follow.new.self c.bring.new.buf in
-    subst (λ result. IfOk result P) (sym c.and.ensures) (if_followed c.follow.result (Some c.in_ok-brought.brought) P c.follow.ensures (λ followed. record {
-      power = none_off c.sought.new.place.off (sym c.is_some.ensures ∙ c.if-is_some.false);
-      place = λ o held. c.in_ok-line.ensures.met o held ∙ ap (λ due. record (place_value c.args.lines.now c.sought.new.place) { due = due }) (sym brought.turn);
+pub returns-in_ok-bring_next-in-Some-clause-polled : goal.returns-in_ok-bring_next-in-Some-clause-polled
+returns-in_ok-bring_next-in-Some-clause-polled c =
+    let lines = c.args.lines.now in
+    let brought = c.in_ok-bring_next-in-Some.ensures.brought in
+    record {
+      power = c.in-Some.ensures.power ∙ c.requires;
+      place = λ o held. (c.in-Some.ensures.met o lines held).1 ∙ ap (λ due. record (place_value lines c.next.new.self) { due = due }) (sym brought.turn);
       what = brought.what ∙ sym brought.turn;
-      followed = followed;
+      followed = c.in_ok-bring_next-in-Some.ensures.followed;
       count = brought.count;
-      promise = λ o held. brought.promise o (c.in_ok-line.ensures.unskipped o held);
-    }))
+      promise = λ o held. brought.promise o (c.in-Some.ensures.met o lines held).0;
+    }
+
+pub returns-in-None-clause-polled : goal.returns-in-None-clause-polled
+returns-in-None-clause-polled c = ends_from c.args.lines.now c.args.place.now c.next.new.self _ c.args.connections.now _ _ c.polled_lines.result (λ o held. c.in-None.ensures.met o c.args.lines.now held) c.polled_lines.ensures.polled

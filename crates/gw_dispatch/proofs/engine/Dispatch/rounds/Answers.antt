@@ -3,7 +3,7 @@ use Rattle.std.proofs.Common.{◌∙◌, ◌+◌, refl, sym, ap, arith, inl}
 use Rattle.std.specs.Prelude.{Err}
 use Rattle.gw_rules.proofs.TripleLemmas.{triple-refl, triple-then, triple-after}
 use Rattle.gw_dispatch.proofs.GrowthLemmas.{after-polls, breaks-after, goes-nowhere, goes-without-poll, makes-all, makes-none, makes-one-more, polls-then, polls-within, round-for-memory, stops-at-last}
-use Rattle.gw_dispatch.proofs.RoundLemmas.{all-polled, idle-lacks}
+use Rattle.gw_dispatch.proofs.RoundLemmas.{all-polled, idle-lacks, stop-kept, undone-kept}
 use Rattle.gw_dispatch.proofs.engine.Dispatch.rounds.Goals as goal
 
 pub loop-made-init : goal.loop-made-init
@@ -28,7 +28,7 @@ loop-made-preserved g c = record {
 
 pub returns-in-Ok-Stopped-clause-triple : goal.returns-in-Ok-Stopped-clause-triple
 returns-in-Ok-Stopped-clause-triple g c = λ setup named. triple-then _ _ _ _ _ _ (c.loop-made.invariant.kept setup named)
-    (triple-after _ _ _ _ _ (rw c.in-Ok-Stopped.field-0-is at (c.in-Ok-Stopped.ensures.triple setup c.loop-made.made (named ∙ sym c.loop-made.invariant.gateway))) (λ v q. inl q))
+    (triple-after _ _ _ _ _ (rw c.in-Ok-Stopped.field-0-is at (c.in-Ok-Stopped.ensures.triple setup c.loop-made.made (named ∙ sym c.loop-made.invariant.gateway))) (λ v q. stop-kept _ _ v q))
 
 pub returns-in-Ok-Stopped-clause-goes_on : goal.returns-in-Ok-Stopped-clause-goes_on
 returns-in-Ok-Stopped-clause-goes_on g c = polls-then c.loop-made.made 1 c.args.most _ _ _ (omega (arith, c.loop-made-test.true)) c.loop-made.invariant.goes_on c.in-Ok-Stopped.ensures.goes_on
@@ -43,14 +43,14 @@ returns-in-Err-Disk-clause-failed g c = λ e. breaks-after c.loop-made.made _ _ 
 
 pub returns-in-Err-Disk-clause-triple : goal.returns-in-Err-Disk-clause-triple
 returns-in-Err-Disk-clause-triple g c = λ setup named. triple-then _ _ _ _ _ _ (c.loop-made.invariant.kept setup named)
-    (rw c.in-Err-Disk.field-0-is at (c.in-Err-Disk.ensures.triple setup c.loop-made.made (named ∙ sym c.loop-made.invariant.gateway)))
+    (triple-after _ _ _ _ _ (rw c.in-Err-Disk.field-0-is at (c.in-Err-Disk.ensures.triple setup c.loop-made.made (named ∙ sym c.loop-made.invariant.gateway))) (λ v q. undone-kept _ _ _ v (λ e. cc) q))
 
 pub returns-in-Err-Disk-clause-goes_on : goal.returns-in-Err-Disk-clause-goes_on
 returns-in-Err-Disk-clause-goes_on g c = polls-then c.loop-made.made 1 c.args.most _ _ _ (omega (arith, c.loop-made-test.true)) c.loop-made.invariant.goes_on c.in-Err-Disk.ensures.goes_on
 
 pub returns-in-Err-Memory-clause-triple : goal.returns-in-Err-Memory-clause-triple
 returns-in-Err-Memory-clause-triple g c = λ setup named. triple-then _ _ _ _ _ _ (c.loop-made.invariant.kept setup named)
-    (triple-after _ _ _ _ _ (rw c.in-Err-Memory.field-0-is at (c.in-Err-Memory.ensures.triple setup c.loop-made.made (named ∙ sym c.loop-made.invariant.gateway))) (λ v q. idle-lacks v q))
+    (triple-after _ _ _ _ _ (rw c.in-Err-Memory.field-0-is at (c.in-Err-Memory.ensures.triple setup c.loop-made.made (named ∙ sym c.loop-made.invariant.gateway))) (λ v q. undone-kept _ _ _ v (λ e. cc) (idle-lacks v q)))
 
 pub returns-in-Err-Memory-clause-goes_on : goal.returns-in-Err-Memory-clause-goes_on
 returns-in-Err-Memory-clause-goes_on g c = polls-then c.loop-made.made 1 c.args.most _ _ _ (omega (arith, c.loop-made-test.true)) c.loop-made.invariant.goes_on c.in-Err-Memory.ensures.goes_on

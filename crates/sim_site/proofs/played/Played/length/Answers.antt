@@ -2,6 +2,7 @@
 use Rattle.gw_site.specs.Outside.{outside_of}
 use Rattle.gw_site.specs.Steps.{LengthCall}
 use Rattle.sim_script.specs.Values.{lines_value}
+use Rattle.sim_site.specs.Sources.{source_terminals}
 use Rattle.sim_site.specs.Places.{place_value}
 use Rattle.sim_site.proofs.PlayedLemmas.{connections_stay, disk_stays, look_leaves, look_leaves_connections, never, part_same, part_stood, stands_made}
 use Rattle.sim_site.proofs.played.Played.length.Goals as goal
@@ -9,7 +10,7 @@ use Rattle.sim_site.proofs.played.Played.length.Goals as goal
 pub invariant_of-self : goal.invariant_of-self
 invariant_of-self c =
     let s = c.args.self.now in
-    record { read_is = s.read_is; part = part_same s.scripted (lines_value s.script.lines.items) s.log c.push_look.new.log c.in_err-push_look.ensures.err s.part; stands = λ lit. never lit; disk_is = λ lit. never lit; connections_are = λ lit. never lit }
+    record { source = s.source; part = part_same s.scripted (source_terminals s.drill) (lines_value s.script.lines.items) s.log c.push_look.new.log c.in_err-push_look.ensures.err s.part; stands = λ lit. never lit; disk_is = λ lit. never lit; connections_are = λ lit. never lit }
 
 pub invariant_of-self-2 : goal.invariant_of-self-2
 invariant_of-self-2 c =
@@ -17,10 +18,10 @@ invariant_of-self-2 c =
     let lines = s.script.lines.items in
     let o = outside_of s.log in
     let grown = c.in_ok-push_look.ensures.ok in
-    let stands = stands_made s.scripted lines s.log c.push_look.new.log s.place c.length.new.self LengthCall c.requires.power grown (c.length.ensures.moves o lines) (s.stands c.requires.whole) in
+    let stands = stands_made s.scripted (source_terminals s.drill) lines s.log c.push_look.new.log s.place c.length.new.self LengthCall c.requires.power grown (c.length.ensures.moves o lines) (s.stands c.requires.whole) in
     record {
-      read_is = s.read_is;
-      part = part_stood s.scripted (lines_value lines) c.push_look.new.log (place_value lines c.length.new.self) stands;
+      source = s.source;
+      part = part_stood s.scripted (source_terminals s.drill) (lines_value lines) c.push_look.new.log (place_value lines c.length.new.self) stands;
       stands = λ lit. stands;
       disk_is = λ lit. disk_stays s.log c.push_look.new.log _ s.disk (look_leaves s.place.hazard.length) grown (s.disk_is c.requires.whole);
       connections_are = λ lit. connections_stay s.log c.push_look.new.log _ s.connections (look_leaves_connections s.place.hazard.length) grown (s.connections_are c.requires.whole);
