@@ -1,5 +1,5 @@
 //! A TCP stream whose writes wait for their peer, for a bounded time.
-ghost use Rattle.std.specs.Prelude.{◌≡◌, ◌≤◌, ◌+◌, IfOk, false, if◌then◌else◌, length, nat_lt};
+ghost use Rattle.std.specs.Prelude.{◌≡◌, ◌≤◌, ◌+◌, IfOk, IsOk, OnOk, false, if◌then◌else◌, length, nat_lt};
 
 use libc::net::{POLLOUT, poll};
 use libc::types::pollfd;
@@ -94,7 +94,12 @@ impl Patient {
 }
 
 impl Read for Patient {
-    fn read(&mut self, buf: &mut [u8]) -> io::Result<usize> {
+    fn read(&mut self, buf: &mut [u8]) -> io::Result<usize>
+        ensures bound { IfOk result (λ count. count ≤ length buf.new) }
+        ensures waits { self.new.waits ≡ 0 }
+        ensures heard { IfOk result (λ count. self.new.has_heard ≡ nat_lt 0 count) }
+        ensures next { OnOk result (self.old.has_heard ≡ false) }
+    {
         self.waits = 0;
         if self.has_heard {
             self.has_heard = false;
@@ -108,11 +113,16 @@ impl Read for Patient {
 }
 
 impl Write for Patient {
-    fn write(&mut self, buf: &[u8]) -> io::Result<usize> {
+    fn write(&mut self, buf: &[u8]) -> io::Result<usize>
+        ensures bound { IfOk result (λ count. count ≤ length buf.now) }
+        ensures waits { self.old.waits ≤ self.new.waits }
+    {
         self.write_waiting(buf)
     }
 
-    fn flush(&mut self) -> io::Result<()> {
+    fn flush(&mut self) -> io::Result<()>
+        ensures done { IsOk result }
+    {
         Ok(())
     }
 }
