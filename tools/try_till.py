@@ -232,13 +232,13 @@ def cashier_chooses(bench, folder):
     charged, till = terminal.charged(), open_till(bench, os.path.join(folder, "stopped.json"), "stopped")
     only_asks(till, terminal)
     terminal.stops.set()
-    reply = till.stop(30)
+    reply = till.stop(played.PATIENCE)
     same((reply.result, reply.condition, reply.is_recorded()), ("Failure", "Aborted", True), "a request that the cashier stops")
     same((repr(till.resume()), terminal.charged()), (repr(reply), charged), "its end, and the payments booked for it")
     till.done()
     till = open_till(bench, os.path.join(folder, "repeated.json"), "repeated")
     only_asks(till, terminal)
-    same((till.repeat(30).result, terminal.charged()), ("Success", charged + 1), "a request that the cashier repeats, and the payments booked")
+    same((till.repeat(played.PATIENCE).result, terminal.charged()), ("Success", charged + 1), "a request that the cashier repeats, and the payments booked")
     till.done()
 
 
@@ -249,10 +249,11 @@ def resume_waits(bench, folder):
     terminal.is_held.clear()
     terminal.holds.set()
     same(repr(till.pay(250, "EUR", "waits", 0.5)), "Unknown", "a payment that the terminal holds")
+    wait_until(terminal.is_held.is_set, "a payment at the terminal")
     till.close()
     waited = []
     till.on_wait = lambda seconds: (waited.append(seconds), len(waited) == 3 and terminal.released.set())
-    same(till.resume(30).result, "Success", "what became of it")
+    same(till.resume(played.PATIENCE).result, "Success", "what became of it")
     same((len(waited) >= 3, terminal.charged(), terminal.asked()), (True, charged + 1, asked + 1), "the payments booked for it")
     till.done()
 
