@@ -104,7 +104,7 @@ fn progress_of(stream: &mio::net::TcpStream, millis: i32) -> io::Result<Progress
     Ok(Progress::Made)
 }
 
-/// Takes up a connection that is made. What its peer has sent before is dropped: it answers no command of this link.
+/// Takes up a connection that is made. What its peer has sent before is dropped: it belongs to no command of this link.
 fn take_up(stream: mio::net::TcpStream) -> io::Result<Link> {
     let stream = TcpStream::from(stream);
     connection::set_up(&stream)?;
