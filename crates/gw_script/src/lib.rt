@@ -6,7 +6,7 @@ ghost use Rattle.gw_script.specs.Laws.{TextOfBytes, TextOfFrame};
 ghost use Rattle.gw_script.specs.site.ByLines.{GoingByLinesPlays, PlainLinesGoOn};
 ghost use Rattle.gw_script.specs.site.CallExample.{BesideTheScript, LooksAndWrites, NoFileOverAnother, OtherSetupIsNotItsOwn, PlanIsDone, PollReachesPower, PowerIsOff, SendToPtIsCut, SendsTakeExactly, SendsTakeNoFewer, StartsWithItsOwn, SyncGoesOn};
 ghost use Rattle.gw_script.specs.site.Callers.{OneLogOfCaller};
-ghost use Rattle.gw_script.specs.site.DrillExample.{DrawsOfOne, DrawsOfSix, EarlierLinkIsSilent, LinesOfPayment, PlayedTerminalComes};
+ghost use Rattle.gw_script.specs.site.DrillExample.{CutLinkIsSilent, DrawnImages, DrawsOfOne, DrawsOfSix, EarlierLinkIsSilent, LinesOfPayment, PlayedTerminalComes, PowerFailureIsSilent};
 ghost use Rattle.gw_script.specs.site.Events.{RunHasEvents};
 ghost use Rattle.gw_script.specs.site.Example.{AllFormsAreRead, DefaultsHold, EarlyLinesFail, MisplacedAreReported, NumbersRise, PowerFailsAfterTwo, PowerFailsAtOnce, PowerFailsNoLater, SendsFail, SyncMustFail, TwiceIsReported, WritesFail, WrongLinesAreReported};
 ghost use Rattle.gw_script.specs.site.NoFailures.{DrillFailsNoCall, NoCallFails};
@@ -136,16 +136,22 @@ pub fn law_site_powers()
     ensures once { PowerFailsOnceOfTwo }
 {}
 
-/// The drill draws its payments from a number, each with its lines, its messages and what its terminal does at it. What comes of a
-/// played terminal is polled before the script goes on, and is lost with its link. No call fails in its log, since no line makes one fail.
+/// The drill draws its payments from a number, each with its lines, its messages, what its terminal does at it, and when the power fails.
+/// No call fails in its log, since no line makes one fail.
 pub fn law_drill()
     ensures one { DrawsOfOne }
     ensures six { DrawsOfSix }
+    ensures images { DrawnImages }
     ensures lines { LinesOfPayment }
-    ensures comes { PlayedTerminalComes }
-    ensures silent { EarlierLinkIsSilent }
-
-    // No call fails in its log.
     ensures no_failures { NoCallFails }
     ensures none { DrillFailsNoCall }
+{}
+
+/// What a played terminal sends is polled before the script goes on. It is lost with its link: by another link, by a cut, and by a power
+/// failure, which drops no entry of a book.
+pub fn law_site_peers()
+    ensures comes { PlayedTerminalComes }
+    ensures silent { EarlierLinkIsSilent }
+    ensures cut { CutLinkIsSilent }
+    ensures power { PowerFailureIsSilent }
 {}

@@ -1,8 +1,9 @@
 -- Closed examples: the payments that the drill draws, their lines and messages, and what comes of played terminals.
 use Rattle.std.specs.Prelude.{◌≡◌, ℕ, pos, false, true, List, [], ◌∷◌, Some, None, codes}
-use Rattle.gw_site.specs.declared.turn.Turn.TheVariants.{HeardPt, Linked, Lost, Polled, SentPt, Start, Stopped}
-use Rattle.gw_site.specs.Steps.{LinkCall, Made, OpenCall, Old, PollCall, SendPtCall}
+use Rattle.gw_site.specs.declared.turn.Turn.TheVariants.{Crash, CutPt, HeardPt, Linked, Lost, Polled, SentPt, Start, Stopped}
+use Rattle.gw_site.specs.Steps.{CutPtCall, Junk, LinkCall, Made, New, Old, OpenCall, PollCall, PowerBack, SendPtCall, StopAfter}
 use Rattle.sale_frame.specs.Grammar.{frame}
+use Rattle.pt_core.specs.declared.book.BookEntry.{BookEntry}
 use Rattle.pt_core.specs.declared.play.Play.TheVariants.{Approve, CutAfterBook}
 use Rattle.pt_core.specs.Serving.{TerminalValue}
 use Rattle.pt_core.specs.History.{terminal_after}
@@ -24,8 +25,15 @@ pub record DrawsOfOne : Type 0 where
 -- the payments after 6: at the first of them the power fails after six calls
 pub record DrawsOfSix : Type 0 where
   pub first : payment_drawn 1 6 ≡ record { number = 1; amount = 64623; pt = 1; play = Approve; power = Some (record { calls = 6; kind = Old }) }
+  -- the fourth draw is the first payment's, too
+  pub both : drill_payments 6 2 ≡ payment_drawn 1 6 ∷ record { number = 2; amount = 96569; pt = 1; play = Approve; power = None } ∷ []
   pub plays : drill_plays 1 (drill_payments 6 1) ≡ Approve ∷ []
   pub others : drill_plays 0 (drill_payments 6 1) ≡ []
+
+-- what a power failure leaves, by the fourth draw: all writes, or junk
+pub record DrawnImages : Type 0 where
+  pub new : payment_drawn 1 29 ≡ record { number = 1; amount = 42721; pt = 1; play = Approve; power = Some (record { calls = 9; kind = New }) }
+  pub junk : payment_drawn 1 14 ≡ record { number = 1; amount = 57498; pt = 1; play = Approve; power = Some (record { calls = 11; kind = Junk 0xA5 }) }
 
 -- a payment of 10.99 euros, at which the power fails at once
 abbrev pub small_payment : DrillPayment
@@ -56,15 +64,33 @@ cutting_terminal = terminal_after (record { none = 131; plays = CutAfterBook ∷
 abbrev pub sent_payment : List ℕ
 sent_payment = 0x06 ∷ 0x01 ∷ 0x0A ∷ 0x04 ∷ 0x00 ∷ 0x00 ∷ 0x00 ∷ 0x00 ∷ 0x10 ∷ 0x99 ∷ 0x49 ∷ 0x09 ∷ 0x78 ∷ []
 
--- what comes of the terminal is polled before the script goes on: its acknowledgement, then its cut; its book has the entry
+-- the entry that the terminal books for it
+abbrev pub sent_entry : BookEntry
+sent_entry = record { number = 1; receipt = 1; amount = 1099; reversal = false; approved = true }
+
+-- what comes of the terminal is polled before the script goes on, at the moment before: its acknowledgement, then its cut; its book has the entry
 pub record PlayedTerminalComes : Type 0 where
   pub place : Play
-  pub reached : ReachesWith (cutting_terminal ∷ []) [] (Made (OpenCall plain) ∷ Made (LinkCall 0) ∷ Made (SendPtCall 0 sent_payment) ∷ Made PollCall ∷ Made PollCall ∷ Made PollCall ∷ [])
-      (Start plain ∷ Linked 0 ∷ SentPt 0 sent_payment true ∷ Polled (pos 0) ∷ HeardPt 0 (0x80 ∷ 0x00 ∷ 0x00 ∷ []) ∷ Polled (pos 0) ∷ Lost 0 ∷ Polled (pos 0) ∷ Stopped ∷ []) place
-  pub booked : book_of_peer place.peers 0 ≡ Some (record { number = 1; receipt = 1; amount = 1099; reversal = false; approved = true } ∷ [])
+  pub reached : ReachesWith (cutting_terminal ∷ []) (At (pos 9) ∷ Poll Tick ∷ []) (Made (OpenCall plain) ∷ Made (LinkCall 0) ∷ Made (SendPtCall 0 sent_payment) ∷ Made PollCall ∷ Made PollCall ∷ Made PollCall ∷ Made PollCall ∷ [])
+      (Start plain ∷ Linked 0 ∷ SentPt 0 sent_payment true ∷ Polled (pos 0) ∷ HeardPt 0 (0x80 ∷ 0x00 ∷ 0x00 ∷ []) ∷ Polled (pos 0) ∷ Lost 0 ∷ Polled (pos 9) ∷ Polled (pos 9) ∷ Stopped ∷ []) place
+  pub booked : book_of_peer place.peers 0 ≡ Some (sent_entry ∷ [])
 
 -- what was to come on an earlier link is lost with it
 pub record EarlierLinkIsSilent : Type 0 where
   pub place : Play
   pub reached : ReachesWith (cutting_terminal ∷ []) [] (Made (OpenCall plain) ∷ Made (LinkCall 0) ∷ Made (SendPtCall 0 sent_payment) ∷ Made (LinkCall 0) ∷ Made PollCall ∷ [])
       (Start plain ∷ Linked 0 ∷ SentPt 0 sent_payment true ∷ Linked 0 ∷ Polled (pos 0) ∷ Stopped ∷ []) place
+
+-- and so on a link that was cut
+pub record CutLinkIsSilent : Type 0 where
+  pub place : Play
+  pub reached : ReachesWith (cutting_terminal ∷ []) [] (Made (OpenCall plain) ∷ Made (LinkCall 0) ∷ Made (SendPtCall 0 sent_payment) ∷ Made (CutPtCall 0) ∷ Made PollCall ∷ [])
+      (Start plain ∷ Linked 0 ∷ SentPt 0 sent_payment true ∷ CutPt 0 ∷ Polled (pos 0) ∷ Stopped ∷ []) place
+
+-- a power failure drops what was to come, and no entry of a book
+pub record PowerFailureIsSilent : Type 0 where
+  pub place : Play
+  pub reached : ReachesWith (cutting_terminal ∷ []) [] (Made (OpenCall plain) ∷ Made (LinkCall 0) ∷ StopAfter 1 Old ∷ Made (SendPtCall 0 sent_payment) ∷ PowerBack ∷ [])
+      (Start plain ∷ Linked 0 ∷ SentPt 0 sent_payment true ∷ Crash [] ∷ []) place
+  pub coming : place.peers.coming ≡ []
+  pub booked : book_of_peer place.peers 0 ≡ Some (sent_entry ∷ [])
