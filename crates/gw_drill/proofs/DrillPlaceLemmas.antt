@@ -1,18 +1,17 @@
 -- The drill's own lines and terminals, and so what its log and place are.
-use Rattle.std.proofs.Common.{◌≡◌, ℕ, zero, suc, ◌+◌, ◌-◌, ◌*◌, true, false, List, [], ◌∷◌, ◌++◌, refl, sym, ◌∙◌, ap, subst}
+use Rattle.std.proofs.Common.{◌≡◌, ℕ, ◌-◌, ◌*◌, true, false, List, [], ◌∷◌, ◌++◌, refl, ap}
 use Rattle.std.specs.Prelude.{Option, Some, None, option_map}
-use Rattle.std.specs.List.{flat_map}
 use Rattle.zvt_apdu.specs.DecodeStream.{decode_apdus}
-use Rattle.pt_core.specs.History.{Setting, terminal_after}
+use Rattle.pt_core.specs.History.{Setting}
 use Rattle.pt_core.specs.Serving.{TerminalValue}
 use Rattle.gw_site.specs.Steps.{SiteStep}
 use Rattle.gw_site.specs.declared.turn.Turn.{Turn}
 use Rattle.gw_script.specs.site.Calls.{LeadsBy, are_scripted}
-use Rattle.gw_script.specs.site.Drill.{DrillPayment, drill_begins, drill_lines, drill_payment_frame, drill_payments, drill_terminals, payment_begins, payment_lines, payment_waits, payment_ends, power_set, power_unset}
+use Rattle.gw_script.specs.site.Drill.{DrillPayment, drill_begins, drill_lines, drill_payment_frame, drill_payments, payment_begins, payment_lines, payment_waits, payment_ends, power_set, power_unset}
 use Rattle.gw_script.specs.site.Hazards.{Armed, Hazard, no_hazard}
 use Rattle.gw_script.specs.site.Playing.{Play, early_hazard, early_lines}
 use Rattle.gw_script.specs.site.ScriptLine.{FromTill, PlayedLine, At, Poll, Fail, Power, ForgetPower}
-use Rattle.gw_drill.specs.DrillBooks.{DrillIsAt, IsDrillAt, exchanges_at, setting_at}
+use Rattle.gw_drill.specs.DrillBooks.{DrillIsAt, IsDrillAt, setting_at}
 use Rattle.gw_drill.proofs.PeerLemmas.{Follows, MetLaws}
 use Rattle.gw_drill.proofs.PlaceLemmas.{AreOfTills, Goes, steps-go}
 

@@ -1,6 +1,6 @@
 -- What is done on the connection of a terminal along a course, by its POIID and by its number.
-use Rattle.std.proofs.Common.{◌≡◌, ℕ, zero, suc, ◌+◌, ◌≤◌, Bool, true, false, List, [], ◌∷◌, ◌++◌, map, reverse, refl, sym, ◌∙◌, ap, subst, arith, append-nil, append_assoc, inl, inr}
-use Rattle.std.specs.Prelude.{◌⊎◌, ◌==◌, Option, Some, None, bytes_eq, codes, if◌then◌else◌, option_map, slice_get, unwrap_or}
+use Rattle.std.proofs.Common.{◌≡◌, ℕ, zero, suc, ◌+◌, ◌≤◌, Bool, true, false, List, [], ◌∷◌, ◌++◌, map, reverse, refl, sym, ◌∙◌, ap, arith, append_assoc, inl, inr}
+use Rattle.std.specs.Prelude.{◌==◌, Some, None, bytes_eq, if◌then◌else◌, option_map, slice_get, unwrap_or}
 use Rattle.std.specs.List.{flat_map}
 use Rattle.std.proofs.lemmas.Bool.Decides.{nat_tests}
 use Rattle.std.proofs.lemmas.List.{map-append, reverse-append}
@@ -10,7 +10,6 @@ use Rattle.gw_site.specs.declared.turn.Turn.{Turn}
 use Rattle.gw_site.specs.declared.turn.Turn.TheVariants.{Start, OpenFailed, Polled, Opened, HeardTill, Closed, HeardPt, Lost, Stopped, Linked, LinkFailed, SentTill, SentPt, CutTill, CutPt, Wrote, Synced, DiskFailed, Crash}
 use Rattle.pt_core.specs.Exchange.{Exchange, Links, Sends, Hears}
 use Rattle.gw_script.specs.site.Drill.{drill_poi, drill_pt}
-use Rattle.gw_owes.specs.TerminalLaws.{settings_of}
 use Rattle.gw_owes.specs.declared.terminal.Terminal.{Terminal}
 use Rattle.gw_rules.specs.Lawful.{AllowedTurn, IsCourse, turns_of}
 use Rattle.gw_rules.specs.Scene.{Scene}
@@ -21,7 +20,7 @@ use Rattle.gw_rules.proofs.RecordOrderLemmas.{configured}
 use Rattle.gw_rules.proofs.SetupLemmas.{HasSetup, IsResting, begin-setup}
 use Rattle.gw_rules.proofs.StageLemmas.{no-call}
 use Rattle.gw_books.specs.Past.{numbering_at, poi_of_number}
-use Rattle.gw_played.specs.Played.{PlacedExchange, done_by, exchanges_after, exchanges_from, exchanges_in, place_then, where_poi}
+use Rattle.gw_played.specs.Played.{PlacedExchange, done_by, exchanges_after, exchanges_from, exchanges_in, where_poi}
 use Rattle.gw_drill.specs.DrillBooks.{StartWith, drill_setup, exchange_at, where_number}
 
 -- ---- numbers and POIIDs

@@ -1,12 +1,10 @@
 -- The books of the drill's terminals are honest for its log.
-use Rattle.std.proofs.Common.{◌≡◌, ℕ, zero, suc, ◌+◌, Bool, true, false, List, [], ◌∷◌, ◌++◌, length, map, reverse, refl, sym, ◌∙◌, ap, subst, append-nil, inl, inr}
-use Rattle.std.specs.Prelude.{◌⊎◌, Option, Some, None, bytes_eq, if◌then◌else◌, slice_get}
-use Rattle.std.specs.List.{flat_map, list_any}
+use Rattle.std.proofs.Common.{◌≡◌, ℕ, zero, suc, ◌+◌, Bool, true, false, List, [], ◌∷◌, ◌++◌, length, map, refl, sym, ◌∙◌, ap, subst, append-nil, inl, inr}
+use Rattle.std.specs.Prelude.{Option, Some, None, bytes_eq, if◌then◌else◌, slice_get}
+use Rattle.std.specs.List.{list_any}
 use Rattle.std.proofs.lemmas.List.{map-append}
 use Rattle.std.proofs.lemmas.Slice.Eq.{bytes_eq-Decides}
-use Rattle.gw_base.specs.declared.setup.Pt.{Pt}
 use Rattle.gw_base.specs.declared.setup.Setup.{Setup}
-use Rattle.gw_site.specs.Outside.{is_connected}
 use Rattle.gw_site.specs.declared.turn.Turn.{Turn}
 use Rattle.gw_site.specs.declared.turn.Turn.TheVariants.{Start, OpenFailed, Polled, Opened, HeardTill, Closed, HeardPt, Lost, Stopped, Linked, LinkFailed, SentTill, SentPt, CutTill, CutPt, Wrote, Synced, DiskFailed, Crash}
 use Rattle.pt_core.specs.Exchange.{Exchange, Links, Sends, Hears, HearsSent}
@@ -19,16 +17,16 @@ use Rattle.gw_rules.specs.Lawful.{AllowedTurn, IsCourse, turns_of}
 use Rattle.gw_rules.specs.Scene.{Scene}
 use Rattle.gw_rules.specs.Stage.{is_round}
 use Rattle.gw_rules.specs.View.{View, Move, Begin, Read, Make, after, after_turn, at_first}
-use Rattle.gw_rules.proofs.LinkStateLemmas.{LinkState, Absent, Off, state_in, state_of}
+use Rattle.gw_rules.proofs.LinkStateLemmas.{Absent, Off, state_in, state_of}
 use Rattle.gw_rules.proofs.LinkedLemmas.{Agrees, call-settled, event-settled, first-agrees, first-fits, is_on, move-agrees}
 use Rattle.gw_rules.proofs.RecordOrderLemmas.{configured}
-use Rattle.gw_rules.proofs.SetupLemmas.{HasSetup, IsResting}
+use Rattle.gw_rules.proofs.SetupLemmas.{HasSetup}
 use Rattle.gw_rules.proofs.StageLemmas.{no-call}
 use Rattle.gw_books.specs.Kinds.{BookedKind, kind_of_command}
 use Rattle.gw_books.specs.Past.{MadeLink, Numbering, Past, no_past, past_after, past_from, past_of, poi_of_number, numbering_of_number, with_sent_bytes}
-use Rattle.gw_played.specs.Played.{AreApart, ArePlayed, HaveAllLinked, PlacedExchange, PlayedAgrees, PlayedIsHonest, done_by, exchanges_after, exchanges_from, exchanges_in, exchanges_of, place_then, where_poi}
+use Rattle.gw_played.specs.Played.{ArePlayed, HaveAllLinked, PlacedExchange, PlayedAgrees, PlayedIsHonest, done_by, exchanges_after, exchanges_from, exchanges_in, exchanges_of, where_poi}
 use Rattle.gw_drill.specs.DrillBooks.{AreHonest, DrillIsHonest, StartWith, drill_pois, drill_settings, drill_setup, exchanges_at, setting_at}
-use Rattle.gw_drill.proofs.ExchangeLemmas.{InDrill, begin-in-drill, exchanges-agree, first-number, placed-are, poi-known, poi_at, resting-polls, second-number, start-first, start-later, turn-in-drill}
+use Rattle.gw_drill.proofs.ExchangeLemmas.{InDrill, begin-in-drill, exchanges-agree, first-number, placed-are, poi-known, resting-polls, second-number, start-first, start-later, turn-in-drill}
 
 -- ---- terminals that there aren't
 

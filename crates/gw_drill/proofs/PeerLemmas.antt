@@ -1,21 +1,20 @@
 -- How far a played terminal is, and what is still to come of it, by what a log does on its connection.
-use Rattle.std.proofs.Common.{◌≡◌, ◌≢◌, ℕ, zero, suc, ◌+◌, ◌≤◌, Bool, true, false, not, List, [], ◌∷◌, ◌++◌, map, reverse, length, refl, sym, ◌∙◌, ap, subst, arith, append-nil, append_assoc, inl, inr}
-use Rattle.std.specs.Prelude.{◌⊎◌, ◌==◌, ◌||◌, Option, Some, None, filter, if◌then◌else◌, nat_le, slice_get, slice_set}
+use Rattle.std.proofs.Common.{◌≡◌, ◌≢◌, ℕ, zero, suc, Bool, true, false, not, List, [], ◌∷◌, ◌++◌, reverse, length, refl, sym, ◌∙◌, ap, subst, append-nil, append_assoc, inl, inr}
+use Rattle.std.specs.Prelude.{◌⊎◌, ◌==◌, Option, Some, None, filter, if◌then◌else◌, nat_le, slice_get, slice_set}
 use Rattle.std.specs.List.{flat_map}
 use Rattle.std.proofs.lemmas.Bool.Decides.{Decides-eqb}
 use Rattle.std.proofs.lemmas.Grind.{flat_map-append}
 use Rattle.std.proofs.lemmas.List.{reverse-append}
 use Rattle.gw_bytes.specs.Bytes.{IsPrefix}
-use Rattle.gw_site.specs.Outside.{Outside, Connection, hears, is_connected, new_connection, outside_after, outside_of, without}
+use Rattle.gw_site.specs.Outside.{Outside, hears, is_connected, outside_after, outside_of, without}
 use Rattle.gw_site.proofs.OutsideLemmas.{outside_of_more}
 use Rattle.gw_site.specs.declared.turn.Turn.{Turn}
-use Rattle.gw_site.specs.declared.turn.Turn.TheVariants.{Start, OpenFailed, Polled, Opened, HeardTill, Closed, HeardPt, Lost, Stopped, Linked, LinkFailed, SentTill, SentPt, CutTill, CutPt, Wrote, Synced, DiskFailed, Crash}
+use Rattle.gw_site.specs.declared.turn.Turn.TheVariants.{HeardPt, Linked, SentPt}
 use Rattle.pt_core.specs.Exchange.{Exchange, Links, Sends, Hears, HearsSent, heard_on_link, met_of}
 use Rattle.pt_core.specs.History.{Setting, Met, NewLink, Chunk, sent_on_link, terminal_after}
 use Rattle.pt_core.specs.Serving.{Served, TerminalValue, heard_by_terminal, next_terminal}
-use Rattle.gw_script.specs.site.Peers.{Peers, bytes_coming, coming_after, coming_of, cut_coming, heard_by_peer, is_event_of, linked_to_peer, peers_after_bytes, peers_after_crash, peers_after_link}
-use Rattle.gw_script.specs.site.Playing.{DiskCall, Play, counted, one_call_less, play_after}
-use Rattle.gw_script.specs.site.ScriptLine.{Event, Open, Close, FromTill, FromPt, Lose, Tick, PlayedLine}
+use Rattle.gw_script.specs.site.Peers.{Peers, bytes_coming, coming_after, coming_of, cut_coming, heard_by_peer, is_event_of, linked_to_peer, peers_after_bytes, peers_after_link}
+use Rattle.gw_script.specs.site.ScriptLine.{Event, Open, Close, FromTill, FromPt, Lose, Tick}
 use Rattle.gw_rules.proofs.LinkedLemmas.{connected-other, connected-removed, connected-old}
 use Rattle.gw_drill.specs.DrillBooks.{exchange_at, exchanges_at, where_number}
 use Rattle.gw_drill.proofs.ExchangeLemmas.{one-reversed}

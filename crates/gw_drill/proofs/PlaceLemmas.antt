@@ -1,21 +1,20 @@
 -- How far a drill is, by its log: its terminals are as their connections say.
-use Rattle.std.proofs.Common.{◌≡◌, ℕ, zero, suc, ◌+◌, ◌≤◌, Bool, true, false, not, List, [], ◌∷◌, ◌++◌, refl, sym, ◌∙◌, ap, subst, arith, append-nil, append_assoc, inl, inr}
-use Rattle.std.specs.Prelude.{◌⊎◌, ◌==◌, ◌-◌, Option, Some, None, ℤ, if◌then◌else◌, is_some, nat_le}
-use Rattle.std.specs.List.{list_any}
+use Rattle.std.proofs.Common.{◌≡◌, ℕ, Bool, true, false, not, List, [], ◌∷◌, ◌++◌, refl, sym, ◌∙◌, ap, subst, append-nil, append_assoc}
+use Rattle.std.specs.Prelude.{◌==◌, ◌-◌, Option, Some, None, ℤ, if◌then◌else◌, is_some, nat_le}
 use Rattle.std.proofs.lemmas.Bool.Decides.{Decides-eqb}
 use Rattle.gw_base.specs.declared.setup.Setup.{Setup}
 use Rattle.gw_site.specs.Outside.{Outside, Connection, hears, is_connected, outside_after, outside_of, without}
 use Rattle.gw_site.proofs.OutsideLemmas.{outside_of_more}
-use Rattle.gw_site.specs.Steps.{ImageKind, SiteCall, OpenCall, PollCall, SendTillCall, SendPtCall, LinkCall, CutTillCall, CutPtCall, LengthCall, ReadCall, WriteCall, SyncCall, SiteStep, Made, PowerBack, StopAfter, Holding}
+use Rattle.gw_site.specs.Steps.{SiteCall, OpenCall, PollCall, SendTillCall, SendPtCall, LinkCall, CutTillCall, CutPtCall, LengthCall, ReadCall, WriteCall, SyncCall, SiteStep, Made, PowerBack, StopAfter, Holding}
 use Rattle.gw_site.specs.declared.turn.Turn.{Turn}
 use Rattle.gw_site.specs.declared.turn.Turn.TheVariants.{Start, OpenFailed, Polled, Opened, HeardTill, Closed, HeardPt, Lost, Stopped, Linked, LinkFailed, SentTill, SentPt, CutTill, CutPt, Wrote, Synced, DiskFailed, Crash}
 use Rattle.zvt_apdu.specs.DecodeStream.{DecodedApdus, decode_apdus}
 use Rattle.pt_core.specs.Exchange.{Hears, met_of}
 use Rattle.pt_core.specs.History.{Setting, NewLink, earlier, sent_for, sent_on_link}
-use Rattle.gw_script.specs.site.Calls.{CallFits, LeadsBy, are_scripted, call_turns, place_after, play_from, polled_place, polled_turns}
-use Rattle.gw_script.specs.site.Hazards.{Armed, Hazard, crash_file, is_failing, kept_by_crash, links_without, sends_without, sent_of, takes_most}
+use Rattle.gw_script.specs.site.Calls.{LeadsBy, are_scripted, call_turns, place_after, play_from, polled_place, polled_turns}
+use Rattle.gw_script.specs.site.Hazards.{Armed, Hazard, crash_file, is_failing, links_without, sends_without, sent_of, takes_most}
 use Rattle.gw_script.specs.site.Peers.{Peers, peers_after_crash}
-use Rattle.gw_script.specs.site.Playing.{DiskCall, Write, Sync, Length, Read, Idle, Play, after_poll, applies, brings, brought, counted, is_off, met, met_coming, one_call_less, power_forgotten, powered, linked_to_pt, restarted, send_failed_pt, send_failed_till, sent_to_pt, then_coming, write_made}
+use Rattle.gw_script.specs.site.Playing.{Write, Sync, Length, Read, Idle, Play, applies, brings, brought, counted, is_off, met, met_coming, one_call_less, power_forgotten, powered, linked_to_pt, restarted, send_failed_pt, send_failed_till, sent_to_pt, then_coming}
 use Rattle.gw_script.specs.site.ScriptLine.{Event, Open, Close, FromTill, FromPt, Lose, Tick, PlayedLine, At, Poll, Fail, Power, ForgetPower}
 use Rattle.gw_rules.proofs.LinkedLemmas.{connected-removed}
 use Rattle.gw_drill.specs.DrillBooks.{exchange_at, exchanges_at}

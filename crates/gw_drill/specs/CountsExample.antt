@@ -1,5 +1,5 @@
 -- Closed examples of the six lines: of a drill with no payment, and of one with an approved payment.
-use Rattle.std.specs.Prelude.{◌≡◌, List, [], ◌∷◌, ◌++◌, codes, false, true}
+use Rattle.std.specs.Prelude.{◌≡◌, [], ◌∷◌, codes, false, true}
 use Rattle.gw_ledger.specs.declared.totals.Tally.{Tally}
 use Rattle.pt_core.specs.declared.book.BookEntry.{BookEntry}
 use Rattle.gw_drill.specs.Counts.{counts_of, counts_text}

@@ -1,7 +1,6 @@
 -- Proof of the contract of `Counts::of`.
-use Rattle.std.proofs.Common.{◌≡◌, ◌≤◌, ◌+◌, ◌*◌, ◌++◌, ℕ, length, ap, ap₂, arith, subst, sym, ◌∙◌}
-use Rattle.pt_core.specs.declared.book.BookEntry.{BookEntry}
-use Rattle.gw_drill.specs.Counts.{IsCountable, approved_in, counts_of, units_of}
+use Rattle.std.proofs.Common.{◌≡◌, ◌+◌, ◌++◌, ℕ, length, ap, ap₂, arith, subst, sym, ◌∙◌}
+use Rattle.gw_drill.specs.Counts.{IsCountable, approved_in, units_of}
 use Rattle.gw_drill.specs.declared.counts.Counts.{Counts}
 use Rattle.gw_drill.proofs.CountLemmas.{counts-add-up, units-add-up}
 use Rattle.gw_drill.proofs.counts.Counts.of.Goals as goal
