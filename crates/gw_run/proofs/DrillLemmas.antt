@@ -1,9 +1,9 @@
 -- What a drill has counted and printed, and why it ended so.
-use Rattle.std.proofs.Common.{◌≡◌, ℕ, List, ◌++◌, refl, sym, ◌∙◌, ap, subst, inl, inr}
-use Rattle.std.specs.Prelude.{◌⊎◌, Option, Some, None}
+use Rattle.std.proofs.Common.{◌≡◌, ℕ, List, refl, ◌∙◌, ap, subst, inl, inr}
+use Rattle.std.specs.Prelude.{◌⊎◌}
 use Rattle.gw_bytes.specs.Bytes.{IsPrefix}
 use Rattle.gw_drill.specs.declared.counts.Counts.{Counts}
-use Rattle.gw_run.specs.Drill.{DrillCause, DrillPrinted, DrillPrints, HasCounted, HasDrilled, drill_text}
+use Rattle.gw_run.specs.Drill.{DrillCause, DrillPrinted, HasCounted, HasDrilled, drill_text}
 use Rattle.gw_run.specs.Drills.{CountsWritten, IsDrillEnd}
 use Rattle.gw_run.specs.LogWritten.{Adds}
 use Rattle.gw_run.specs.Replay.{IsReportedEnd, WritesTail}

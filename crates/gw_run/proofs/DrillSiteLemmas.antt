@@ -1,19 +1,16 @@
 -- What is known of the site of a drill once its last run is over.
-use Rattle.std.proofs.Common.{◌≡◌, ℕ, ◌<◌, ◌≤◌, ◌+◌, List, [], ◌∷◌, ◌++◌, arith, length, map, refl, sym, ◌∙◌, ap, subst, append-nil, inl, inr, true, false}
+use Rattle.std.proofs.Common.{◌≡◌, ℕ, ◌<◌, ◌≤◌, ◌+◌, List, [], ◌∷◌, ◌++◌, arith, length, refl, sym, ◌∙◌, ap, subst, append-nil, inl, inr, true, false}
 use Rattle.std.proofs.Math.Logic.{∥∥₁_elim}
 use Rattle.std.proofs.Props.{props}
 use Rattle.std.proofs.lemmas.List.{length-map}
 use Rattle.std.specs.Borrow.{Bor}
-use Rattle.std.specs.List.{AllByRecursion}
 use Rattle.std.specs.Option.{option_copied}
-use Rattle.std.specs.Prelude.{◌⊎◌, ◌||◌, Bool, IsTrue, is_some, Option, Some, None}
+use Rattle.std.specs.Prelude.{◌||◌, Bool, IsTrue, is_some, Option, Some, None}
 use Rattle.gw_base.specs.declared.setup.Setup.{Setup}
 use Rattle.gw_site.specs.Observed.{Observed}
-use Rattle.gw_site.specs.Steps.{Plan, PowerBack, SiteStep, TakenStep, log_of_parts, steps_of, turns_of_steps}
+use Rattle.gw_site.specs.Steps.{PowerBack, SiteStep, TakenStep, log_of_parts, steps_of, turns_of_steps}
 use Rattle.gw_site.specs.declared.turn.Turn.{Turn}
-use Rattle.gw_site.specs.declared.turn.Turn.TheVariants.{Start, OpenFailed, Stopped, DiskFailed}
-use Rattle.jrn_record.specs.Grammar.{record_body}
-use Rattle.jrn_record.specs.declared.records.Record.{Record}
+use Rattle.gw_site.specs.declared.turn.Turn.TheVariants.{Start, OpenFailed, DiskFailed}
 use Rattle.gw_ledger.specs.Sums.{tally_of}
 use Rattle.pt_core.specs.Book.{all_fit, last_trace}
 use Rattle.pt_core.specs.Exchange.{met_of}
@@ -32,11 +29,11 @@ use Rattle.gw_script.specs.site.ScriptLine.{Script, setup_of}
 use Rattle.sim_site.specs.Sites.{IsDrillPlayedTo, is_log_full, log_of, place_of, played_script, sim_observed}
 use Rattle.sim_site.specs.declared.site.SimSite.{SimSite}
 use Rattle.gw_site.specs.Sorts.{sort_of}
-use Rattle.gw_rules.specs.Acts.{Act, Unopened, moves_of, taken_of}
+use Rattle.gw_rules.specs.Acts.{Unopened, taken_of}
 use Rattle.gw_rules.specs.Lawful.{IsLawful, Stands}
 use Rattle.gw_rules.specs.Laws.{EachHasOneLeanCourse}
 use Rattle.gw_rules.specs.LedgerRules.{EachLawfulHasKept}
-use Rattle.gw_rules.specs.View.{at_first, view_from}
+use Rattle.gw_rules.specs.View.{at_first}
 use Rattle.gw_rules.proofs.ActLemmas.{turns-of-acts}
 use Rattle.gw_books.specs.PastLaws.{EachLogAgrees}
 use Rattle.gw_dispatch.specs.declared.engine.Ended.{Ended}
@@ -51,7 +48,6 @@ use Rattle.gw_run.specs.RunEnds.{ending_of}
 use Rattle.gw_run.specs.PlayedRuns.{FailsAtMost, HasPlayed, HasTallied, HasTalliedFrom, IsUnbegun, view_of}
 use Rattle.gw_run.specs.ScriptLog.{AreOpenings, HasLastTurn, is_power_failure}
 use Rattle.gw_run.specs.Top.{ShowsEnd}
-use Rattle.gw_run.specs.declared.ending.Ending.{Ending}
 use Rattle.gw_run.specs.declared.ending.Ending.TheVariants.{Played, NotOpened, Memory, Disk, LongJournal, CutJournal, BadSlot}
 use Rattle.gw_run.proofs.RunsLemmas.{done-stands, due-scripted, steps-played, with-more}
 use Rattle.gw_run.proofs.SiteRunLemmas.{site-rests}

@@ -5,13 +5,11 @@ use Rattle.gw_site.specs.Observed.{Observed}
 use Rattle.gw_site.specs.Steps.{Plan, SiteStep, Takes, log_of_parts}
 use Rattle.gw_site.specs.declared.turn.Turn.{Turn}
 use Rattle.gw_ledger.specs.Sums.{tally_of}
-use Rattle.gw_ledger.specs.declared.totals.Tally.{Tally}
 use Rattle.gw_script.specs.site.Calls.{are_scripted}
 use Rattle.gw_script.specs.site.Powers.{power_failures, power_lines}
-use Rattle.gw_script.specs.site.ScriptLine.{PlayedLine, Script}
+use Rattle.gw_script.specs.site.ScriptLine.{PlayedLine}
 use Rattle.gw_rules.specs.Acts.{Act, moves_of, taken_of}
 use Rattle.gw_rules.specs.View.{View, at_first, view_from}
-use Rattle.gw_dispatch.specs.RunEnd.{TalliedBy}
 use Rattle.gw_dispatch.specs.declared.engine.Ended.TheVariants.{Done}
 use Rattle.gw_dispatch.specs.declared.engine.TalliedEnd.{TalliedEnd}
 use Rattle.gw_run.specs.RunEnds.{ending_of}

@@ -1,17 +1,14 @@
 -- Inner: how a replay and a play end, and what they print.
-use Rattle.std.specs.Prelude.{◌≡◌, ◌⊎◌, ℕ, ◌-◌, ◌<◌, ◌≤◌, List, [], true, false, Option, Some, Result, Ok, Err, length}
+use Rattle.std.specs.Prelude.{◌≡◌, ◌⊎◌, ℕ, ◌≤◌, List, [], true, false, Option, Some, Result, Ok, Err, length}
 use Rattle.std.specs.Global.{Vec}
 use Rattle.gw_bytes.specs.Bytes.{IsPrefix}
 use Rattle.gw_site.specs.Observed.{Observed}
 use Rattle.gw_site.specs.declared.turn.Turn.{Turn}
 use Rattle.gw_script.specs.site.ScriptLine.{Script, setup_of}
-use Rattle.gw_site.specs.Steps.{Plan, Takes}
 use Rattle.gw_script.specs.site.Playing.{PlaysLines}
-use Rattle.gw_script.specs.site.Powers.{power_failures, power_lines}
 use Rattle.gw_script.specs.site.StepTurns.{site_turns}
-use Rattle.gw_rules.specs.Acts.{Act, taken_of}
 use Rattle.gw_rules.specs.Lawful.{IsLawful}
-use Rattle.gw_run.specs.ScriptLog.{AreOpenings, HasDone, IsLogOf}
+use Rattle.gw_run.specs.ScriptLog.{AreOpenings, IsLogOf}
 use Rattle.gw_script.specs.site.Decode.{script_of}
 use Rattle.gw_run.specs.Words.{AskForReplay}
 use Rattle.gw_run.specs.Top.{Stream, Cause, HasLogBefore, Printed, ShowsEnd, IsInput, IsReadBeyond, IsReadWithin, IsScriptBefore, IsWrongAt, tail_of}

@@ -3,7 +3,6 @@ use Rattle.std.proofs.Common.{◌∙◌, ap, arith}
 use Rattle.std.specs.Prelude.{is_some}
 use Rattle.gw_script.specs.site.Peers.{book_of_peer}
 use Rattle.sim_site.specs.Sites.{log_of, place_of}
-use Rattle.gw_drill.specs.DrillBooks.{drill_book}
 use Rattle.gw_run.proofs.DrillSiteLemmas.{book-countable, book-is, end-refused, few-turns, has-counted, site-books}
 use Rattle.gw_run.proofs.drill.counts_after.Goals as goal
 

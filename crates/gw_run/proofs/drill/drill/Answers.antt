@@ -1,5 +1,4 @@
 -- Proof of the contract of `drill`.
-use Rattle.std.proofs.Common.{refl}
 use Rattle.gw_run.proofs.DrillLemmas.{counts-printed, drill-cause, refused-end, refused-printed}
 use Rattle.gw_run.proofs.drill.drill.Goals as goal
 

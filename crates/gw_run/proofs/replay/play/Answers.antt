@@ -1,12 +1,8 @@
 -- Proof of the contract of `play`.
-use Rattle.std.proofs.Common.{◌≡◌, ◌<◌, ℕ, List, length, ◌∙◌, ap, sym, subst, arith}
-use Rattle.std.specs.Prelude.{Ok}
+use Rattle.std.proofs.Common.{◌<◌, length, ◌∙◌, ap, sym, subst, arith}
 use Rattle.gw_site.specs.Observed.{Observed}
-use Rattle.gw_script.specs.site.Decode.{script_of}
-use Rattle.gw_script.specs.site.ScriptLine.{setup_of}
 use Rattle.gw_script.specs.site.StepTurns.{site_turns}
 use Rattle.sim_site.specs.Sites.{PlaysOrigin, played_script, sim_observed}
-use Rattle.gw_run.specs.Replay.{IsFresh, IsPlayOf}
 use Rattle.gw_run.proofs.SiteRunLemmas.{as-ending, is-play-end, lit-unless, play-has-end, given-end, given-play}
 use Rattle.gw_run.proofs.replay.play.Goals as goal
 
