@@ -1,7 +1,7 @@
 -- What bytes and links do to the terminals that are played.
 use Rattle.std.proofs.Common.{◌≡◌, ℕ, ◌≤◌, List, [], ◌∷◌, ◌++◌, length, refl, sym, ◌∙◌, ap}
 use Rattle.std.proofs.lemmas.Option.{slice_get_past}
-use Rattle.std.specs.Prelude.{Bool, true, false, cond, not, filter, slice_get, slice_set, Option, Some, None}
+use Rattle.std.specs.Prelude.{Bool, true, false, cond, not, filter, slice_set, Some}
 use Rattle.pt_core.specs.Serving.{TerminalValue, heard_by_terminal, next_terminal}
 use Rattle.pt_core.specs.declared.terminal.Answer.{Answer}
 use Rattle.gw_script.specs.site.Peers.{Peers, coming_of, is_event_of, heard_by_peer, linked_to_peer, peers_after_bytes, peers_after_link}
@@ -42,6 +42,6 @@ filtered_values pt [] = refl
 filtered_values pt (event ∷ events) =
     by_test (not (is_event_of pt (script_event_value event))) (filter (λ other. not (is_event_of pt (script_event_value other))) events) (filter (λ other. not (is_event_of pt other)) (coming_value events)) (filtered_values pt events)
   where
-    by_test : (test : Bool) (left : List ScriptEvent) (seen : List Event) → coming_value left ≡ seen → coming_value (cond test (event ∷ left) left) ≡ cond test (script_event_value event ∷ seen) seen
-    by_test true left seen later = ap (λ these. script_event_value event ∷ these) later
-    by_test false left seen later = later
+    by_test : (test : Bool) (left : List ScriptEvent) (values : List Event) → coming_value left ≡ values → coming_value (cond test (event ∷ left) left) ≡ cond test (script_event_value event ∷ values) values
+    by_test true left values later = ap (λ these. script_event_value event ∷ these) later
+    by_test false left values later = later

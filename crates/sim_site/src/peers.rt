@@ -118,7 +118,8 @@ fn drop_coming(coming: &mut VecDeque<ScriptEvent>, pt: u16)
 
 /// The first of what is still to come that a poll can bring: those before it are lost with their links.
 fn next_coming(coming: &mut VecDeque<ScriptEvent>, connections: &Connections) -> Option<ScriptEvent>
-    ensures next { (o : Outside) → HasConnections o connections.now → IsNextComing o (coming_value coming.old.items) (coming_value coming.new.items) (event_value result) }
+    ensures next { (o : Outside) → HasConnections o connections.now
+        → IsNextComing o (coming_value coming.old.items) (coming_value coming.new.items) (event_value result) }
     ensures left { IsUsedUp (event_value result) (coming_value coming.new.items) }
 {
     while let Some(event) = coming.pop_front() {
@@ -194,7 +195,8 @@ impl Peers {
 
     /// What a poll brings of the terminals, if it brings anything of them.
     pub(crate) fn next(&mut self, connections: &Connections) -> Option<ScriptEvent>
-        ensures coming { (o : Outside) → HasConnections o connections.now → IsNextComing o (peers_value self.old).coming (peers_value self.new).coming (event_value result) }
+        ensures coming { (o : Outside) → HasConnections o connections.now
+            → IsNextComing o (peers_value self.old).coming (peers_value self.new).coming (event_value result) }
         ensures left { IsUsedUp (event_value result) (peers_value self.new).coming }
         ensures terminals { self.new.terminals ≡ self.old.terminals }
     {

@@ -232,7 +232,8 @@ impl Place {
 
     /// What a poll brings of the played terminals, if it brings anything of them.
     pub(crate) fn next(&mut self, connections: &Connections) -> Option<ScriptEvent>
-        ensures met { (o : Outside) (lines : List ScriptLine) → HasConnections o connections.now → MeetsComing o lines self.old self.new (event_value result) }
+        ensures met { (o : Outside) (lines : List ScriptLine) → HasConnections o connections.now
+            → MeetsComing o lines self.old self.new (event_value result) }
         ensures left { IsUsedUp (event_value result) (peers_value self.new.peers).coming }
         ensures power { self.new.off ≡ self.old.off }
     {

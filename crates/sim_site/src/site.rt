@@ -98,7 +98,8 @@ impl SimSite {
     /// A site that plays the drill: so many payments, drawn from this number on, and two terminals at which they are made.
     pub fn played(alloc: Global, from: u64, payments: u32) -> Result<SimSite, AllocError>
         requires { payments ≤ 10000 }
-        ensures site { IfOk result (λ site. sim_observed site ≡ record { log = Some []; faults = 0; dark = false; origin = drill_origin from payments; plan = Some (drill_turns from payments) }) }
+        ensures site { IfOk result (λ site. sim_observed site
+            ≡ record { log = Some []; faults = 0; dark = false; origin = drill_origin from payments; plan = Some (drill_turns from payments) }) }
         ensures log { IfOk result (λ site. log_of site ≡ []) }
         ensures script { IfOk result (λ site. played_script site ≡ drill_script from payments) }
         ensures place { IfOk result (λ site. place_of site ≡ drill_begins from payments) }
@@ -215,7 +216,8 @@ impl SimSite {
     /// such a log.
     pub fn log(&self) -> &Turns
         ensures log { result.now ≡ log_of self.now }
-        ensures steps { is_log_full self.now ≡ false → ∥ IsReachedWith (first_terminals self.now) (played_script self.now).lines result.now (place_of self.now) ∥₁ }
+        ensures steps { is_log_full self.now ≡ false
+            → ∥ IsReachedWith (first_terminals self.now) (played_script self.now).lines result.now (place_of self.now) ∥₁ }
         ensures part { ∥ IsReachedPart (first_terminals self.now) (played_script self.now).lines result.now ∥₁ }
         ensures plays { PlaysOrigin (sim_observed self.now).origin result.now }
         ensures calls { is_log_full self.now ≡ false → IsOriginPlayedTo (sim_observed self.now).origin result.now (place_of self.now) }
