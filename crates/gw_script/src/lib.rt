@@ -1,4 +1,4 @@
-//! The script: its grammar, and which logs play it; and the text of a log.
+//! The script: its grammar, and which logs play it; the drill; and the text of a log.
 #![tactic(auto)]
 
 ghost use Rattle.gw_script.specs.Example.{TextOfMessage, TextOfPrefix};

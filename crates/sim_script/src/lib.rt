@@ -1,4 +1,4 @@
-//! Reading the whole script: its setup lines, and the lines that are played.
+//! Reading the whole script: its setup lines, and the lines that are played. Making the script of a drill.
 #![tactic(auto)]
 
 mod drill;

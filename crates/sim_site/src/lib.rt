@@ -1,4 +1,4 @@
-//! A site in memory that plays a script: its tills and terminals, its disk, calls that fail and power failures.
+//! A site in memory that plays a script or a drill: its tills and terminals, its disk, calls that fail and power failures.
 #![tactic(auto)]
 
 mod brought;

@@ -31,7 +31,7 @@ use std::alloc::{AllocError, Global};
 use std::snapshot::Snapshot;
 
 /// A site in memory. Its events, moments, failing calls and power failures are those of a script, in the lines of
-/// `docs/FORMATS.md`.
+/// `docs/FORMATS.md`, or those of a drill, with what its terminals send.
 ///
 /// After its last line a poll brings the stop. Where memory is refused in a call of the trait the site is dark, and its
 /// log ends there.
@@ -212,8 +212,8 @@ impl SimSite {
     }
 
     /// What went in and out: the log of calls on the site, of its power failures, and of `holding` and `stop_after` where they
-    /// were called; else it plays the script of the text of which the site was made. Where it could not grow it is a prefix of
-    /// such a log.
+    /// were called; else it plays the script of the text of which the site was made, or its drill. Where it could not grow it is
+    /// a prefix of such a log.
     pub fn log(&self) -> &Turns
         ensures log { result.now ≡ log_of self.now }
         ensures steps { is_log_full self.now ≡ false
