@@ -1,0 +1,11 @@
+//! Power failures after each call of a drill, once and twice: what tills were told agrees with the terminals' books.
+#![tactic(auto)]
+
+#[cfg(test)]
+mod payments;
+#[cfg(test)]
+mod replies;
+#[cfg(test)]
+mod runs;
+#[cfg(test)]
+mod stop_tests;
