@@ -1,4 +1,4 @@
-//! Power failures after each call of a drill, once and twice: what tills were told agrees with the terminals' books.
+//! Power failures after each call of a drill, once and twice: what the tills have got agrees with the terminals' books.
 #![tactic(auto)]
 
 #[cfg(test)]

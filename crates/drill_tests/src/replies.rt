@@ -1,4 +1,4 @@
-//! What the tills of a drill were told of its payments, and whether that is true of the books.
+//! What the tills of a drill have got for its payments, and whether that is true of the books.
 use crate::payments::{Payment, entry_of, payment_of, times_booked};
 use gw_base::Condition;
 use gw_site::Turn;

@@ -1,7 +1,7 @@
 //! The power fails after each call of a drill of three payments, in each way, and again after each call of the run that comes next, in each
 //! way; then the drill is played to its end.
 //!
-//! Whatever the power leaves, each payment is booked once at most, what tills were told of it at any time is true of the books, and no payment
+//! Whatever the power leaves, each payment is booked once at most, what tills have got for it at any time is true of the books, and no payment
 //! is open at last: the records have those as approved that are booked, and no others.
 use crate::payments::{booked_in_all, booked_once};
 use crate::replies::true_replies;
