@@ -29,22 +29,22 @@ refused-printed from payments ending result added refused (inr (inr (failed, (re
 
 -- ---- how it ends
 
--- the cause of its end
-pub drill-cause : (ending : Ending) (out : Stream) → IsDrillEnd ending → (ending ≡ OutputFailed → HasRisen out) → DrillCause ending out
-drill-cause ending out (inl played) failed = rw played tt
-drill-cause ending out (inr (inl memory)) failed = rw memory tt
-drill-cause ending out (inr (inr e)) failed = rw e (failed e)
+-- the cause of its end, once it has counted this
+pub drill-cause : (from payments : ℕ) (counts : Counts) (ending : Ending) (out : Stream) → HasCounted from payments counts → IsDrillEnd ending → (ending ≡ OutputFailed → HasRisen out) → DrillCause from payments ending out
+drill-cause from payments counts ending out has (inl played) failed = rw played (counts, has)
+drill-cause from payments counts ending out has (inr (inl memory)) failed = rw memory tt
+drill-cause from payments counts ending out has (inr (inr e)) failed = rw e (failed e)
 
--- an end without memory is one of a drill
-pub refused-end : (ending result : Ending) → ending ≡ Memory → IsReportedEnd ending result → IsDrillEnd result
-refused-end ending result refused (inl same) = inr (inl (same ∙ refused))
-refused-end ending result refused (inr (inl (memory, names))) = inr (inl memory)
-refused-end ending result refused (inr (inr failed)) = inr (inr failed)
+-- the cause of an end without memory
+pub refused-cause : (from payments : ℕ) (ending result : Ending) (out : Stream) → ending ≡ Memory → IsReportedEnd ending result → (result ≡ OutputFailed → HasRisen out) → DrillCause from payments result out
+refused-cause from payments ending result out refused (inl same) failed = rw (same, refused) tt
+refused-cause from payments ending result out refused (inr (inl (memory, names))) failed = rw memory tt
+refused-cause from payments ending result out refused (inr (inr e)) failed = rw e (failed e)
 
 -- ---- what the words ask for
 
 -- the drill has ended so
-pub drill-ended : (status from payments : ℕ) (out : Stream) (ending : Ending) → status ≡ status_of ending → DrillCause ending out → Adds out.before out.after (DrillPrinted from payments ending) → HasDrilled status from payments out
+pub drill-ended : (status from payments : ℕ) (out : Stream) (ending : Ending) → status ≡ status_of ending → DrillCause from payments ending out → Adds out.before out.after (DrillPrinted from payments ending) → HasDrilled status from payments out
 drill-ended status from payments out ending s cause printed = record {
   ending = ending;
   status_is = s;
@@ -53,26 +53,26 @@ drill-ended status from payments out ending s cause printed = record {
 }
 
 -- for the numbers that the words ask for
-pub drill-ended-as : (status from payments other more : ℕ) (out : Stream) (ending : Ending) → (from ≡ other) × (payments ≡ more) → status ≡ status_of ending → DrillCause ending out → Adds out.before out.after (DrillPrinted from payments ending) → HasDrilled status other more out
+pub drill-ended-as : (status from payments other more : ℕ) (out : Stream) (ending : Ending) → (from ≡ other) × (payments ≡ more) → status ≡ status_of ending → DrillCause from payments ending out → Adds out.before out.after (DrillPrinted from payments ending) → HasDrilled status other more out
 drill-ended-as status from payments other more out ending same s cause printed =
     subst (λ n. HasDrilled status other n out) same.1 (subst (λ n. HasDrilled status n payments out) same.0 (drill-ended status from payments out ending s cause printed))
 
 -- without memory for the words
 pub memory-drilled : (status from payments : ℕ) (out : Stream) (ending : Ending) → status ≡ status_of ending → (ending ≡ OutputFailed → HasRisen out) → IsReportedEnd Memory ending → Adds out.before out.after (WritesTail Memory ending) → HasDrilled status from payments out
-memory-drilled status from payments out ending s rose which printed = drill-ended status from payments out ending s (drill-cause ending out (refused-end Memory ending refl which) rose)
+memory-drilled status from payments out ending s rose which printed = drill-ended status from payments out ending s (refused-cause from payments Memory ending out refl which rose)
     (λ written e. let y = printed written e in (y.0, refused-printed from payments Memory ending y.0 refl y.1, y.2))
 
 -- no write has failed, so that it has ended well or memory was refused
-pub drill-complete : (status : ℕ) (ending : Ending) (out : Stream) → status ≡ status_of ending → DrillCause ending out → (HasRisen out → ⊥) → (status ≡ 0) ⊎ (status ≡ 71)
-drill-complete status Played out s cause calm = inl s
-drill-complete status Memory out s cause calm = inr s
-drill-complete status OutputFailed out s cause calm = absurd (calm cause)
-drill-complete status Words out s cause calm = absurd cause
-drill-complete status Long out s cause calm = absurd cause
-drill-complete status (AtLine line) out s cause calm = absurd cause
-drill-complete status Input out s cause calm = absurd cause
-drill-complete status NotOpened out s cause calm = absurd cause
-drill-complete status Disk out s cause calm = absurd cause
-drill-complete status (LongJournal size) out s cause calm = absurd cause
-drill-complete status (CutJournal slot) out s cause calm = absurd cause
-drill-complete status (BadSlot slot) out s cause calm = absurd cause
+pub drill-complete : (status from payments : ℕ) (ending : Ending) (out : Stream) → status ≡ status_of ending → DrillCause from payments ending out → (HasRisen out → ⊥) → (status ≡ 0) ⊎ (status ≡ 71)
+drill-complete status from payments Played out s cause calm = inl s
+drill-complete status from payments Memory out s cause calm = inr s
+drill-complete status from payments OutputFailed out s cause calm = absurd (calm cause)
+drill-complete status from payments Words out s cause calm = absurd cause
+drill-complete status from payments Long out s cause calm = absurd cause
+drill-complete status from payments (AtLine line) out s cause calm = absurd cause
+drill-complete status from payments Input out s cause calm = absurd cause
+drill-complete status from payments NotOpened out s cause calm = absurd cause
+drill-complete status from payments Disk out s cause calm = absurd cause
+drill-complete status from payments (LongJournal size) out s cause calm = absurd cause
+drill-complete status from payments (CutJournal slot) out s cause calm = absurd cause
+drill-complete status from payments (BadSlot slot) out s cause calm = absurd cause

@@ -77,24 +77,24 @@ DrillPrinted from payments ending text = DrillPrints from payments ending text �
 
 -- ---- how it ends
 
--- the cause of each end: all was played, memory was refused, or a write has failed; it has no other end
-abbrev pub DrillCause : Ending → Stream → Type 0
-DrillCause Played out = Unit {0}
-DrillCause Words out = ⊥
-DrillCause Long out = ⊥
-DrillCause (AtLine line) out = ⊥
-DrillCause Input out = ⊥
-DrillCause NotOpened out = ⊥
-DrillCause Memory out = Unit {0}
-DrillCause OutputFailed out = HasRisen out
-DrillCause Disk out = ⊥
-DrillCause (LongJournal size) out = ⊥
-DrillCause (CutJournal slot) out = ⊥
-DrillCause (BadSlot slot) out = ⊥
+-- the cause of each end: all was played, and counted; memory was refused; or a write has failed. It has no other end
+abbrev pub DrillCause : ℕ → ℕ → Ending → Stream → Type 0
+DrillCause from payments Played out = (counts : Counts) × HasCounted from payments counts
+DrillCause from payments Words out = ⊥
+DrillCause from payments Long out = ⊥
+DrillCause from payments (AtLine line) out = ⊥
+DrillCause from payments Input out = ⊥
+DrillCause from payments NotOpened out = ⊥
+DrillCause from payments Memory out = Unit {0}
+DrillCause from payments OutputFailed out = HasRisen out
+DrillCause from payments Disk out = ⊥
+DrillCause from payments (LongJournal size) out = ⊥
+DrillCause from payments (CutJournal slot) out = ⊥
+DrillCause from payments (BadSlot slot) out = ⊥
 
 -- the drill with these two numbers has ended so: its status, the cause, and what was printed, where it is observed
 pub record HasDrilled (status from payments : ℕ) (out : Stream) : Type 0 where
   pub ending : Ending
   pub status_is : status ≡ status_of ending
-  pub cause : DrillCause ending out
+  pub cause : DrillCause from payments ending out
   pub output : IfBytesObserved out.before (λ written. (text : List ℕ) × (out.after ≡ Some (written ++ text)) × DrillPrinted from payments ending text)

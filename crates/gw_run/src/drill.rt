@@ -95,7 +95,7 @@ fn drill_counts(alloc: Global, from: u64, payments: u32) -> Result<Counts, Endin
 /// The mode `drill`.
 pub(crate) fn drill<O: Sink>(alloc: Global, from: u64, payments: u32, out: &mut O) -> Ending
     requires { payments ≤ 10000 }
-    ensures cause { DrillCause result (stream_observed O.written O.faults out.old out.new) }
+    ensures cause { DrillCause from payments result (stream_observed O.written O.faults out.old out.new) }
     ensures printed { Adds (O.written out.old) (O.written out.new) (DrillPrinted from payments result) }
     ensures later { O.faults out.old ≤ O.faults out.new }
 {

@@ -123,8 +123,8 @@ fn replay<I: Source, O: Sink>(alloc: Global, input: &mut I, out: &mut O) -> Endi
 /// - 76: the journal is refused (`journal long N`, `journal cut N` or `journal slot N`); that of a script never is, as all its runs have
 ///   the same slots.
 ///
-/// Of the log of the site that it has served the headline holds, of each log whose text it writes, of that of a drill, and of each prefix of these: each book
-/// of the terminals that is honest agrees with what was done and what tills were sent.
+/// Of the log of the site that it has served the headline holds, of each log whose text it writes, of that of a drill that was played to its
+/// end, and of each prefix of these: each book of the terminals that is honest agrees with what was done and what tills were sent.
 pub fn top<S: Site, I: Source, O: Sink>(
     alloc: Global,
     words: &[Text],

@@ -64,7 +64,7 @@ returns-in-Drill-clause-drilled g c = λ from payments asks. drill-ended-as c.st
     (drill-numbers c.args.words.now _ c.in-Drill.from c.in-Drill.payments from payments (order-there _ _ _ _ c.in-Ok-Some.order-is c.in-Ok-Some.field-0-is c.in-Ok-Some.ensures) c.in-Drill.is asks) c.status-in-Drill.ensures c.drill.ensures.cause c.drill.ensures.printed
 
 pub returns-in-Drill-clause-drill_complete : goal.returns-in-Drill-clause-drill_complete
-returns-in-Drill-clause-drill_complete g c = λ from payments asks calm. drill-complete c.status-in-Drill.result c.drill.result _ c.status-in-Drill.ensures c.drill.ensures.cause calm
+returns-in-Drill-clause-drill_complete g c = λ from payments asks calm. drill-complete c.status-in-Drill.result c.in-Drill.from c.in-Drill.payments c.drill.result _ c.status-in-Drill.ensures c.drill.ensures.cause calm
 
 pub returns-in-Drill-clause-served : goal.returns-in-Drill-clause-served
 returns-in-Drill-clause-served g c = λ turns asks. drill-alone c.args.words.now _ c.in-Drill.from c.in-Drill.payments turns (order-there _ _ _ _ c.in-Ok-Some.order-is c.in-Ok-Some.field-0-is c.in-Ok-Some.ensures) c.in-Drill.is asks
